@@ -1,0 +1,184 @@
+-- The executable tests, one a relation: top-like, subtyping, disjoint, value, closed, the same tree, consistent. What each answers
+-- is a theorem of proofs/. Assumes nothing.
+use Prim.Native.Nat.{ℕ, zero, suc, _+_}
+use mathlib.Core.Bool.{Bool, true, false, not, _&&_, _||_, cond}
+use lib.Dec.{eqb, ltb}
+use lib.IntN.{ℤ, ℤ-discrete}
+use native.Mathlib.Decide.{ℕ-discrete}
+use Rattle.calculus.specs.Syntax.{Ty, int, top, arrow, inter, field, size-type, Ty-discrete, Term-discrete}
+use Rattle.calculus.specs.Syntax.{Term, var, lit, unit, anno, app, lam, merge, fix, rcd, proj}
+
+unfoldable pub topLike? : Ty → Bool
+topLike? int = false
+topLike? top = true
+topLike? (arrow A B) = topLike? B
+topLike? (inter A B) = topLike? A && topLike? B
+topLike? (field l A) = topLike? A
+
+-- Subtyping, the right side split first, then the left; n bounds the two sizes.
+unfoldable pub belowWithin : ℕ → Ty → Ty → Bool
+belowWithin zero A B = false
+belowWithin (suc n) int int = true
+belowWithin (suc n) top int = false
+belowWithin (suc n) (arrow A B) int = false
+belowWithin (suc n) (inter A B) int = belowWithin n A int || belowWithin n B int
+belowWithin (suc n) (field l A) int = false
+belowWithin (suc n) A top = true
+belowWithin (suc n) int (arrow C D) = topLike? D
+belowWithin (suc n) top (arrow C D) = topLike? D
+belowWithin (suc n) (arrow A B) (arrow C D) = topLike? D || (belowWithin n C A && belowWithin n B D)
+belowWithin (suc n) (inter A B) (arrow C D) = topLike? D || (belowWithin n A (arrow C D) || belowWithin n B (arrow C D))
+belowWithin (suc n) (field l A) (arrow C D) = topLike? D
+belowWithin (suc n) A (inter C D) = belowWithin n A C && belowWithin n A D
+belowWithin (suc n) int (field k C) = topLike? C
+belowWithin (suc n) top (field k C) = topLike? C
+belowWithin (suc n) (arrow A B) (field k C) = topLike? C
+belowWithin (suc n) (inter A B) (field k C) = topLike? C || (belowWithin n A (field k C) || belowWithin n B (field k C))
+belowWithin (suc n) (field l A) (field k C) = topLike? C || (eqb l k && belowWithin n A C)
+
+unfoldable pub below? : Ty → Ty → Bool
+below? A B = belowWithin (size-type A + size-type B) A B
+
+-- A type that is neither Top nor an intersection, against another: what the two heads leave to be asked.
+unfoldable pub disjointInt : Ty → Bool
+disjointInt int = false
+disjointInt top = true
+disjointInt (arrow C D) = true
+disjointInt (inter C D) = disjointInt C && disjointInt D
+disjointInt (field k C) = true
+
+-- f asks of an output whether it is disjoint with the function's
+unfoldable pub disjointArrow : (Ty → Bool) → Ty → Bool
+disjointArrow f int = true
+disjointArrow f top = true
+disjointArrow f (arrow C D) = f D
+disjointArrow f (inter C D) = disjointArrow f C && disjointArrow f D
+disjointArrow f (field k C) = true
+
+-- f asks of a content whether it is disjoint with that of the record type of label l
+unfoldable pub disjointField : ℕ → (Ty → Bool) → Ty → Bool
+disjointField l f int = true
+disjointField l f top = true
+disjointField l f (arrow C D) = true
+disjointField l f (inter C D) = disjointField l f C && disjointField l f D
+disjointField l f (field k C) = not (eqb l k) || f C
+
+unfoldable pub disjoint? : Ty → Ty → Bool
+disjoint? int B = disjointInt B
+disjoint? top B = true
+disjoint? (arrow C D) B = disjointArrow (disjoint? D) B
+disjoint? (inter C D) B = disjoint? C B && disjoint? D B
+disjoint? (field k C) B = disjointField k (disjoint? C) B
+
+unfoldable pub value? : Term → Bool
+value? (var n) = false
+value? (lit i) = true
+value? unit = true
+value? (anno e A) = false
+value? (app e f) = false
+value? (lam e A B) = true
+value? (merge e f) = value? e && value? f
+value? (fix e A) = false
+value? (rcd l e) = value? e
+value? (proj l e) = false
+
+-- The type that a value shows by its form; of a term that is no value, Top.
+unfoldable pub typeOf : Term → Ty
+typeOf (var n) = top
+typeOf (lit i) = int
+typeOf unit = top
+typeOf (anno e A) = top
+typeOf (app e f) = top
+typeOf (lam e A B) = arrow A B
+typeOf (merge e f) = inter (typeOf e) (typeOf f)
+typeOf (fix e A) = top
+typeOf (rcd l e) = field l (typeOf e)
+typeOf (proj l e) = top
+
+-- No variable of e skips k binders or more: with k = 0, e is closed.
+unfoldable pub closed? : ℕ → Term → Bool
+closed? k (var n) = ltb n k
+closed? k (lit i) = true
+closed? k unit = true
+closed? k (anno e A) = closed? k e
+closed? k (app e f) = closed? k e && closed? k f
+closed? k (lam e A B) = closed? (suc k) e
+closed? k (merge e f) = closed? k e && closed? k f
+closed? k (fix e A) = closed? (suc k) e
+closed? k (rcd l e) = closed? k e
+closed? k (proj l e) = closed? k e
+
+unfoldable pub decided : {A : Type 0} → Dec A → Bool
+decided (yes a) = true
+decided (no f) = false
+
+-- the same tree
+unfoldable pub sameType : Ty → Ty → Bool
+sameType A B = decided (Ty-discrete ℕ-discrete A B)
+
+unfoldable pub sameTerm : Term → Term → Bool
+sameTerm e f = decided (Term-discrete ℕ-discrete ℤ-discrete (Ty-discrete ℕ-discrete) e f)
+
+-- f asked of each part of a value that is no merge: all must say yes.
+unfoldable pub eachPart : (Term → Bool) → Term → Bool
+eachPart f (var n) = f (var n)
+eachPart f (lit i) = f (lit i)
+eachPart f unit = f unit
+eachPart f (anno e A) = f (anno e A)
+eachPart f (app e g) = f (app e g)
+eachPart f (lam e A B) = f (lam e A B)
+eachPart f (merge v w) = eachPart f v && eachPart f w
+eachPart f (fix e A) = f (fix e A)
+eachPart f (rcd l e) = f (rcd l e)
+eachPart f (proj l e) = f (proj l e)
+
+-- A number, a function and a record against a value that is no merge.
+unfoldable pub consistentLit : ℤ → Term → Bool
+consistentLit i (var n) = false
+consistentLit i (lit j) = decided (ℤ-discrete i j)
+consistentLit i unit = true
+consistentLit i (anno e A) = false
+consistentLit i (app e f) = false
+consistentLit i (lam e A B) = true
+consistentLit i (merge e f) = false
+consistentLit i (fix e A) = false
+consistentLit i (rcd l e) = true
+consistentLit i (proj l e) = false
+
+unfoldable pub consistentLam : Term → Ty → Ty → Term → Bool
+consistentLam e A B (var n) = false
+consistentLam e A B (lit j) = true
+consistentLam e A B unit = true
+consistentLam e A B (anno f C) = false
+consistentLam e A B (app f g) = false
+consistentLam e A B (lam f C D) = (sameTerm e f && sameType A C) || disjoint? B D
+consistentLam e A B (merge f g) = false
+consistentLam e A B (fix f C) = false
+consistentLam e A B (rcd l f) = true
+consistentLam e A B (proj l f) = false
+
+-- f asks of a content whether it is consistent with that of the record of label l
+unfoldable pub consistentRcd : ℕ → (Term → Bool) → Term → Bool
+consistentRcd l f (var n) = false
+consistentRcd l f (lit j) = true
+consistentRcd l f unit = true
+consistentRcd l f (anno e C) = false
+consistentRcd l f (app e g) = false
+consistentRcd l f (lam e C D) = true
+consistentRcd l f (merge e g) = false
+consistentRcd l f (fix e C) = false
+consistentRcd l f (rcd k e) = not (eqb l k) || f e
+consistentRcd l f (proj k e) = false
+
+-- Of values.
+unfoldable pub consistent? : Term → Term → Bool
+consistent? (var n) w = false
+consistent? (lit i) w = eachPart (consistentLit i) w
+consistent? unit w = true
+consistent? (anno e A) w = false
+consistent? (app e f) w = false
+consistent? (lam e A B) w = eachPart (consistentLam e A B) w
+consistent? (merge v u) w = consistent? v w && consistent? u w
+consistent? (fix e A) w = false
+consistent? (rcd l v) w = eachPart (consistentRcd l (consistent? v)) w
+consistent? (proj l e) w = false

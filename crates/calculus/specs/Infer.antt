@@ -1,0 +1,71 @@
+-- Finding a type, as a function. What it finds is a theorem of proofs/: exactly what the rules derive. A refusal carries the way from
+-- the term to the part that it names, field by field: 0 for a, 1 for b of document 01's table. Assumes nothing.
+use Prim.Native.Nat.{ℕ}
+use mathlib.Core.Bool.{Bool, true, false, _&&_, _||_, cond}
+use mathlib.Core.Option.{Option, none, some}
+use mathlib.Core.List.{List, [], _∷_}
+use lib.Dec.{eqb}
+use lib.ListN.{getElem?}
+use Rattle.calculus.specs.Syntax.{Ty, int, top, arrow, inter, field}
+use Rattle.calculus.specs.Syntax.{Term, var, lit, unit, anno, app, lam, merge, fix, rcd, proj}
+use Rattle.calculus.specs.Decide.{below?, disjoint?, value?, closed?, consistent?}
+
+-- Rows 11 to 15 of document 01's table: "variable without binder", "application of something else", "field read of something else",
+-- "merge neither disjoint nor consistent", "type not below the wanted one".
+pub data Reason : Type 0 where
+  unbound not-function no-field conflict mismatch : Reason
+
+pub data Found : Type 0 where
+  found : Ty → Found
+  refused : Reason → List ℕ → Found
+
+unfoldable pub lookup : Option Ty → Found
+lookup none = refused unbound []
+lookup (some A) = found A
+
+-- The part at field f, for which r was found, is checked against A; then the whole has type B.
+unfoldable pub checked : ℕ → Found → Ty → Ty → Found
+checked f (found C) A B = cond (below? C A) (found B) (refused mismatch (f ∷ []))
+checked f (refused r p) A B = refused r (f ∷ p)
+
+-- "12 is tested before the right side is walked"
+unfoldable pub applied : Found → Found → Found
+applied (found int) r = refused not-function []
+applied (found top) r = checked 1 r top top
+applied (found (arrow A B)) r = checked 1 r A B
+applied (found (inter A B)) r = refused not-function []
+applied (found (field l A)) r = refused not-function []
+applied (refused r p) s = refused r (0 ∷ p)
+
+unfoldable pub projected : ℕ → Found → Found
+projected l (found int) = refused no-field []
+projected l (found top) = found top
+projected l (found (arrow A B)) = refused no-field []
+projected l (found (inter A B)) = refused no-field []
+projected l (found (field k A)) = cond (eqb l k) (found A) (refused no-field [])
+projected l (refused r p) = refused r (0 ∷ p)
+
+unfoldable pub labelled : ℕ → Found → Found
+labelled l (found A) = found (field l A)
+labelled l (refused r p) = refused r (0 ∷ p)
+
+-- "if the two types are disjoint, or both halves are closed values and consistent"
+unfoldable pub mergeable? : Term → Term → Ty → Ty → Bool
+mergeable? e f A B = disjoint? A B || (value? (merge e f) && closed? 0 (merge e f) && consistent? e f)
+
+unfoldable pub merged : Term → Term → Found → Found → Found
+merged e f (found A) (found B) = cond (mergeable? e f A B) (found (inter A B)) (refused conflict [])
+merged e f (found A) (refused r p) = refused r (1 ∷ p)
+merged e f (refused r p) s = refused r (0 ∷ p)
+
+unfoldable pub infer : List Ty → Term → Found
+infer Γ (var n) = lookup (getElem? Γ n)
+infer Γ (lit i) = found int
+infer Γ unit = found top
+infer Γ (anno e A) = checked 0 (infer Γ e) A A
+infer Γ (app e f) = applied (infer Γ e) (infer Γ f)
+infer Γ (lam e A B) = checked 0 (infer (A ∷ Γ) e) B (arrow A B)
+infer Γ (merge e f) = merged e f (infer Γ e) (infer Γ f)
+infer Γ (fix e A) = checked 0 (infer (A ∷ Γ) e) A A
+infer Γ (rcd l e) = labelled l (infer Γ e)
+infer Γ (proj l e) = projected l (infer Γ e)

@@ -1,0 +1,10 @@
+pub mod Syntax
+pub mod Subtyping
+pub mod Disjointness
+pub mod TypedReduction
+pub mod Consistency
+pub mod Typing
+pub mod Step
+pub mod Decide
+pub mod Infer
+pub mod Evaluate

@@ -1,0 +1,37 @@
+-- Steps: source 001, figure 8, with records; and what document 01's "Running" says of them. Assumes nothing.
+use Prim.Native.Nat.{ℕ, zero, suc}
+use Rattle.calculus.specs.Syntax.{Ty, Term, unit, anno, app, lam, merge, fix, rcd, proj, Value, IsValue, put}
+use Rattle.calculus.specs.TypedReduction.{Cast}
+
+-- Step e f: f is a successor of e.
+pub data Step : Term → Term → Type 0 where
+  -- STEP-APPL, STEP-APPR, STEP-MERGEL, STEP-MERGER: "the left of an application or merge until it is a value, then the right"
+  s-app-left : {e f g : Term} → Step e f → Step (app e g) (app f g)
+  s-app-right : {v e f : Term} {A : Ty} → Value v A → Step e f → Step (app v e) (app v f)
+  s-merge-left : {e f g : Term} → Step e f → Step (merge e g) (merge f g)
+  s-merge-right : {v e f : Term} {A : Ty} → Value v A → Step e f → Step (merge v e) (merge v f)
+  -- STEP-ANNO: "the inside of an annotation, record or field read"
+  s-anno : {e f : Term} {A : Ty} → Step e f → Step (anno e A) (anno f A)
+  s-rcd : {l : ℕ} {e f : Term} → Step e f → Step (rcd l e) (rcd l f)
+  s-proj : {l : ℕ} {e f : Term} → Step e f → Step (proj l e) (proj l f)
+  -- STEP-ANNOV: "an annotated value becomes its reading"
+  s-cast : {v x : Term} {A : Ty} → Cast v A x → Step (anno v A) x
+  -- STEP-BETA: "A function on a value becomes its body with the argument's reading put in, annotated with the output."
+  s-beta : {e v x : Term} {A B : Ty} → Cast v A x → Step (app (lam e A B) v) (anno (put 0 x e) B)
+  -- STEP-TOP: "The top value applied to a value, or with a field read, becomes the top value."
+  s-app-unit : {v : Term} {A : Ty} → Value v A → Step (app unit v) unit
+  s-proj-unit : {l : ℕ} → Step (proj l unit) unit
+  -- "A field read of a record value becomes the content."
+  s-proj-rcd : {l : ℕ} {v : Term} {A : Ty} → Value v A → Step (proj l (rcd l v)) v
+  -- STEP-FIX: "A fixpoint becomes its body with itself put in, annotated with its type."
+  s-fix : {e : Term} {A : Ty} → Step (fix e A) (anno (put 0 (fix e A) e) A)
+
+-- "A term that is no value and has no successor is stuck."
+abbrev pub Stuck : Term → Type 0
+Stuck e = (¬ IsValue e) × ((f : Term) → ¬ Step e f)
+
+-- Reaches n e f: f is a term after n steps of e. "A book's only term after no steps is its root ..; a term after one step more is
+-- any successor of one before."
+pub data Reaches : ℕ → Term → Term → Type 0 where
+  r-zero : {e : Term} → Reaches zero e e
+  r-suc : {n : ℕ} {e f g : Term} → Reaches n e f → Step f g → Reaches (suc n) e g

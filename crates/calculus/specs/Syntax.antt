@@ -1,0 +1,75 @@
+-- Types, terms and values of the disjoint merge calculus: source 001, section 4.1, with the single-field records of document 01.
+-- Variables are de Bruijn indices, labels are numbers, numbers are integers. Assumes nothing.
+use Prim.Native.Nat.{ℕ, suc, _+_}
+use mathlib.Core.Bool.{cond}
+use lib.Dec.{eqb}
+use lib.IntN.{ℤ}
+
+-- "types Int, Top", "function type", "intersection", "record type"
+pub data Ty : Type 0 where
+  int top : Ty
+  arrow : Ty → Ty → Ty
+  inter : Ty → Ty → Ty
+  field : ℕ → Ty → Ty
+  deriving Discrete as Ty-discrete
+
+-- One constructor a kind, in document 01's order: variable, number, top value, annotation, application, function (body, input,
+-- output), merge, fixpoint (body, type), record, field read.
+pub data Term : Type 0 where
+  var : ℕ → Term
+  lit : ℤ → Term
+  unit : Term
+  anno : Term → Ty → Term
+  app : Term → Term → Term
+  lam : Term → Ty → Ty → Term
+  merge : Term → Term → Term
+  fix : Term → Ty → Term
+  rcd : ℕ → Term → Term
+  proj : ℕ → Term → Term
+  deriving Discrete as Term-discrete
+
+-- "The size of a term or type is its count of cells with sharing opened, types included."
+unfoldable pub size-type : Ty → ℕ
+size-type int = 1
+size-type top = 1
+size-type (arrow A B) = 1 + size-type A + size-type B
+size-type (inter A B) = 1 + size-type A + size-type B
+size-type (field l A) = 1 + size-type A
+
+unfoldable pub size : Term → ℕ
+size (var n) = 1
+size (lit i) = 1
+size unit = 1
+size (anno e A) = 1 + size e + size-type A
+size (app e f) = 1 + size e + size f
+size (lam e A B) = 1 + size e + size-type A + size-type B
+size (merge e f) = 1 + size e + size f
+size (fix e A) = 1 + size e + size-type A
+size (rcd l e) = 1 + size e
+size (proj l e) = 1 + size e
+
+-- "Values: numbers, the top value, functions, merges of values, records of values." The second index is the type that a value
+-- shows by its form: the principal type of source 001, figure 14.
+pub data Value : Term → Ty → Type 0 where
+  v-lit : {i : ℤ} → Value (lit i) int
+  v-unit : Value unit top
+  v-lam : {e : Term} {A B : Ty} → Value (lam e A B) (arrow A B)
+  v-merge : {v w : Term} {A B : Ty} → Value v A → Value w B → Value (merge v w) (inter A B)
+  v-rcd : {l : ℕ} {v : Term} {A : Ty} → Value v A → Value (rcd l v) (field l A)
+
+abbrev pub IsValue : Term → Type 0
+IsValue e = (A : Ty) × Value e A
+
+-- e with s put in for the variable that skips k binders. Steps never go under a binder, so what is put in is closed and needs no
+-- shifting, and the variable that goes is the outermost.
+unfoldable pub put : ℕ → Term → Term → Term
+put k s (var n) = cond (eqb n k) s (var n)
+put k s (lit i) = lit i
+put k s unit = unit
+put k s (anno e A) = anno (put k s e) A
+put k s (app e f) = app (put k s e) (put k s f)
+put k s (lam e A B) = lam (put (suc k) s e) A B
+put k s (merge e f) = merge (put k s e) (put k s f)
+put k s (fix e A) = fix (put (suc k) s e) A
+put k s (rcd l e) = rcd l (put k s e)
+put k s (proj l e) = proj l (put k s e)

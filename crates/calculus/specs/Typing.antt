@@ -1,0 +1,55 @@
+-- Typing: source 001, figure 4, with document 01's records. One family finds types; checking against B is finding a type below B
+-- (TYP-SUB). It is stated over what disjoint and consistent mean: `Typed` takes the source's definitions, `TypedByList` document
+-- 01's lists. Assumes nothing.
+use Prim.Native.Nat.{ℕ, zero, suc}
+use mathlib.Core.List.{List, [], _∷_}
+use lib.IntN.{ℤ}
+use Rattle.calculus.specs.Syntax.{Ty, int, top, arrow, inter, field, Term, var, lit, unit, anno, app, lam, merge, fix, rcd, proj, Value}
+use Rattle.calculus.specs.Subtyping.{Below}
+use Rattle.calculus.specs.Disjointness.{Disjoint, DisjointByList}
+use Rattle.calculus.specs.Consistency.{Consistent, ConsistentByList}
+
+-- The n-th type of a context, 0 the innermost.
+pub data Lookup : List Ty → ℕ → Ty → Type 0 where
+  here : {Γ : List Ty} {A : Ty} → Lookup (A ∷ Γ) zero A
+  there : {Γ : List Ty} {n : ℕ} {A B : Ty} → Lookup Γ n A → Lookup (B ∷ Γ) (suc n) A
+
+-- AD-ARR, AD-TOPARR: "must be a function type, or Top, read as Top to Top"
+pub data Applies : Ty → Ty → Ty → Type 0 where
+  a-arrow : {A B : Ty} → Applies (arrow A B) A B
+  a-top : Applies top top top
+
+-- "must be a record type of exactly that label, or Top, which gives Top"
+pub data Projects : ℕ → Ty → Ty → Type 0 where
+  p-field : {l : ℕ} {A : Ty} → Projects l (field l A) A
+  p-top : {l : ℕ} → Projects l top top
+
+pub data Finds (D : Ty → Ty → Type 0) (K : Term → Term → Type 0) : List Ty → Term → Ty → Type 0 where
+  -- TYP-TOP, TYP-LIT, TYP-VAR: "top value Top; number Int; variable its binder's type"
+  t-unit : {Γ : List Ty} → Finds D K Γ unit top
+  t-lit : {Γ : List Ty} {i : ℤ} → Finds D K Γ (lit i) int
+  t-var : {Γ : List Ty} {n : ℕ} {A : Ty} → Lookup Γ n A → Finds D K Γ (var n) A
+  -- TYP-ANNO: "annotation its type, after checking"
+  t-anno : {Γ : List Ty} {e : Term} {A B : Ty} → Finds D K Γ e A → Below A B → Finds D K Γ (anno e B) B
+  -- TYP-APP: "the left's type must be a function type, or Top ..; the right is checked against the input"
+  t-app : {Γ : List Ty} {e f : Term} {A B C E : Ty} → Finds D K Γ e C → Applies C A B → Finds D K Γ f E → Below E A → Finds D K Γ (app e f) B
+  -- TYP-ABS: "function its annotated type, the body checked against the output"
+  t-lam : {Γ : List Ty} {e : Term} {A B C : Ty} → Finds D K (A ∷ Γ) e C → Below C B → Finds D K Γ (lam e A B) (arrow A B)
+  -- TYP-MERGE: "the intersection, if the two types are disjoint"
+  t-merge : {Γ : List Ty} {e f : Term} {A B : Ty} → Finds D K Γ e A → Finds D K Γ f B → D A B → Finds D K Γ (merge e f) (inter A B)
+  -- TYP-MERGEV: "or both halves are closed values and consistent"
+  t-mergev : {Γ : List Ty} {v w : Term} {A B : Ty} → Value v A → Value w B → Finds D K [] v A → Finds D K [] w B → K v w → Finds D K Γ (merge v w) (inter A B)
+  -- TYP-FIX: "fixpoint its type, the body checked against it"
+  t-fix : {Γ : List Ty} {e : Term} {A B : Ty} → Finds D K (A ∷ Γ) e B → Below B A → Finds D K Γ (fix e A) A
+  -- "record a record type"
+  t-rcd : {Γ : List Ty} {l : ℕ} {e : Term} {A : Ty} → Finds D K Γ e A → Finds D K Γ (rcd l e) (field l A)
+  -- "Field read: the term's type must be a record type of exactly that label, or Top"
+  t-proj : {Γ : List Ty} {l : ℕ} {e : Term} {A B : Ty} → Finds D K Γ e A → Projects l A B → Finds D K Γ (proj l e) B
+
+-- Γ finds A for e, with the source's definitions 3.1 and 3.2.
+abbrev pub Typed : List Ty → Term → Ty → Type 0
+Typed = Finds Disjoint Consistent
+
+-- The same with document 01's lists.
+abbrev pub TypedByList : List Ty → Term → Ty → Type 0
+TypedByList = Finds DisjointByList ConsistentByList

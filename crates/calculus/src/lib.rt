@@ -1,0 +1,1 @@
+// The calculus: definitions in specs/, theorems in proofs/. No code.
