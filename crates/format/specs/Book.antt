@@ -1,0 +1,169 @@
+-- Document 01, "Bytes of a book" and rows 2 to 10 of "Where a book is turned back": the trailer, the tests in their order, what a book
+-- opens to, and a tree laid down as a book of its own. Assumes nothing.
+use Prim.Native.Nat.{ℕ, zero, suc, _+_, _*_, _-_, _/_, _%_, _≤_, _<_}
+use mathlib.Core.Path.{_≡_}
+use mathlib.Core.Bool.{Bool, true, false, not, _&&_, _||_}
+use mathlib.Core.Option.{Option, none, some}
+use mathlib.Core.List.{List, [], _∷_, _++_}
+use lib.Dec.{eqb, ltb}
+use lib.ListN.{length}
+use Rattle.calculus.specs.Syntax.{Ty, Term}
+use Rattle.format.specs.Table.{Sort, type-sort, term-sort, Use, unused, plain, refers, Row, rowOf}
+use Rattle.format.specs.Cell.{byte, pair, Cell, cellAt}
+use Rattle.format.specs.Tree.{Tree, cells, treeAt, lay}
+use Rattle.format.specs.Terms.{fromType, fromTerm, toTerm}
+
+-- "The limit is 4,095."
+abbrev pub sizeLimit : ℕ
+sizeLimit = 4095
+
+-- Rows 2 to 10.
+pub data Fault : Type 0 where
+  bad-length bad-trailer bad-count bad-kind bad-unnamed bad-reference bad-sort bad-root bad-size : Fault
+
+-- A book of length n has n / 8 - 1 cells and then its trailer.
+abbrev pub count : List ℕ → ℕ
+count s = length s / 8 - 1
+
+abbrev pub trailerAt : List ℕ → ℕ
+trailerAt s = 8 * count s
+
+-- "bytes 4–5 the root cell"
+abbrev pub rootOf : List ℕ → ℕ
+rootOf s = pair s (trailerAt s + 4)
+
+-- 2: "below 16, above 32,768, or not a multiple of 8"
+abbrev pub lengthOk : List ℕ → Bool
+lengthOk s = not (ltb (length s) 16) && not (ltb 32768 (length s)) && eqb (length s % 8) 0
+
+-- 3: "wrong byte 0, 1, 6 or 7"
+abbrev pub trailerOk : List ℕ → Bool
+trailerOk s = eqb (byte s (trailerAt s)) 0xf0 && eqb (byte s (trailerAt s + 1)) 1 && eqb (pair s (trailerAt s + 6)) 0
+
+-- 4: "count is not one less than an eighth of the length, or root not below count"
+abbrev pub countOk : List ℕ → Bool
+countOk s = eqb (pair s (trailerAt s + 2)) (count s) && ltb (rootOf s) (count s)
+
+-- 6, 7 and 8 ask of each field by its use. "an unnamed field is not zero"
+abbrev pub unnamedOk : Use → ℕ → Bool
+unnamedOk unused x = eqb x 0
+unnamedOk plain x = true
+unnamedOk (refers s) x = true
+
+-- "a reference not lower than its cell"
+abbrev pub referenceOk : ℕ → Use → ℕ → Bool
+referenceOk i unused x = true
+referenceOk i plain x = true
+referenceOk i (refers s) x = ltb x i
+
+abbrev pub sortIs : Sort → Option Row → Bool
+sortIs s none = false
+sortIs type-sort (some r) = elim (r .sort) [ type-sort ↦ true | term-sort ↦ false ]
+sortIs term-sort (some r) = elim (r .sort) [ type-sort ↦ false | term-sort ↦ true ]
+
+abbrev pub hasSort : List ℕ → Sort → ℕ → Bool
+hasSort s t i = sortIs t (rowOf (cellAt s i .kind))
+
+-- "a type where a term belongs, or the reverse"
+abbrev pub sortOk : List ℕ → Use → ℕ → Bool
+sortOk s unused x = true
+sortOk s plain x = true
+sortOk s (refers t) x = hasSort s t x
+
+-- a question asked of every field of a cell
+abbrev pub everyField : (Use → ℕ → Bool) → Row → Cell → Bool
+everyField q r t = q (r .label) (t .label) && q (r .a) (t .a) && q (r .b) (t .b) && q (r .c) (t .c)
+
+-- the first of a list of tests that fails
+unfoldable pub firstBad : List (Bool × Fault) → Option Fault
+firstBad [] = none
+firstBad (t ∷ ts) = elim (t .0) [ true ↦ firstBad ts | false ↦ some (t .1) ]
+
+-- 5 to 8 of one cell
+unfoldable pub rowFault : List ℕ → ℕ → Cell → Option Row → Option Fault
+rowFault s i t none = some bad-kind
+rowFault s i t (some r) =
+    firstBad
+    ((everyField unnamedOk r t, bad-unnamed)
+    ∷ (everyField (referenceOk i) r t, bad-reference)
+    ∷ (everyField (sortOk s) r t, bad-sort)
+    ∷ [])
+
+unfoldable pub cellFault : List ℕ → ℕ → Option Fault
+cellFault s i = rowFault s i (cellAt s i) (rowOf (cellAt s i .kind))
+
+-- A fault and the cell that it names.
+pub record Finding : Type 0 where
+  pub fault : Fault
+  pub cell : ℕ
+
+abbrev finding : Fault → ℕ → Option Finding
+finding f i = some (record { fault = f; cell = i })
+
+-- "cells ascending, each cell completely": the first finding among n cells from i on
+unfoldable pub cellsFinding : List ℕ → ℕ → ℕ → Option Finding
+cellsFinding s zero i = none
+cellsFinding s (suc n) i = elim (cellFault s i) [ none ↦ cellsFinding s n (suc i) | some f ↦ finding f i ]
+
+-- 9: "the root is a type"; 10: "size above 4,095"
+unfoldable pub rootFinding : List ℕ → Option Finding
+rootFinding s =
+    elim (hasSort s term-sort (rootOf s))
+    [ true ↦ elim (ltb sizeLimit (cells (treeAt s (rootOf s)))) [ true ↦ finding bad-size (rootOf s) | false ↦ none ]
+    | false ↦ finding bad-root (rootOf s) ]
+
+-- Rows 2 to 8: "Rows are tested downward, cells ascending, each cell completely. .. The first finding stands."
+unfoldable pub cellsForm : List ℕ → Option Finding
+cellsForm s =
+    elim (lengthOk s)
+    [ false ↦ finding bad-length 0
+    | true ↦ elim (trailerOk s)
+      [ false ↦ finding bad-trailer 0
+      | true ↦ elim (countOk s) [ false ↦ finding bad-count 0 | true ↦ cellsFinding s (count s) 0 ]
+      ]
+    ]
+
+-- Rows 2 to 10.
+unfoldable pub formFinding : List ℕ → Option Finding
+formFinding s = elim (cellsForm s) [ none ↦ rootFinding s | some f ↦ some f ]
+
+-- As statements: no row from 2 to 8 meets the book;
+pub record WellFormedCells (s : List ℕ) : Type 0 where
+  pub long : 16 ≤ length s
+  pub short : length s ≤ 32768
+  pub whole : length s % 8 ≡ 0
+  pub mark : byte s (trailerAt s) ≡ 0xf0
+  pub version : byte s (trailerAt s + 1) ≡ 1
+  pub zeros : pair s (trailerAt s + 6) ≡ 0
+  pub counted : pair s (trailerAt s + 2) ≡ count s
+  pub rooted : rootOf s < count s
+  pub sound : (i : ℕ) → i < count s → cellFault s i ≡ none
+
+-- and no row from 2 to 10: the root is a term of at most 4,095 cells, sharing opened.
+pub record WellFormed (s : List ℕ) : Type 0 where
+  pub formed : WellFormedCells s
+  pub term : hasSort s term-sort (rootOf s) ≡ true
+  pub small : cells (treeAt s (rootOf s)) ≤ sizeLimit
+
+-- The cell at the end of a way from cell i, field by field: 0 for a, anything else for b.
+unfoldable pub follow : List ℕ → ℕ → List ℕ → ℕ
+follow s i [] = i
+follow s i (f ∷ p) = follow s (elim f [ zero ↦ cellAt s i .a | suc n ↦ cellAt s i .b ]) p
+
+-- The root of a book, sharing opened.
+unfoldable pub opened : List ℕ → Term
+opened s = toTerm (treeAt s (rootOf s))
+
+-- "Trailer: byte 0 is F0 (hex); byte 1 the version, 1; bytes 2–3 the cell count; bytes 4–5 the root cell; bytes 6–7 zero."
+unfoldable pub trailer : ℕ → ℕ → List ℕ
+trailer n r = 0xf0 ∷ 1 ∷ n % 256 ∷ n / 256 ∷ r % 256 ∷ r / 256 ∷ 0 ∷ 0 ∷ []
+
+-- "A term or type is laid down as a version 1 book of its own, trailer included"
+unfoldable pub book : Tree → List ℕ
+book t = lay 0 t ++ trailer (cells t) (cells t - 1)
+
+abbrev pub typeBook : Ty → List ℕ
+typeBook A = book (fromType A)
+
+abbrev pub termBook : Term → List ℕ
+termBook e = book (fromTerm e)

@@ -1,0 +1,5 @@
+pub mod Table
+pub mod Cell
+pub mod Tree
+pub mod Terms
+pub mod Book

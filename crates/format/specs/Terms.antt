@@ -1,0 +1,85 @@
+-- Types and terms as trees, and back: one line a row of the table of kinds. Assumes nothing.
+use Prim.Native.Nat.{ℕ, _+_, _*_, _-_, _/_, _%_, _<_}
+use mathlib.Core.List.{List, [], _∷_}
+use lib.ListN.{getD}
+use lib.IntN.{ℤ}
+use lib.Signed.{mag}
+use Rattle.calculus.specs.Syntax.{Ty, int, top, arrow, inter, field}
+use Rattle.calculus.specs.Syntax.{Term, var, lit, unit, anno, app, lam, merge, fix, rcd, proj}
+use Rattle.format.specs.Cell.{half, signed, unsigned}
+use Rattle.format.specs.Tree.{Tree, raw, node}
+
+abbrev none : Tree
+none = raw 0
+
+unfoldable pub fromType : Ty → Tree
+fromType int = node 1 0 none none none
+fromType top = node 2 0 none none none
+fromType (arrow A B) = node 3 0 (fromType A) (fromType B) none
+fromType (inter A B) = node 4 0 (fromType A) (fromType B) none
+fromType (field l A) = node 5 l (fromType A) none none
+
+unfoldable pub fromTerm : Term → Tree
+fromTerm (var n) = node 16 0 (raw n) none none
+fromTerm (lit z) = node 17 0 none (raw (unsigned half z % 65536)) (raw (unsigned half z / 65536))
+fromTerm unit = node 18 0 none none none
+fromTerm (anno e A) = node 19 0 (fromTerm e) (fromType A) none
+fromTerm (app e f) = node 20 0 (fromTerm e) (fromTerm f) none
+fromTerm (lam e A B) = node 21 0 (fromTerm e) (fromType A) (fromType B)
+fromTerm (merge e f) = node 22 0 (fromTerm e) (fromTerm f) none
+fromTerm (fix e A) = node 23 0 (fromTerm e) (fromType A) none
+fromTerm (rcd l e) = node 24 l (fromTerm e) none none
+fromTerm (proj l e) = node 25 l (fromTerm e) none none
+
+unfoldable pub plainOf : Tree → ℕ
+plainOf (raw x) = x
+plainOf (node k l a b c) = 0
+
+-- Kinds 1 to 5. Of a tree of another kind nothing is asked: the tests come first.
+unfoldable pub toType : Tree → Ty
+toType (raw x) = top
+toType (node k l a b c) =
+    let A = toType a in
+    let B = toType b in
+    getD (top ∷ int ∷ top ∷ arrow A B ∷ inter A B ∷ field l A ∷ []) k top
+
+-- Kinds 16 to 25. Of a tree of another kind nothing is asked.
+unfoldable pub toTerm : Tree → Term
+toTerm (raw x) = unit
+toTerm (node k l a b c) =
+    let e = toTerm a in
+    let f = toTerm b in
+    getD
+    (var (plainOf a)
+    ∷ lit (signed half (plainOf b + 65536 * plainOf c))
+    ∷ unit
+    ∷ anno e (toType b)
+    ∷ app e f
+    ∷ lam e (toType b) (toType c)
+    ∷ merge e f
+    ∷ fix e (toType b)
+    ∷ rcd l e
+    ∷ proj l e
+    ∷ [])
+    (k - 16)
+    unit
+
+-- Labels, indices and numbers fit their fields.
+abbrev pub TypeFits : Ty → Type 0
+TypeFits int = Unit {0}
+TypeFits top = Unit {0}
+TypeFits (arrow A B) = TypeFits A × TypeFits B
+TypeFits (inter A B) = TypeFits A × TypeFits B
+TypeFits (field l A) = (l < 256) × TypeFits A
+
+abbrev pub TermFits : Term → Type 0
+TermFits (var n) = n < 65536
+TermFits (lit z) = mag z < half
+TermFits unit = Unit {0}
+TermFits (anno e A) = TermFits e × TypeFits A
+TermFits (app e f) = TermFits e × TermFits f
+TermFits (lam e A B) = TermFits e × TypeFits A × TypeFits B
+TermFits (merge e f) = TermFits e × TermFits f
+TermFits (fix e A) = TermFits e × TypeFits A
+TermFits (rcd l e) = (l < 256) × TermFits e
+TermFits (proj l e) = (l < 256) × TermFits e

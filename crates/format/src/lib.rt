@@ -1,0 +1,1 @@
+// The format of a book: definitions in specs/, theorems in proofs/. No code.
