@@ -1,0 +1,77 @@
+-- check and run as executable definitions: from the book's bytes, the work buffer's bytes and the limit to the whole answer and every
+-- byte left. Assumes nothing.
+use Prim.Native.Nat.{ℕ, zero, suc}
+use mathlib.Core.Bool.{Bool, true, false}
+use mathlib.Core.Option.{Option, none, some}
+use mathlib.Core.List.{List, []}
+use lib.Dec.{eqb, ltb}
+use lib.ListN.{length}
+use Rattle.calculus.specs.Syntax.{Ty, size-type, Term, size}
+use Rattle.calculus.specs.Infer.{Reason, Found, found, infer}
+use Rattle.calculus.specs.Infer as Infer
+use Rattle.calculus.specs.Decide.{value?}
+use Rattle.calculus.specs.Evaluate.{next}
+use Rattle.format.specs.Book.{Fault, Finding, sizeLimit, formFinding, rootOf, follow, opened, typeBook, termBook}
+use Rattle.answers.specs.Answer.{Refusal, bad-buffer, malformed, ill-typed, Stop, value, spent, room, Answer, refused, accepted, stopped, Result, result}
+use Rattle.answers.specs.Engine.{Engine, workLength, zeros, laid}
+
+-- "all others zero the work buffer"
+unfoldable pub turnedBack : Refusal → ℕ → Result
+turnedBack r i = result (refused r i) (zeros workLength)
+
+-- What typing says of a book past row 10: g answers for the type found.
+unfoldable pub afterTyping : List ℕ → (Ty → Result) → Found → Result
+afterTyping b g (found A) = g A
+afterTyping b g (Infer.refused r p) = turnedBack (ill-typed r) (follow b (rootOf b) p)
+
+unfoldable pub afterForm : List ℕ → (Ty → Result) → Option Finding → Result
+afterForm b g none = afterTyping b g (infer [] (opened b))
+afterForm b g (some f) = turnedBack (malformed (f .fault)) (f .cell)
+
+-- Rows 1 to 15 in their order; g answers for a book that no row meets. "Refusal 1 touches nothing"
+unfoldable pub judge : List ℕ → List ℕ → (Ty → Result) → Result
+judge b w g = elim (eqb (length w) workLength) [ true ↦ afterForm b g (formFinding b) | false ↦ result (refused bad-buffer 0) w ]
+
+-- "A check lays down the type and gives its size"
+unfoldable pub shown : Ty → Result
+shown A = result (accepted (size-type A)) (laid (typeBook A))
+
+-- How a run ended: why, after how many steps, at which term.
+pub record Ended : Type 0 where
+  pub stop : Stop
+  pub steps : ℕ
+  pub term : Term
+
+abbrev ended : Stop → ℕ → Term → Ended
+ended s n e = record { stop = s; steps = n; term = e }
+
+-- "no room when the successor's size exceeds" the limit l
+unfoldable pub full? : ℕ → Option Term → Bool
+full? l none = false
+full? l (some f) = ltb l (size f)
+
+-- "value when the term is one; else spent when exactly the limit has been taken; else no room"
+unfoldable pub firstStop : Bool → Bool → Bool → Option Stop
+firstStop v s f = elim v [ true ↦ some value | false ↦ elim s [ true ↦ some spent | false ↦ elim f [ true ↦ some room | false ↦ none ] ] ]
+
+-- e after n steps, with m steps left and room for l cells. (A term with no stop has a successor: no typed term is stuck.)
+unfoldable pub evaluate : ℕ → ℕ → ℕ → Term → Ended
+evaluate l zero n e = elim (firstStop (value? e) true (full? l (next e))) [ none ↦ ended spent n e | some s ↦ ended s n e ]
+evaluate l (suc m) n e =
+    elim (firstStop (value? e) false (full? l (next e)))
+    [ none ↦ elim (next e) [ none ↦ ended spent n e | some f ↦ evaluate l m (suc n) f ]
+    | some s ↦ ended s n e ]
+
+-- "Each carries the steps taken and lays down the term reached."
+unfoldable pub told : Ended → Result
+told r = result (stopped (r .stop) (r .steps)) (laid (termBook (r .term)))
+
+unfoldable pub check : List ℕ → List ℕ → Result
+check b w = judge b w shown
+
+unfoldable pub run : List ℕ → List ℕ → ℕ → Result
+run b w l = judge b w (λ A. told (evaluate sizeLimit l 0 (opened b)))
+
+-- The engine that these two are.
+abbrev pub definition : Engine
+definition = record { check = check; run = run }

@@ -1,0 +1,4 @@
+pub mod Answer
+pub mod Engine
+pub mod Definition
+pub mod Demands
