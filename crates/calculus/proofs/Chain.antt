@@ -1,0 +1,57 @@
+-- The theorem of the calculus: a closed typed term never gets stuck, whichever half each merge is read from. Assumes nothing.
+use Prim.Native.Nat.{ℕ}
+use mathlib.Core.Path.{_≡_, refl, subst}
+use mathlib.Core.Logic.{_⊎_, inl, inr}
+use mathlib.Core.List.{[]}
+use Rattle.calculus.specs.Syntax.{Ty, Term, IsValue}
+use Rattle.calculus.specs.Subtyping.{Below}
+use Rattle.calculus.specs.Typing.{Typed}
+use Rattle.calculus.specs.Step.{Step, Reaches, r-zero, r-suc, Stuck}
+use Rattle.calculus.proofs.Runtime.{Runtime, r-refl, runtime-below, runtime-trans}
+use Rattle.calculus.proofs.Soundness.{step-typed, value-no-step, progress, step-unique}
+
+-- f is a value without successor, or no value and has exactly one
+abbrev pub Ends : Term → Type 0
+Ends f = (IsValue f × ((g : Term) → ¬ Step f g)) ⊎ ((¬ IsValue f) × ((g : Term) × Step f g × ((h : Term) → Step f h → h ≡ g)))
+
+-- what holds of each term f that e, of type A, reaches after n steps
+pub record Reached (e : Term) (A : Ty) (n : ℕ) (f : Term) : Type 0 where
+  pub only : (g : Term) → Reaches n e g → g ≡ f
+  pub ends : Ends f
+  pub typed : (B : Ty) × Typed [] f B × Below B A
+  pub not-stuck : ¬ Stuck f
+
+-- preservation along the chain
+pub reaches-typed : {n : ℕ} {e f : Term} {A : Ty} → Typed [] e A → Reaches n e f → (B : Ty) × Typed [] f B × Runtime B A
+reaches-typed t r-zero = (_, t, r-refl)
+reaches-typed t (r-suc r s) =
+    let h = reaches-typed t r in
+    let k = step-typed (h .1) s in
+    (k .0, k .1, runtime-trans (k .2) (h .2))
+
+-- the chain does not branch
+pub reaches-unique : {n : ℕ} {e f g : Term} {A : Ty} → Typed [] e A → Reaches n e f → Reaches n e g → g ≡ f
+reaches-unique t r-zero r-zero = refl
+reaches-unique t (r-suc r s) (r-suc {g} q u) =
+    step-unique (reaches-typed t r .1) (subst (λ x. Step x g) (reaches-unique t r q) u) s
+
+pub typed-ends : {f : Term} {B : Ty} → Typed [] f B → Ends f
+typed-ends {f} t = go (progress t)
+  where
+    go : IsValue f ⊎ ((g : Term) × Step f g) → Ends f
+    go (inl v) = inl (v, λ g. value-no-step (v .1))
+    go (inr s) = inr (λ v. value-no-step (v .1) (s .1), (s .0, s .1, λ h u. step-unique t u (s .1)))
+
+not-stuck : {f : Term} → Ends f → ¬ Stuck f
+not-stuck (inl v) k = k .0 (v .0)
+not-stuck (inr s) k = k .1 (s .1 .0) (s .1 .1)
+
+pub sound : {e : Term} {A : Ty} → Typed [] e A → (n : ℕ) (f : Term) → Reaches n e f → Reached e A n f
+sound t n f r =
+    let h = reaches-typed t r in
+    record {
+      only = λ g. reaches-unique t r;
+      ends = typed-ends (h .1);
+      typed = (h .0, h .1, runtime-below (h .2));
+      not-stuck = not-stuck (typed-ends (h .1));
+    }

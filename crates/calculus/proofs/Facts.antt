@@ -1,0 +1,193 @@
+-- Closed facts that show what the relations and the functions that decide them say. Each is proved from the definitions alone: no theorem
+-- of the other proofs stands between. Assumes nothing.
+use Prim.Native.Nat.{ℕ}
+use mathlib.Core.Path.{_≡_, refl, ap}
+use mathlib.Core.Logic.{_≢_, _⊎_, inl, inr}
+use mathlib.Core.Bool.{true, false}
+use mathlib.Core.Option.{some}
+use mathlib.Core.List.{[], _∷_}
+use lib.IntN.{pos, ℤ-discrete}
+use native.Mathlib.Omega.{arith}
+use native.Mathlib.Decide.{ℕ-discrete}
+use Rattle.calculus.specs.Syntax.{Ty, int, top, arrow, inter, field}
+use Rattle.calculus.specs.Syntax.{Term, var, lit, unit, anno, app, lam, merge, rcd, put, size-type, Ty-discrete, Term-discrete}
+use Rattle.calculus.specs.Syntax.{Value, v-lit, v-lam, v-merge, v-rcd}
+use Rattle.calculus.specs.Subtyping.{Below, b-int, b-top, b-left, b-right, b-arrow, b-field}
+use Rattle.calculus.specs.Disjointness.{Disjoint, h-int, h-arrow, DisjointByList}
+use Rattle.calculus.specs.Disjointness.{d-heads, d-arrow}
+use Rattle.calculus.specs.TypedReduction.{Cast, c-lit, c-top, c-arrow, c-left, c-right, c-both}
+use Rattle.calculus.specs.Consistency.{Consistent, ConsistentByList, k-disjoint}
+use Rattle.calculus.specs.Typing.{Typed, t-lit, t-anno, t-merge, t-mergev}
+use Rattle.calculus.specs.Step.{Step, s-app-left, s-app-right, s-merge-left, s-merge-right, s-anno, s-rcd, s-cast, s-beta}
+use Rattle.calculus.specs.Decide.{topLike?, belowWithin, below?, disjointInt, disjointArrow, disjoint?, value?, closed?}
+use Rattle.calculus.specs.Decide.{decided, sameType, sameTerm, eachPart, consistentLit, consistentLam, consistent?}
+use Rattle.calculus.specs.Infer.{conflict, refused, checked, mergeable?, merged, infer}
+use Rattle.calculus.specs.Evaluate.{within, orElse, mergeBoth, firstPart, castInt, castArrow, cast, apply, next}
+
+abbrev number : ℕ → Term
+number n = lit (pos n)
+
+one-not-two : number 1 ≢ number 2
+one-not-two p = let z : _≡_ {A = ℕ} 1 2 = cc in absurd (omega arith)
+
+-- a value has no successor
+stays : {v f : Term} {A : Ty} → Value v A → ¬ Step v f
+stays (v-merge v w) (s-merge-left s) = stays v s
+stays (v-merge v w) (s-merge-right u s) = stays w s
+stays (v-rcd v) (s-rcd s) = stays v s
+
+-- The library's decision of integers does not compute here, so a test of two numbers is answered by this law and not by refl.
+decided-no : {A : Type 0} (d : Dec A) → ¬ A → decided d ≡ false
+unfolding decided
+decided-no (yes a) n = absurd (n a)
+decided-no (no f) n = refl
+
+-- ---- (1,,2) : Int
+
+abbrev both : Term
+both = anno (merge (number 1) (number 2)) int
+
+-- No rule types it: two numbers are neither disjoint nor consistent.
+both-untyped : (A : Ty) → ¬ Typed [] both A
+both-untyped A (t-anno (t-merge t-lit t-lit d) b) = d int b-int b-int
+both-untyped A (t-anno (t-mergev v w s t k) b) = one-not-two (k int (number 1) (number 2) c-lit c-lit)
+
+both-refused : infer [] both ≡ refused conflict (0 ∷ [])
+unfolding infer checked merged mergeable? disjoint? disjointInt value? closed? consistent? eachPart consistentLit
+both-refused = rw (decided-no (ℤ-discrete (pos 1) (pos 2)) (λ p. one-not-two (ap lit p)))
+
+-- It has exactly two successors: either half can be read.
+both-first : Step both (number 1)
+both-first = s-cast (c-left v-lit tt c-lit)
+
+both-second : Step both (number 2)
+both-second = s-cast (c-right v-lit tt c-lit)
+
+both-only : (f : Term) → Step both f → (f ≡ number 1) ⊎ (f ≡ number 2)
+both-only f (s-cast (c-top v o t)) = absurd t
+both-only f (s-cast (c-left v o c-lit)) = inl refl
+both-only f (s-cast (c-left v o (c-top w o′ t))) = absurd t
+both-only f (s-cast (c-right v o c-lit)) = inr refl
+both-only f (s-cast (c-right v o (c-top w o′ t))) = absurd t
+both-only f (s-anno s) = absurd (stays (v-merge v-lit v-lit) s)
+
+-- The function takes the left half; the right one where the left cannot be read.
+both-next : next both ≡ some (number 1)
+unfolding next value? cast firstPart orElse castInt
+both-next = refl
+
+right-next : next (anno (merge unit (number 2)) int) ≡ some (number 2)
+unfolding next value? cast firstPart orElse castInt
+right-next = refl
+
+-- ---- Int→Int below (Int&Top)→Int, and not below Top→Int: inputs are compared the other way about.
+
+below-wider : Below (arrow int int) (arrow (inter int top) int)
+below-wider = b-arrow (b-left b-int) b-int
+
+below?-wider : below? (arrow int int) (arrow (inter int top) int) ≡ true
+unfolding below? belowWithin topLike? size-type
+below?-wider = refl
+
+not-below-top : ¬ Below (arrow int int) (arrow top int)
+not-below-top (b-top t) = t
+not-below-top (b-arrow (b-top t) d) = t
+
+below?-top : below? (arrow int int) (arrow top int) ≡ false
+unfolding below? belowWithin topLike? size-type
+below?-top = refl
+
+-- ---- Int→Int and {1:Int}→Int are not disjoint: different inputs do not make functions disjoint.
+
+not-disjoint : ¬ Disjoint (arrow int int) (arrow (field 1 int) int)
+not-disjoint d = d (arrow (inter int (field 1 int)) int) (b-arrow (b-left b-int) b-int) (b-arrow (b-right (b-field b-int)) b-int)
+
+int-not-disjoint : ¬ DisjointByList int int
+int-not-disjoint (d-heads h-int h-int n) = n refl
+
+not-disjoint-by-list : ¬ DisjointByList (arrow int int) (arrow (field 1 int) int)
+not-disjoint-by-list (d-heads h-arrow h-arrow n) = n refl
+not-disjoint-by-list (d-arrow d) = int-not-disjoint d
+
+disjoint?-functions : disjoint? (arrow int int) (arrow (field 1 int) int) ≡ false
+unfolding disjoint? disjointArrow disjointInt
+disjoint?-functions = refl
+
+-- ---- 1 under Top&Top reads as ⊤,,⊤, and as nothing else.
+
+reads-tops : Cast (number 1) (inter top top) (merge unit unit)
+reads-tops = c-both (c-top v-lit tt tt) (c-top v-lit tt tt)
+
+reads-tops-only : (x : Term) → Cast (number 1) (inter top top) x → x ≡ merge unit unit
+reads-tops-only x (c-top v o t) = absurd o
+reads-tops-only x (c-both (c-top v o t) (c-top w o′ t′)) = refl
+
+cast-tops : cast (inter top top) (number 1) ≡ some (merge unit unit)
+unfolding cast mergeBoth within
+cast-tops = refl
+
+-- ---- An argument is put in read: (λ.#0 : Int→Int) (1,,{7=5}) becomes 1 : Int, and nothing else.
+
+abbrev on-merge : Term
+on-merge = app (lam (var 0) int int) (merge (number 1) (rcd 7 (number 5)))
+
+on-merge-reads : Step on-merge (anno (number 1) int)
+unfolding put
+on-merge-reads = s-beta (c-left (v-rcd v-lit) tt c-lit)
+
+on-merge-only : (f : Term) → Step on-merge f → f ≡ anno (number 1) int
+unfolding put
+on-merge-only f (s-app-left s) = absurd (stays v-lam s)
+on-merge-only f (s-app-right v s) = absurd (stays (v-merge v-lit (v-rcd v-lit)) s)
+on-merge-only f (s-beta (c-top v o t)) = absurd t
+on-merge-only f (s-beta (c-left v o c-lit)) = refl
+on-merge-only f (s-beta (c-left v o (c-top w o′ t))) = absurd t
+on-merge-only f (s-beta (c-right v o (c-top w o′ t))) = absurd t
+
+on-merge-next : next on-merge ≡ some (anno (number 1) int)
+unfolding next value? apply within cast firstPart orElse castInt put
+on-merge-next = refl
+
+-- ---- A top-like function type is not answered with a function: λ.#0 : Int→Int, annotated Int→Top, becomes ⊤, and nothing else.
+
+abbrev to-top : Term
+to-top = anno (lam (var 0) int int) (arrow int top)
+
+to-top-unit : Step to-top unit
+to-top-unit = s-cast (c-top v-lam tt tt)
+
+to-top-only : (f : Term) → Step to-top f → f ≡ unit
+to-top-only f (s-anno s) = absurd (stays v-lam s)
+to-top-only f (s-cast (c-top v o t)) = refl
+to-top-only f (s-cast (c-arrow n b c)) = absurd (n tt)
+
+to-top-next : next to-top ≡ some unit
+unfolding next value? cast topLike? firstPart castArrow below? belowWithin size-type
+to-top-next = refl
+
+-- ---- Two functions of one input and output type with different bodies are not consistent.
+
+abbrev constant : ℕ → Term
+constant n = lam (number n) int int
+
+not-consistent : ¬ Consistent (constant 1) (constant 2)
+not-consistent k = one-not-two (body (k (arrow int int) (constant 1) (constant 2) self self))
+  where
+    self : {n : ℕ} → Cast (constant n) (arrow int int) (constant n)
+    self = c-arrow (λ t. t) b-int b-int
+
+    body : {e f : Term} → lam e int int ≡ lam f int int → e ≡ f
+    body p = cc
+
+not-consistent-by-list : ¬ ConsistentByList (constant 1) (constant 2)
+not-consistent-by-list (k-disjoint v-lam v-lam (d-heads h-arrow h-arrow n)) = n refl
+not-consistent-by-list (k-disjoint v-lam v-lam (d-arrow d)) = int-not-disjoint d
+
+consistent?-constants : consistent? (constant 1) (constant 2) ≡ false
+unfolding consistent? eachPart consistentLam disjoint? disjointArrow disjointInt sameTerm
+consistent?-constants = rw (decided-no (Term-discrete ℕ-discrete ℤ-discrete (Ty-discrete ℕ-discrete) (number 1) (number 2)) one-not-two)
+
+-- the same of the identity and a constant
+consistent?-identity : consistent? (lam (var 0) int int) (constant 1) ≡ false
+unfolding consistent? eachPart consistentLam disjoint? disjointArrow disjointInt sameTerm sameType decided ℕ-discrete
+consistent?-identity = refl

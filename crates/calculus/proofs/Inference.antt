@@ -1,0 +1,191 @@
+-- infer finds exactly the types that the rules derive. Assumes nothing.
+use Prim.Native.Nat.{ℕ, zero, suc}
+use mathlib.Core.Path.{_≡_, refl, subst}
+use mathlib.Core.Logic.{_↔_, _⊎_, inl, inr}
+use mathlib.Core.Bool.{Bool, true, false, _&&_, _||_, cond}
+use mathlib.Core.List.{List, [], _∷_}
+use lib.Dec.{T, eqb, eqb→eq, eqb-refl}
+use lib.Ieee.Bits.{is-true}
+use lib.ListN.{getElem?}
+use Rattle.calculus.specs.Syntax.{Ty, int, top, arrow, inter, field}
+use Rattle.calculus.specs.Syntax.{Term, var, lit, unit, anno, app, lam, merge, fix, rcd, proj, Value, v-merge}
+use Rattle.calculus.specs.Subtyping.{Below}
+use Rattle.calculus.specs.Disjointness.{Disjoint}
+use Rattle.calculus.specs.Consistency.{Consistent}
+use Rattle.calculus.specs.Typing.{Lookup, here, there, Applies, a-arrow, a-top, Projects, p-field, p-top}
+use Rattle.calculus.specs.Typing.{Typed, t-unit, t-lit, t-var, t-anno, t-app, t-lam, t-merge, t-mergev, t-fix, t-rcd, t-proj}
+use Rattle.calculus.specs.Decide.{below?, disjoint?, value?, closed?, consistent?}
+use Rattle.calculus.specs.Infer.{Reason, Found, found, refused, lookup, checked, applied, projected, labelled, mergeable?, merged, infer}
+use Rattle.calculus.proofs.Decisions.{below?-says, disjoint?-says}
+use Rattle.calculus.proofs.Tests.{value?-says, consistent?-says}
+use Rattle.calculus.proofs.Disjointness.{list→disjoint, disjoint→list}
+use Rattle.calculus.proofs.Consistency.{list→consistent, consistent→list}
+use Rattle.calculus.proofs.Typing.{typed-value, typed-closed, typed-weaken, typed-strengthen}
+
+-- the type found, if any, satisfies P
+data Gives (P : Ty → Type 0) : Found → Type 0 where
+  finds : {A : Ty} → P A → Gives P (found A)
+  refuses : {r : Reason} {p : List ℕ} → Gives P (refused r p)
+
+found-gives : {P : Ty → Type 0} {A : Ty} → Gives P (found A) → P A
+found-gives (finds p) = p
+
+gives-map : {P Q : Ty → Type 0} {r : Found} → ((A : Ty) → P A → Q A) → Gives P r → Gives Q r
+gives-map k (finds {A} p) = finds (k A p)
+gives-map k refuses = refuses
+
+gives-cond : {P : Ty → Type 0} (b : Bool) (A : Ty) (r : Reason) (p : List ℕ) → (T b → P A) → Gives P (cond b (found A) (refused r p))
+gives-cond true A r p k = finds (k tt)
+gives-cond false A r p k = refuses
+
+-- what each part of infer gives, from what it is given
+gives-lookup : (Γ : List Ty) (n : ℕ) → Gives (Lookup Γ n) (lookup (getElem? Γ n))
+unfolding lookup
+gives-lookup [] n = refuses
+gives-lookup (A ∷ Γ) zero = finds here
+gives-lookup (A ∷ Γ) (suc n) = gives-map (λ B. there) (gives-lookup Γ n)
+
+gives-checked : {P Q : Ty → Type 0} {r : Found} (f : ℕ) (A B : Ty) →
+    Gives P r → ((C : Ty) → P C → Below C A → Q B) → Gives Q (checked f r A B)
+unfolding checked
+gives-checked f A B (finds {A = C} p) k = gives-cond (below? C A) B _ _ (λ t. k C p (below?-says C A .0 t))
+gives-checked f A B refuses k = refuses
+
+gives-applied : {P Q R : Ty → Type 0} {r s : Found} → Gives P r → Gives Q s →
+    ((A B C E : Ty) → P C → Applies C A B → Q E → Below E A → R B) → Gives R (applied r s)
+unfolding applied
+gives-applied (finds {A = int} p) q k = refuses
+gives-applied (finds {A = top} p) q k = gives-checked 1 top top q (λ E. k top top top E p a-top)
+gives-applied (finds {A = arrow A B} p) q k = gives-checked 1 A B q (λ E. k A B (arrow A B) E p a-arrow)
+gives-applied (finds {A = inter A B} p) q k = refuses
+gives-applied (finds {A = field l A} p) q k = refuses
+gives-applied refuses q k = refuses
+
+gives-projected : {P Q : Ty → Type 0} {r : Found} (l : ℕ) →
+    Gives P r → ((A B : Ty) → P A → Projects l A B → Q B) → Gives Q (projected l r)
+unfolding projected
+gives-projected l (finds {A = int} p) k = refuses
+gives-projected l (finds {A = top} p) k = finds (k top top p p-top)
+gives-projected l (finds {A = arrow A B} p) k = refuses
+gives-projected l (finds {A = inter A B} p) k = refuses
+gives-projected l (finds {A = field m A} p) k = gives-cond (eqb l m) A _ _ (λ t. k (field m A) A p (rw (← (eqb→eq l m t)) p-field))
+gives-projected l refuses k = refuses
+
+gives-labelled : {P Q : Ty → Type 0} {r : Found} (l : ℕ) → Gives P r → ((A : Ty) → P A → Q (field l A)) → Gives Q (labelled l r)
+unfolding labelled
+gives-labelled l (finds {A} p) k = finds (k A p)
+gives-labelled l refuses k = refuses
+
+gives-merged : {P Q R : Ty → Type 0} {r s : Found} (e f : Term) → Gives P r → Gives Q s →
+    ((A B : Ty) → P A → Q B → T (mergeable? e f A B) → R (inter A B)) → Gives R (merged e f r s)
+unfolding merged
+gives-merged e f (finds {A} p) (finds {A = B} q) k = gives-cond (mergeable? e f A B) (inter A B) _ _ (k A B p q)
+gives-merged e f (finds p) refuses k = refuses
+gives-merged e f refuses q k = refuses
+
+and-says : (a b c d : Bool) → T (a && (b && c) && d) ↔ (T a × T b × T c × T d)
+and-says true true true d = (λ t. (tt, tt, tt, t), λ t. t .3)
+and-says true true false d = (λ t. absurd t, λ t. t .2)
+and-says true false c d = (λ t. absurd t, λ t. t .1)
+and-says false b c d = (λ t. absurd t, λ t. t .0)
+
+or-says : (a b : Bool) → T (a || b) ↔ (T a ⊎ T b)
+or-says true b = (inl, λ t. tt)
+or-says false b = (inr, λ t. elim t [ inl x ↦ absurd x | inr y ↦ y ])
+
+-- one of the two rules for merges applies
+abbrev Mergeable : Term → Term → Ty → Ty → Type 0
+Mergeable e f A B = Disjoint A B ⊎ (Value e A × Value f B × Typed [] e A × Typed [] f B × Consistent e f)
+
+mergeable-typed : {Γ : List Ty} {e f : Term} {A B : Ty} → Typed Γ e A → Typed Γ f B → Mergeable e f A B → Typed Γ (merge e f) (inter A B)
+mergeable-typed s t (inl d) = t-merge s t d
+mergeable-typed s t (inr h) = t-mergev (h .0) (h .1) (h .2) (h .3) (h .4)
+
+-- the test asks just that, of halves that have these types
+mergeable-says : {Γ : List Ty} {e f : Term} {A B : Ty} → Typed Γ e A → Typed Γ f B → T (mergeable? e f A B) ↔ Mergeable e f A B
+unfolding mergeable? closed?
+mergeable-says {Γ} {e} {f} {A} {B} s t = (λ m. to (or-says (disjoint? A B) values? .0 m), λ h. or-says (disjoint? A B) values? .1 (from h))
+  where
+    values? : Bool
+    values? = value? (merge e f) && (closed? 0 e && closed? 0 f) && consistent? e f
+
+    split : T values? ↔ (T (value? (merge e f)) × T (closed? 0 e) × T (closed? 0 f) × T (consistent? e f))
+    split = and-says (value? (merge e f)) (closed? 0 e) (closed? 0 f) (consistent? e f)
+
+    halves : {C : Ty} → Value (merge e f) C → T (closed? 0 e) → T (closed? 0 f) → T (consistent? e f) → Mergeable e f A B
+    halves (v-merge v w) c d k =
+        inr (
+          rw (typed-value s v) v,
+          rw (typed-value t w) w,
+          typed-strengthen [] Γ s c,
+          typed-strengthen [] Γ t d,
+          list→consistent (consistent?-says v w .0 k),
+        )
+
+    to : T (disjoint? A B) ⊎ T values? → Mergeable e f A B
+    to (inl d) = inl (list→disjoint (disjoint?-says A B .0 d))
+    to (inr h) = let p = split .0 h in halves (value?-says (merge e f) .0 (p .0) .1) (p .1) (p .2) (p .3)
+
+    from : Mergeable e f A B → T (disjoint? A B) ⊎ T values?
+    from (inl d) = inl (disjoint?-says A B .1 (disjoint→list A B d))
+    from (inr h) =
+        inr (split .1 (
+          value?-says (merge e f) .1 (inter A B, v-merge (h .0) (h .1)),
+          typed-closed (h .2),
+          typed-closed (h .3),
+          consistent?-says (h .0) (h .1) .1 (consistent→list (h .0) (h .1) (h .4)),
+        ))
+
+infer-sound : (Γ : List Ty) (e : Term) → Gives (Typed Γ e) (infer Γ e)
+unfolding infer
+infer-sound Γ (var n) = gives-map (λ A. t-var) (gives-lookup Γ n)
+infer-sound Γ (lit i) = finds t-lit
+infer-sound Γ unit = finds t-unit
+infer-sound Γ (anno e A) = gives-checked 0 A A (infer-sound Γ e) (λ C. t-anno)
+infer-sound Γ (app e f) = gives-applied (infer-sound Γ e) (infer-sound Γ f) (λ A B C E. t-app)
+infer-sound Γ (lam e A B) = gives-checked 0 B (arrow A B) (infer-sound (A ∷ Γ) e) (λ C. t-lam)
+infer-sound Γ (merge e f) = gives-merged e f (infer-sound Γ e) (infer-sound Γ f) (λ A B s t m. mergeable-typed s t (mergeable-says s t .0 m))
+infer-sound Γ (fix e A) = gives-checked 0 A A (infer-sound (A ∷ Γ) e) (λ C. t-fix)
+infer-sound Γ (rcd l e) = gives-labelled l (infer-sound Γ e) (λ A. t-rcd)
+infer-sound Γ (proj l e) = gives-projected l (infer-sound Γ e) (λ A B. t-proj)
+
+below-true : {A B : Ty} → Below A B → below? A B ≡ true
+below-true {A} {B} b = is-true (below? A B) (below?-says A B .1 b)
+
+lookup-complete : {Γ : List Ty} {n : ℕ} {A : Ty} → Lookup Γ n A → lookup (getElem? Γ n) ≡ found A
+unfolding lookup
+lookup-complete here = refl
+lookup-complete (there x) = lookup-complete x
+
+applied-complete : {A B C E : Ty} → Applies C A B → Below E A → applied (found C) (found E) ≡ found B
+unfolding applied checked
+applied-complete a-arrow b = rw (below-true b)
+applied-complete a-top b = rw (below-true b)
+
+projected-complete : {l : ℕ} {A B : Ty} → Projects l A B → projected l (found A) ≡ found B
+unfolding projected
+projected-complete (p-field {l}) = rw (is-true (eqb l l) (eqb-refl l))
+projected-complete p-top = refl
+
+infer-complete : (Γ : List Ty) (e : Term) (A : Ty) → Typed Γ e A → infer Γ e ≡ found A
+unfolding infer checked labelled merged
+infer-complete Γ (var n) A (t-var x) = lookup-complete x
+infer-complete Γ (lit i) A t-lit = refl
+infer-complete Γ unit A t-unit = refl
+infer-complete Γ (anno e B) A (t-anno {A = C} t b) = rw (infer-complete Γ e C t, below-true b)
+infer-complete Γ (app e f) A (t-app {C} {E} s a t b) = rw (infer-complete Γ e C s, infer-complete Γ f E t) (applied-complete a b)
+infer-complete Γ (lam e B C) A (t-lam {C = E} t b) = rw (infer-complete (B ∷ Γ) e E t, below-true b)
+infer-complete Γ (merge e f) A (t-merge {A = B} {B = C} s t d) =
+    rw (infer-complete Γ e B s, infer-complete Γ f C t, is-true (mergeable? e f B C) (mergeable-says s t .1 (inl d)))
+infer-complete Γ (merge e f) A (t-mergev {A = B} {B = C} v w s t k) =
+    rw (
+      infer-complete Γ e B (typed-weaken s Γ),
+      infer-complete Γ f C (typed-weaken t Γ),
+      is-true (mergeable? e f B C) (mergeable-says s t .1 (inr (v, w, s, t, k))),
+    )
+infer-complete Γ (fix e B) A (t-fix {B = C} t b) = rw (infer-complete (B ∷ Γ) e C t, below-true b)
+infer-complete Γ (rcd l e) A (t-rcd {A = B} t) = rw (infer-complete Γ e B t)
+infer-complete Γ (proj l e) A (t-proj {A = B} t p) = rw (infer-complete Γ e B t) (projected-complete p)
+
+pub infer-says : (Γ : List Ty) (e : Term) (A : Ty) → (infer Γ e ≡ found A) ↔ Typed Γ e A
+infer-says Γ e A = (λ h. found-gives (subst (Gives (Typed Γ e)) h (infer-sound Γ e)), infer-complete Γ e A)

@@ -1,0 +1,13 @@
+pub mod Subtyping
+pub mod Disjointness
+pub mod Runtime
+pub mod Decisions
+pub mod TypedReduction
+pub mod Consistency
+pub mod Tests
+pub mod Typing
+pub mod Soundness
+pub mod Chain
+pub mod Inference
+pub mod Evaluation
+pub mod Facts

@@ -1,0 +1,256 @@
+-- Typed values are read in one way; substitution and steps keep types, up to runtime subtyping; a typed term is a value or has exactly
+-- one successor: source 001, lemmas 5.5, 5.6, 5.7, 5.9, 5.10, theorems 5.1 and 5.3. Assumes nothing.
+use Prim.Native.Nat.{ℕ, _<_, _+_}
+use native.Mathlib.Omega.{arith}
+use mathlib.Core.Path.{_≡_, refl, sym, ap, subst}
+use mathlib.Core.Logic.{_⊎_, inl, inr, _≢_}
+use mathlib.Core.Bool.{Bool, true, false, cond}
+use mathlib.Core.List.{List, [], _∷_, _++_}
+use lib.Dec.{T, eqb, eqb→eq, eqb-refl}
+use lib.ListN.{length, length-append}
+use Rattle.calculus.specs.Syntax.{Ty, int, top, inter, field}
+use Rattle.calculus.specs.Syntax.{Term, var, unit, anno, app, merge, rcd, proj, put}
+use Rattle.calculus.specs.Syntax.{Value, v-lit, v-unit, v-lam, v-merge, v-rcd, IsValue}
+use Rattle.calculus.specs.Subtyping.{Below, b-top}
+use Rattle.calculus.specs.Disjointness.{Disjoint, d-top-left}
+use Rattle.calculus.specs.TypedReduction.{Cast, c-lit, c-top, c-arrow, c-rcd, c-left, c-right, c-both}
+use Rattle.calculus.specs.Consistency.{Consistent, ConsistentByList, k-lit, k-lam, k-rcd, k-left, k-right, k-disjoint}
+use Rattle.calculus.specs.Typing.{Lookup, here, there, Applies, a-arrow, a-top, Projects, p-field, p-top, Typed}
+use Rattle.calculus.specs.Typing.{t-unit, t-lit, t-var, t-anno, t-app, t-lam, t-merge, t-mergev, t-fix, t-rcd, t-proj}
+use Rattle.calculus.specs.Step.{Step, s-app-left, s-app-right, s-merge-left, s-merge-right, s-anno, s-rcd, s-proj}
+use Rattle.calculus.specs.Step.{s-cast, s-beta, s-app-unit, s-proj-unit, s-proj-rcd, s-fix}
+use Rattle.calculus.proofs.Subtyping.{below-refl, below-trans}
+use Rattle.calculus.proofs.Disjointness.{disjoint→list}
+use Rattle.calculus.proofs.Runtime.{Runtime, r-refl, r-top, r-arrow, r-inter, r-field, runtime-below, runtime-disjoint}
+use Rattle.calculus.proofs.TypedReduction.{cast-from, cast-to, below-cast, cast-trans}
+use Rattle.calculus.proofs.Consistency.{list→consistent, consistent→list, consistent-sym}
+use Rattle.calculus.proofs.Typing.{typed-value, typed-closed, typed-weaken, put-closed, lookup-within, lookup-strengthen}
+
+-- a typed value has the type that it shows
+pub value-typed : {Γ : List Ty} {v : Term} {A B : Ty} → Typed Γ v A → Value v B → Value v A
+value-typed {v} t p = subst (Value v) (sym (typed-value t p)) p
+
+-- the halves of a merge are typed
+pub typed-halves : {e f : Term} {C : Ty} → Typed [] (merge e f) C → (A : Ty) × (B : Ty) × Typed [] e A × Typed [] f B
+typed-halves (t-merge {A} {B} t u d) = (A, B, t, u)
+typed-halves (t-mergev {A} {B} v w t u k) = (A, B, t, u)
+
+-- the halves of a typed merge of values are consistent
+pub halves-consistent : {v w : Term} {A B C : Ty} → Typed [] (merge v w) C → Value v A → Value w B → ConsistentByList v w
+halves-consistent (t-merge {A} {B} t u d) v w = k-disjoint (value-typed t v) (value-typed u w) (disjoint→list A B d)
+halves-consistent (t-mergev p q t u k) v w = consistent→list v w k
+
+-- a typed value is consistent with itself, by the list
+self-by-list : {v : Term} {A B : Ty} → Typed [] v A → Value v B → ConsistentByList v v
+self-by-list t v-lit = k-lit
+self-by-list t v-unit = k-disjoint v-unit v-unit d-top-left
+self-by-list t v-lam = k-lam
+self-by-list t (v-merge v w) =
+    let h = typed-halves t in
+    let k = halves-consistent t v w in
+    let k′ = consistent→list w v (consistent-sym (list→consistent k)) in
+    k-left (k-right (self-by-list (h .2) v) k) (k-right k′ (self-by-list (h .3) w))
+self-by-list (t-rcd t) (v-rcd v) = k-rcd (self-by-list t v)
+
+-- a typed value is consistent with itself
+pub self-consistent : {v : Term} {A B : Ty} → Typed [] v A → Value v B → Consistent v v
+self-consistent t v = list→consistent (self-by-list t v)
+
+-- 5.5
+pub cast-unique : {v x y : Term} {A B : Ty} → Typed [] v B → Cast v A x → Cast v A y → x ≡ y
+cast-unique t c d = self-consistent t (cast-from c .1) _ _ _ c d
+
+-- 5.6
+pub readings-consistent : {v x y : Term} {A B C : Ty} → Typed [] v C → Cast v A x → Cast v B y → Consistent x y
+readings-consistent t c d E p q g h = cast-unique t (cast-trans c g) (cast-trans d h)
+
+-- what a runtime subtype of a function type, or of Top, is applied to and gives
+runtime-applies : {A B C C′ : Ty} → Applies C A B → Runtime C′ C
+    → (A′ : Ty) × (B′ : Ty) × Applies C′ A′ B′ × Below A A′ × Runtime B′ B
+runtime-applies {A} {B} a-arrow r-refl = (A, B, a-arrow, below-refl A, r-refl)
+runtime-applies a-arrow (r-top h) = (top, top, a-top, b-top tt, r-top h)
+runtime-applies a-arrow (r-arrow b r) = (_, _, a-arrow, b, r)
+runtime-applies a-top r-refl = (top, top, a-top, b-top tt, r-refl)
+runtime-applies a-top (r-top h) = (top, top, a-top, b-top tt, r-refl)
+
+-- the same for a field read
+runtime-projects : {l : ℕ} {A A′ B : Ty} → Projects l A B → Runtime A′ A → (B′ : Ty) × Projects l A′ B′ × Runtime B′ B
+runtime-projects p-field r-refl = (_, p-field, r-refl)
+runtime-projects p-field (r-top h) = (top, p-top, r-top h)
+runtime-projects p-field (r-field r) = (_, p-field, r)
+runtime-projects p-top r-refl = (top, p-top, r-refl)
+runtime-projects p-top (r-top h) = (top, p-top, r-refl)
+
+-- e has a runtime subtype of A
+abbrev Refines : List Ty → Term → Ty → Type 0
+Refines Γ e A = (B : Ty) × Typed Γ e B × Runtime B A
+
+exact : {Γ : List Ty} {e : Term} {A : Ty} → Typed Γ e A → Refines Γ e A
+exact {A} t = (A, t, r-refl)
+
+-- the typing rules up to runtime subtyping: the parts may refine their types
+refine-below : {A A′ B : Ty} → Runtime A′ A → Below A B → Below A′ B
+refine-below r b = below-trans (runtime-below r) b
+
+refine-anno : {Γ : List Ty} {e : Term} {A B : Ty} → Refines Γ e A → Below A B → Refines Γ (anno e B) B
+refine-anno h b = exact (t-anno (h .1) (refine-below (h .2) b))
+
+refine-app : {Γ : List Ty} {e f : Term} {A B C E : Ty} → Refines Γ e C → Applies C A B → Refines Γ f E → Below E A → Refines Γ (app e f) B
+refine-app h a k b =
+    let m = runtime-applies a (h .2) in
+    (m .1, t-app (h .1) (m .2) (k .1) (refine-below (k .2) (below-trans b (m .3))), m .4)
+
+refine-merge : {Γ : List Ty} {e f : Term} {A B : Ty} → Refines Γ e A → Refines Γ f B → Disjoint A B → Refines Γ (merge e f) (inter A B)
+refine-merge h k d = (inter (h .0) (k .0), t-merge (h .1) (k .1) (runtime-disjoint (h .2) (k .2) d), r-inter (h .2) (k .2))
+
+refine-rcd : {Γ : List Ty} {l : ℕ} {e : Term} {A : Ty} → Refines Γ e A → Refines Γ (rcd l e) (field l A)
+refine-rcd {l} h = (field l (h .0), t-rcd (h .1), r-field (h .2))
+
+refine-proj : {Γ : List Ty} {l : ℕ} {e : Term} {A B : Ty} → Refines Γ e A → Projects l A B → Refines Γ (proj l e) B
+refine-proj h p = let k = runtime-projects p (h .2) in (k .0, t-proj (h .1) (k .1), k .2)
+
+-- 5.7
+pub cast-typed : {v x : Term} {A B : Ty} → Typed [] v B → Cast v A x → (C : Ty) × Typed [] x C × Runtime C A
+cast-typed t c-lit = (int, t-lit, r-refl)
+cast-typed t (c-top v o h) = (top, t-unit, r-top h)
+cast-typed (t-lam t b) (c-arrow n h k) = (_, t-lam t (below-trans b k), r-arrow h r-refl)
+cast-typed (t-rcd t) (c-rcd n c) = refine-rcd (cast-typed t c)
+cast-typed t (c-left w o c) = cast-typed (typed-halves t .2) c
+cast-typed t (c-right v o c) = cast-typed (typed-halves t .3) c
+cast-typed t (c-both c d) =
+    let h = cast-typed t c in
+    let k = cast-typed t d in (
+      inter (h .0) (k .0),
+      t-mergev (value-typed (h .1) (cast-to c .1)) (value-typed (k .1) (cast-to d .1)) (h .1) (k .1) (readings-consistent t c d),
+      r-inter (h .2) (k .2),
+    )
+
+lookup-last : (Δ : List Ty) {n : ℕ} {A B : Ty} → Lookup (Δ ++ (B ∷ [])) n A → n ≡ length Δ → A ≡ B
+lookup-last [] here e = refl
+lookup-last [] (there l) e = absurd (omega arith)
+lookup-last (C ∷ Δ) here e = absurd (omega arith)
+lookup-last (C ∷ Δ) (there l) e = lookup-last Δ l (omega arith)
+
+-- the variable case: the variable that goes, or another
+put-var : (Δ : List Ty) {n : ℕ} {s : Term} {A B B′ : Ty} → Lookup (Δ ++ (B ∷ [])) n A → Typed [] s B′ → Runtime B′ B
+    → (b : Bool) → eqb n (length Δ) ≡ b → (A′ : Ty) × Typed Δ (cond b s (var n)) A′ × Runtime A′ A
+put-var Δ {n} {B′} l s r true e = (B′, typed-weaken s Δ, rw (lookup-last Δ l (eqb→eq n (length Δ) (rw e tt))) r)
+put-var Δ {n} {A} {B} l s r false e =
+    let other : n ≢ length Δ = λ p. let h : T (eqb n (length Δ)) = rw (← p) (eqb-refl n) in rw e at h in
+    let within : n < length Δ + 1 = rw (length-append Δ (B ∷ [])) at (lookup-within l) in
+    (A, t-var (lookup-strengthen Δ (B ∷ []) n l (omega arith)), r-refl)
+
+-- 5.10
+pub put-typed : (Δ : List Ty) {e s : Term} {A B B′ : Ty} → Typed (Δ ++ (B ∷ [])) e A → Typed [] s B′ → Runtime B′ B
+    → (A′ : Ty) × Typed Δ (put (length Δ) s e) A′ × Runtime A′ A
+unfolding put
+put-typed Δ t-unit s r = exact t-unit
+put-typed Δ t-lit s r = exact t-lit
+put-typed Δ (t-var {n} l) s r = put-var Δ l s r (eqb n (length Δ)) refl
+put-typed Δ (t-anno t b) s r = refine-anno (put-typed Δ t s r) b
+put-typed Δ (t-app t a u b) s r = refine-app (put-typed Δ t s r) a (put-typed Δ u s r) b
+put-typed Δ (t-lam {A} t b) s r = let h = put-typed (A ∷ Δ) t s r in exact (t-lam (h .1) (refine-below (h .2) b))
+put-typed Δ (t-merge t u d) s r = refine-merge (put-typed Δ t s r) (put-typed Δ u s r) d
+put-typed Δ {s = e} (t-mergev {v = x} {w = y} {A} {B} v w t u k) s r =
+    let m : Typed Δ (merge x y) (inter A B) = t-mergev v w t u k in
+    exact (subst (λ z. Typed Δ z (inter A B)) (sym (put-closed (length Δ) e (merge x y) (typed-closed m))) m)
+put-typed Δ (t-fix {A} t b) s r = let h = put-typed (A ∷ Δ) t s r in exact (t-fix (h .1) (refine-below (h .2) b))
+put-typed Δ (t-rcd t) s r = refine-rcd (put-typed Δ t s r)
+put-typed Δ (t-proj t p) s r = refine-proj (put-typed Δ t s r) p
+
+pub value-no-step : {v f : Term} {A : Ty} → Value v A → ¬ Step v f
+value-no-step (v-merge v w) (s-merge-left s) = value-no-step v s
+value-no-step (v-merge v w) (s-merge-right p s) = value-no-step w s
+value-no-step (v-rcd v) (s-rcd s) = value-no-step v s
+
+-- 5.9
+pub step-typed : {e f : Term} {A : Ty} → Typed [] e A → Step e f → (B : Ty) × Typed [] f B × Runtime B A
+step-typed (t-app t a u b) (s-app-left s) = refine-app (step-typed t s) a (exact u) b
+step-typed (t-app t a u b) (s-app-right v s) = refine-app (exact t) a (step-typed u s) b
+step-typed (t-merge t u d) (s-merge-left s) = refine-merge (step-typed t s) (exact u) d
+step-typed (t-mergev v w t u k) (s-merge-left s) = absurd (value-no-step v s)
+step-typed (t-merge t u d) (s-merge-right p s) = refine-merge (exact t) (step-typed u s) d
+step-typed (t-mergev v w t u k) (s-merge-right p s) = absurd (value-no-step w s)
+step-typed (t-anno t b) (s-anno s) = refine-anno (step-typed t s) b
+step-typed (t-rcd t) (s-rcd s) = refine-rcd (step-typed t s)
+step-typed (t-proj t p) (s-proj s) = refine-proj (step-typed t s) p
+step-typed (t-anno t b) (s-cast c) = cast-typed t c
+step-typed (t-app (t-lam t b) a-arrow u d) (s-beta c) = let h = cast-typed u c in refine-anno (put-typed [] t (h .1) (h .2)) b
+step-typed (t-app t-unit a-top u b) (s-app-unit v) = exact t-unit
+step-typed (t-proj t-unit p-top) s-proj-unit = exact t-unit
+step-typed (t-proj (t-rcd t) p-field) (s-proj-rcd v) = exact t
+step-typed (t-fix t b) s-fix = refine-anno (put-typed [] t (t-fix t b) r-refl) b
+
+-- e has a successor
+abbrev Steps : Term → Type 0
+Steps e = (f : Term) × Step e f
+
+-- a value applied to a value, or with a field read, steps
+applies-step : {v w : Term} {A B C E : Ty} → Applies C A B → Value v C → Value w E → Below E A → Steps (app v w)
+applies-step a-arrow v-lam w b = (_, s-beta (below-cast w b .1))
+applies-step a-top v-unit w b = (unit, s-app-unit w)
+
+projects-step : {l : ℕ} {v : Term} {A B : Ty} → Projects l A B → Value v A → Steps (proj l v)
+projects-step p-field (v-rcd v) = (_, s-proj-rcd v)
+projects-step p-top v-unit = (unit, s-proj-unit)
+
+-- a term g with a part e that is evaluated first: what if e is a value, and what if it steps
+progress-part : {e g : Term} → IsValue e ⊎ Steps e → (IsValue e → IsValue g ⊎ Steps g) → ((f : Term) → Step e f → Steps g) → IsValue g ⊎ Steps g
+progress-part (inl v) k h = k v
+progress-part (inr s) k h = inr (h (s .0) (s .1))
+
+-- the same with two parts, in their order
+progress-parts : {d e g : Term} → IsValue d ⊎ Steps d → IsValue e ⊎ Steps e → (IsValue d → IsValue e → IsValue g ⊎ Steps g)
+    → ((f : Term) → Step d f → Steps g) → (IsValue d → (f : Term) → Step e f → Steps g) → IsValue g ⊎ Steps g
+progress-parts p q k left right = progress-part p (λ v. progress-part q (k v) (right v)) left
+
+-- 5.3
+pub progress : {e : Term} {A : Ty} → Typed [] e A → IsValue e ⊎ ((f : Term) × Step e f)
+progress t-unit = inl (top, v-unit)
+progress t-lit = inl (int, v-lit)
+progress (t-anno t b) =
+    progress-part (progress t) (λ v. let c = below-cast (value-typed t (v .1)) b in inr (c .0, s-cast (c .1))) (λ f s. (_, s-anno s))
+progress (t-app t a u b) = progress-parts (progress t) (progress u)
+    (λ v w. inr (applies-step a (value-typed t (v .1)) (value-typed u (w .1)) b))
+    (λ f s. (_, s-app-left s)) (λ v f s. (_, s-app-right (v .1) s))
+progress (t-lam t b) = inl (_, v-lam)
+progress (t-merge t u d) = progress-parts (progress t) (progress u)
+    (λ v w. inl (_, v-merge (v .1) (w .1))) (λ f s. (_, s-merge-left s)) (λ v f s. (_, s-merge-right (v .1) s))
+progress (t-mergev v w t u k) = inl (_, v-merge v w)
+progress (t-fix t b) = inr (_, s-fix)
+progress (t-rcd t) = progress-part (progress t) (λ v. inl (_, v-rcd (v .1))) (λ f s. (_, s-rcd s))
+progress (t-proj t p) = progress-part (progress t) (λ v. inr (projects-step p (value-typed t (v .1)))) (λ f s. (_, s-proj s))
+
+-- 5.1, with both halves of every merge open
+pub step-unique : {e f g : Term} {A : Ty} → Typed [] e A → Step e f → Step e g → f ≡ g
+step-unique (t-app t a u b) (s-app-left {g} s) (s-app-left s′) = ap (λ x. app x g) (step-unique t s s′)
+step-unique (t-app t a u b) (s-app-left s) (s-app-right v s′) = absurd (value-no-step v s)
+step-unique (t-app t a u b) (s-app-left s) (s-beta c) = absurd (value-no-step v-lam s)
+step-unique (t-app t a u b) (s-app-left s) (s-app-unit v) = absurd (value-no-step v-unit s)
+step-unique (t-app t a u b) (s-app-right v s) (s-app-left s′) = absurd (value-no-step v s′)
+step-unique (t-app t a u b) (s-app-right {v = x} v s) (s-app-right w s′) = ap (app x) (step-unique u s s′)
+step-unique (t-app t a u b) (s-app-right v s) (s-beta c) = absurd (value-no-step (cast-from c .1) s)
+step-unique (t-app t a u b) (s-app-right v s) (s-app-unit w) = absurd (value-no-step w s)
+step-unique (t-app t a u b) (s-beta c) (s-app-left s) = absurd (value-no-step v-lam s)
+step-unique (t-app t a u b) (s-beta c) (s-app-right v s) = absurd (value-no-step (cast-from c .1) s)
+step-unique (t-app t a u b) (s-beta {e} {B} c) (s-beta d) = ap (λ x. anno (put 0 x e) B) (cast-unique u c d)
+step-unique (t-app t a u b) (s-app-unit w) (s-app-left s) = absurd (value-no-step v-unit s)
+step-unique (t-app t a u b) (s-app-unit w) (s-app-right v s) = absurd (value-no-step w s)
+step-unique (t-app t a u b) (s-app-unit w) (s-app-unit w′) = refl
+step-unique t (s-merge-left {g} s) (s-merge-left s′) = ap (λ x. merge x g) (step-unique (typed-halves t .2) s s′)
+step-unique t (s-merge-left s) (s-merge-right v s′) = absurd (value-no-step v s)
+step-unique t (s-merge-right v s) (s-merge-left s′) = absurd (value-no-step v s′)
+step-unique t (s-merge-right {v = x} v s) (s-merge-right w s′) = ap (merge x) (step-unique (typed-halves t .3) s s′)
+step-unique (t-anno t b) (s-anno {A} s) (s-anno s′) = ap (λ x. anno x A) (step-unique t s s′)
+step-unique (t-anno t b) (s-anno s) (s-cast c) = absurd (value-no-step (cast-from c .1) s)
+step-unique (t-anno t b) (s-cast c) (s-anno s) = absurd (value-no-step (cast-from c .1) s)
+step-unique (t-anno t b) (s-cast c) (s-cast d) = cast-unique t c d
+step-unique (t-rcd {l} t) (s-rcd s) (s-rcd s′) = ap (rcd l) (step-unique t s s′)
+step-unique (t-proj {l} t p) (s-proj s) (s-proj s′) = ap (proj l) (step-unique t s s′)
+step-unique (t-proj t p) (s-proj s) s-proj-unit = absurd (value-no-step v-unit s)
+step-unique (t-proj t p) (s-proj s) (s-proj-rcd v) = absurd (value-no-step (v-rcd v) s)
+step-unique (t-proj t p) s-proj-unit (s-proj s) = absurd (value-no-step v-unit s)
+step-unique (t-proj t p) s-proj-unit s-proj-unit = refl
+step-unique (t-proj t p) (s-proj-rcd v) (s-proj s) = absurd (value-no-step (v-rcd v) s)
+step-unique (t-proj t p) (s-proj-rcd v) (s-proj-rcd w) = refl
+step-unique t s-fix s-fix = refl
