@@ -5,13 +5,13 @@ use mathlib.Core.Path.{_≡_, refl, sym, ap, ap₂, subst₂}
 use mathlib.Core.Logic.{_↔_, _⊎_, inl, inr, by-cases}
 use mathlib.Core.Bool.{Bool, true, false, not, _&&_, _||_}
 use lib.Dec.{T, eqb, eqb→eq, eqb-refl}
-use lib.IntN.{ℤ, ℤ-discrete}
+use lib.IntN.{ℤ}
 use native.Mathlib.Decide.{ℕ-discrete}
 use Rattle.calculus.specs.Syntax.{Ty, int, arrow, inter, field, Term, lit, lam, merge, rcd}
 use Rattle.calculus.specs.Syntax.{Value, v-lit, v-unit, v-lam, v-merge, v-rcd, Ty-discrete, Term-discrete}
 use Rattle.calculus.specs.Subtyping.{TopLike, Below, b-left, b-right}
 use Rattle.calculus.specs.Disjointness.{d-arrow, d-labels}
-use Rattle.calculus.specs.Decide.{decided, sameTerm, sameType, eachPart, consistentLit, consistentLam, consistentRcd, consistent?}
+use Rattle.calculus.specs.Decide.{decided, sameInteger, sameTerm, sameType, eachPart, consistentLit, consistentLam, consistentRcd, consistent?}
 use Rattle.calculus.specs.Decide.{disjoint?, disjointInt, disjointArrow, disjointField}
 use Rattle.calculus.specs.TypedReduction.{Cast, c-lit, c-arrow, c-rcd}
 use Rattle.calculus.specs.Consistency.{Consistent, ConsistentByList, k-lit, k-lam, k-rcd, k-left, k-right, k-disjoint}
@@ -40,7 +40,7 @@ eqb-says m n = (eqb→eq m n, λ e. rw e (eqb-refl n))
 
 pub sameTerm-says : (e f : Term) → T (sameTerm e f) ↔ (e ≡ f)
 unfolding sameTerm
-sameTerm-says e f = decided-says (Term-discrete ℕ-discrete ℤ-discrete (Ty-discrete ℕ-discrete) e f)
+sameTerm-says e f = decided-says (Term-discrete ℕ-discrete sameInteger (Ty-discrete ℕ-discrete) e f)
 
 pub sameType-says : (A B : Ty) → T (sameType A B) ↔ (A ≡ B)
 unfolding sameType
@@ -117,7 +117,7 @@ two-lits {i} {j} (no n) = record { passes = λ k. let q : lit i ≡ lit j = k in
 
 between-lit : {i : ℤ} {w : Term} {B : Ty} → Value w B → Between (eachPart (consistentLit i) w) (lit i) w
 unfolding eachPart consistentLit disjoint? disjointInt
-between-lit {i} (v-lit {i = j}) = two-lits (ℤ-discrete i j)
+between-lit {i} (v-lit {i = j}) = two-lits (sameInteger i j)
 between-lit v-unit = apart v-lit v-unit tt
 between-lit v-lam = apart v-lit v-lam tt
 between-lit (v-merge v w) = between-right v w (between-lit v) (between-lit w)

@@ -6,7 +6,7 @@ use mathlib.Core.Logic.{_≢_, _⊎_, inl, inr}
 use mathlib.Core.Bool.{true, false}
 use mathlib.Core.Option.{some}
 use mathlib.Core.List.{[], _∷_}
-use lib.IntN.{pos, ℤ-discrete}
+use lib.IntN.{pos}
 use native.Mathlib.Omega.{arith}
 use native.Mathlib.Decide.{ℕ-discrete}
 use Rattle.calculus.specs.Syntax.{Ty, int, top, arrow, inter, field}
@@ -20,7 +20,7 @@ use Rattle.calculus.specs.Consistency.{Consistent, ConsistentByList, k-d
 use Rattle.calculus.specs.Typing.{Typed, t-lit, t-anno, t-merge, t-mergev}
 use Rattle.calculus.specs.Step.{Step, s-app-left, s-app-right, s-merge-left, s-merge-right, s-anno, s-rcd, s-cast, s-beta}
 use Rattle.calculus.specs.Decide.{topLike?, belowWithin, below?, disjointInt, disjointArrow, disjoint?, value?, closed?}
-use Rattle.calculus.specs.Decide.{decided, sameType, sameTerm, eachPart, consistentLit, consistentLam, consistent?}
+use Rattle.calculus.specs.Decide.{decided, sameUnder, sameInteger, sameType, sameTerm, eachPart, consistentLit, consistentLam, consistent?}
 use Rattle.calculus.specs.Infer.{conflict, refused, checked, mergeable?, merged, infer}
 use Rattle.calculus.specs.Evaluate.{within, orElse, mergeBoth, firstPart, castInt, castArrow, cast, apply, next}
 
@@ -36,12 +36,6 @@ stays (v-merge v w) (s-merge-left s) = stays v s
 stays (v-merge v w) (s-merge-right u s) = stays w s
 stays (v-rcd v) (s-rcd s) = stays v s
 
--- The library's decision of integers does not compute here, so a test of two numbers is answered by this law and not by refl.
-decided-no : {A : Type 0} (d : Dec A) → ¬ A → decided d ≡ false
-unfolding decided
-decided-no (yes a) n = absurd (n a)
-decided-no (no f) n = refl
-
 -- ---- (1,,2) : Int
 
 abbrev both : Term
@@ -53,8 +47,8 @@ both-untyped A (t-anno (t-merge t-lit t-lit d) b) = d int b-int b-int
 both-untyped A (t-anno (t-mergev v w s t k) b) = one-not-two (k int (number 1) (number 2) c-lit c-lit)
 
 both-refused : infer [] both ≡ refused conflict (0 ∷ [])
-unfolding infer checked merged mergeable? disjoint? disjointInt value? closed? consistent? eachPart consistentLit
-both-refused = rw (decided-no (ℤ-discrete (pos 1) (pos 2)) (λ p. one-not-two (ap lit p)))
+unfolding infer checked merged mergeable? disjoint? disjointInt value? closed? consistent? eachPart consistentLit decided sameInteger sameUnder ℕ-discrete
+both-refused = refl
 
 -- It has exactly two successors: either half can be read.
 both-first : Step both (number 1)
@@ -184,8 +178,8 @@ not-consistent-by-list (k-disjoint v-lam v-lam (d-heads h-arrow h-arrow n)) = n 
 not-consistent-by-list (k-disjoint v-lam v-lam (d-arrow d)) = int-not-disjoint d
 
 consistent?-constants : consistent? (constant 1) (constant 2) ≡ false
-unfolding consistent? eachPart consistentLam disjoint? disjointArrow disjointInt sameTerm
-consistent?-constants = rw (decided-no (Term-discrete ℕ-discrete ℤ-discrete (Ty-discrete ℕ-discrete) (number 1) (number 2)) one-not-two)
+unfolding consistent? eachPart consistentLam disjoint? disjointArrow disjointInt sameTerm decided sameInteger sameUnder ℕ-discrete
+consistent?-constants = refl
 
 -- the same of the identity and a constant
 consistent?-identity : consistent? (lam (var 0) int int) (constant 1) ≡ false

@@ -1,9 +1,10 @@
 -- The executable tests, one a relation: top-like, subtyping, disjoint, value, closed, the same tree, consistent. What each answers
 -- is a theorem of proofs/. Assumes nothing.
 use Prim.Native.Nat.{ℕ, zero, suc, _+_}
+use mathlib.Core.Path.{_≡_, sym, ap}
 use mathlib.Core.Bool.{Bool, true, false, not, _&&_, _||_, cond}
 use lib.Dec.{eqb, ltb}
-use lib.IntN.{ℤ, ℤ-discrete}
+use lib.IntN.{ℤ, pos, negsuc, pos-ne-negsuc}
 use native.Mathlib.Decide.{ℕ-discrete}
 use Rattle.calculus.specs.Syntax.{Ty, int, top, arrow, inter, field, size-type, Ty-discrete, Term-discrete}
 use Rattle.calculus.specs.Syntax.{Term, var, lit, unit, anno, app, lam, merge, fix, rcd, proj}
@@ -108,6 +109,23 @@ closed? k (fix e A) = closed? (suc k) e
 closed? k (rcd l e) = closed? k e
 closed? k (proj l e) = closed? k e
 
+-- Whether two integers are the same, decided in a way that computes.
+pub pos-injective : (m n : ℕ) → pos m ≡ pos n → m ≡ n
+pos-injective m n p = cc
+
+pub negsuc-injective : (m n : ℕ) → negsuc m ≡ negsuc n → m ≡ n
+negsuc-injective m n p = cc
+
+unfoldable pub sameUnder : (f : ℕ → ℤ) → ((m n : ℕ) → f m ≡ f n → m ≡ n) → (m n : ℕ) → Dec (m ≡ n) → Dec (f m ≡ f n)
+sameUnder f inj m n (yes p) = yes (ap f p)
+sameUnder f inj m n (no u) = no (λ q. u (inj m n q))
+
+unfoldable pub sameInteger : Discrete ℤ
+sameInteger (pos m) (pos n) = sameUnder pos pos-injective m n (ℕ-discrete m n)
+sameInteger (pos m) (negsuc n) = no (pos-ne-negsuc m n)
+sameInteger (negsuc m) (pos n) = no (λ p. pos-ne-negsuc n m (sym p))
+sameInteger (negsuc m) (negsuc n) = sameUnder negsuc negsuc-injective m n (ℕ-discrete m n)
+
 unfoldable pub decided : {A : Type 0} → Dec A → Bool
 decided (yes a) = true
 decided (no f) = false
@@ -117,7 +135,7 @@ unfoldable pub sameType : Ty → Ty → Bool
 sameType A B = decided (Ty-discrete ℕ-discrete A B)
 
 unfoldable pub sameTerm : Term → Term → Bool
-sameTerm e f = decided (Term-discrete ℕ-discrete ℤ-discrete (Ty-discrete ℕ-discrete) e f)
+sameTerm e f = decided (Term-discrete ℕ-discrete sameInteger (Ty-discrete ℕ-discrete) e f)
 
 -- f asked of each part of a value that is no merge: all must say yes.
 unfoldable pub eachPart : (Term → Bool) → Term → Bool
@@ -135,7 +153,7 @@ eachPart f (proj l e) = f (proj l e)
 -- A number, a function and a record against a value that is no merge.
 unfoldable pub consistentLit : ℤ → Term → Bool
 consistentLit i (var n) = false
-consistentLit i (lit j) = decided (ℤ-discrete i j)
+consistentLit i (lit j) = decided (sameInteger i j)
 consistentLit i unit = true
 consistentLit i (anno e A) = false
 consistentLit i (app e f) = false

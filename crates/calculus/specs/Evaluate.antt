@@ -111,9 +111,10 @@ next (lit i) = none
 next unit = none
 next (anno e A) = elim (value? e) [ true ↦ cast A e | false ↦ within (λ x. anno x A) (next e) ]
 next (app e f) =
-    elim (value? e)
-    [ true ↦ elim (value? f) [ true ↦ apply e f | false ↦ within (app e) (next f) ]
-    | false ↦ within (λ x. app x f) (next e) ]
+    elim (value? e) [
+      | true ↦ elim (value? f) [ true ↦ apply e f | false ↦ within (app e) (next f) ]
+      | false ↦ within (λ x. app x f) (next e)
+    ]
 next (lam e A B) = none
 next (merge e f) = elim (value? e) [ true ↦ within (merge e) (next f) | false ↦ within (λ x. merge x f) (next e) ]
 next (fix e A) = some (anno (put 0 (fix e A) e) A)

@@ -108,18 +108,19 @@ cellsFinding s (suc n) i = elim (cellFault s i) [ none ↦ cellsFinding s n (suc
 -- 9: "the root is a type"; 10: "size above 4,095"
 unfoldable pub rootFinding : List ℕ → Option Finding
 rootFinding s =
-    elim (hasSort s term-sort (rootOf s))
-    [ true ↦ elim (ltb sizeLimit (cells (treeAt s (rootOf s)))) [ true ↦ finding bad-size (rootOf s) | false ↦ none ]
-    | false ↦ finding bad-root (rootOf s) ]
+    elim (hasSort s term-sort (rootOf s)) [
+      | true ↦ elim (ltb sizeLimit (cells (treeAt s (rootOf s)))) [ true ↦ finding bad-size (rootOf s) | false ↦ none ]
+      | false ↦ finding bad-root (rootOf s)
+    ]
 
 -- Rows 2 to 8: "Rows are tested downward, cells ascending, each cell completely. .. The first finding stands."
 unfoldable pub cellsForm : List ℕ → Option Finding
 cellsForm s =
-    elim (lengthOk s)
-    [ false ↦ finding bad-length 0
-    | true ↦ elim (trailerOk s)
-      [ false ↦ finding bad-trailer 0
-      | true ↦ elim (countOk s) [ false ↦ finding bad-count 0 | true ↦ cellsFinding s (count s) 0 ]
+    elim (lengthOk s) [
+      | false ↦ finding bad-length 0
+      | true ↦ elim (trailerOk s) [
+        | false ↦ finding bad-trailer 0
+        | true ↦ elim (countOk s) [ false ↦ finding bad-count 0 | true ↦ cellsFinding s (count s) 0 ]
       ]
     ]
 

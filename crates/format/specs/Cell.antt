@@ -33,7 +33,7 @@ cellAt s i =
       label = byte s (8 * i + 1);
       a = pair s (8 * i + 2);
       b = pair s (8 * i + 4);
-      c = pair s (8 * i + 6)
+      c = pair s (8 * i + 6);
     }
 
 unfoldable pub cellBytes : Cell → List ℕ

@@ -33,19 +33,19 @@ terms = refers term-sort
 -- kind, sort, label, a, b, c
 unfoldable pub table : List Row
 table =
-      -- Int, Top, function type, intersection, record type
-      row 1 type-sort unused unused unused unused
+    -- Int, Top, function type, intersection, record type
+    row 1 type-sort unused unused unused unused
     ∷ row 2 type-sort unused unused unused unused
     ∷ row 3 type-sort unused types types unused
     ∷ row 4 type-sort unused types types unused
     ∷ row 5 type-sort plain types unused unused
-      -- variable, number (b and c hold it), top value, annotation, application
+    -- variable, number (b and c hold it), top value, annotation, application
     ∷ row 16 term-sort unused plain unused unused
     ∷ row 17 term-sort unused unused plain plain
     ∷ row 18 term-sort unused unused unused unused
     ∷ row 19 term-sort unused terms types unused
     ∷ row 20 term-sort unused terms terms unused
-      -- function, merge, fixpoint, record, field read
+    -- function, merge, fixpoint, record, field read
     ∷ row 21 term-sort unused terms types types
     ∷ row 22 term-sort unused terms terms unused
     ∷ row 23 term-sort unused terms types unused

@@ -1,0 +1,233 @@
+-- A tree laid down in cells, read again: over kind and field, with no word of any one kind. What a tree needs for it is `Good`.
+-- Assumes nothing.
+use Prim.Native.Nat.{ℕ, zero, suc, _+_, _*_, _/_, _%_, _≤_, _<_}
+use native.Mathlib.Nat.{add-zero, add-assoc}
+use native.Mathlib.Decide.{decLt}
+use native.Mathlib.Omega.{arith}
+use mathlib.Core.Path.{_≡_, refl, sym, _∙_}
+use mathlib.Core.Bool.{Bool, true, false}
+use mathlib.Core.Option.{none, some}
+use mathlib.Core.List.{List, [], _∷_, _++_, append-assoc}
+use lib.Dec.{T, ltb, lt→ltb}
+use lib.ListN.{length, length-append}
+use lib.Seq.{getD-append-add}
+use Rattle.format.specs.Table.{Sort, type-sort, term-sort, Use, unused, plain, refers, Row, rowOf}
+use Rattle.format.specs.Cell.{IsBytes, byte, pair, Cell, cellAt, cellBytes}
+use Rattle.format.specs.Tree.{Tree, raw, node, cells, branch, grow, treeAt, refer, lay}
+use Rattle.format.specs.Book.{unnamedOk, referenceOk, sortIs, hasSort, sortOk, everyField, firstBad, rowFault, cellFault}
+use Rattle.format.proofs.Opening.{treeAt-grow}
+
+-- a number below n in a field that refers to nothing
+pub data Number (n : ℕ) : Use → ℕ → Type 0 where
+  blank : Number n unused 0
+  number : {x : ℕ} → x < n → Number n plain x
+
+-- a tree in a field, as the table of kinds will have it, all its numbers fitting their fields
+pub data Good : Use → Tree → Type 0 where
+  leaf : {u : Use} {x : ℕ} → Number 65536 u x → Good u (raw x)
+  cell : {k l : ℕ} {a b c : Tree} {s : Sort} {r : Row} → rowOf k ≡ some r → r .sort ≡ s → k < 256 → Number 256 (r .label) l
+      → Good (r .a) a → Good (r .b) b → Good (r .c) c → Good (refers s) (node k l a b c)
+
+-- The bytes x stand in s from cell m on.
+pub record Part (s : List ℕ) (m : ℕ) (x : List ℕ) : Type 0 where
+  pub before : List ℕ
+  pub after : List ℕ
+  pub starts : length before ≡ 8 * m
+  pub split : s ≡ before ++ (x ++ after)
+
+pub part-left : {s : List ℕ} {m : ℕ} (x y : List ℕ) → Part s m (x ++ y) → Part s m x
+part-left x y p =
+    record { before = p .before; after = y ++ p .after; starts = p .starts; split = p .split ∙ simp append-assoc }
+
+pub part-right : {s : List ℕ} {m : ℕ} (n : ℕ) (x y : List ℕ) → length x ≡ 8 * n → Part s m (x ++ y) → Part s (m + n) y
+part-right n x y e p =
+    record {
+      before = p .before ++ x;
+      after = p .after;
+      starts = simp length-append (omega (arith, p .starts));
+      split = p .split ∙ simp append-assoc;
+    }
+
+pub part-byte : {s : List ℕ} {m : ℕ} {x : List ℕ} (p : Part s m x) (j : ℕ) → byte s (8 * m + j) ≡ byte (x ++ p .after) j
+part-byte {x = x} p j = rw (p .split, ← p .starts) (getD-append-add (p .before) (x ++ p .after) j 0)
+
+part-pair : {s : List ℕ} {m : ℕ} {x : List ℕ} (p : Part s m x) (j : ℕ) → pair s (8 * m + j) ≡ pair (x ++ p .after) j
+part-pair p j = rw (add-assoc, part-byte p j, part-byte p (j + 1))
+
+two-bytes : (x : ℕ) → x % 256 + 256 * (x / 256) ≡ x
+two-bytes x = omega arith
+
+-- a cell's bytes hold the cell
+pub cell-back : {s : List ℕ} {m : ℕ} (t : Cell) → Part s m (cellBytes t) → cellAt s m ≡ t
+unfolding cellAt cellBytes
+cell-back t p =
+    λ i. record {
+      kind = (rw add-zero at (part-byte p 0)) i;
+      label = part-byte p 1 i;
+      a = (part-pair p 2 ∙ two-bytes (t .a)) i;
+      b = (part-pair p 4 ∙ two-bytes (t .b)) i;
+      c = (part-pair p 6 ∙ two-bytes (t .c)) i;
+    }
+
+pub length-lay : (m : ℕ) (t : Tree) → length (lay m t) ≡ 8 * cells t
+unfolding lay cells cellBytes
+length-lay m (raw x) = refl
+length-lay m (node k l a b c) =
+    let ea = length-lay m a in
+    let eb = length-lay (m + cells a) b in
+    let ec = length-lay (m + cells a + cells b) c in
+    simp length-append (omega arith)
+
+-- One field passes the tests 6 to 8 of cell i.
+pub record Passes (s : List ℕ) (i : ℕ) (u : Use) (x : ℕ) : Type 0 where
+  pub named : unnamedOk u x ≡ true
+  pub lower : referenceOk i u x ≡ true
+  pub sorted : sortOk s u x ≡ true
+
+every : (q : Use → ℕ → Bool) (r : Row) (t : Cell) → q (r .label) (t .label) ≡ true → q (r .a) (t .a) ≡ true
+    → q (r .b) (t .b) ≡ true → q (r .c) (t .c) ≡ true → everyField q r t ≡ true
+every q r t hl ha hb hc = rw (hl, ha, hb, hc)
+
+-- a cell of a known kind whose fields pass has no fault
+cell-sound : {s : List ℕ} {i : ℕ} (t : Cell) (r : Row) → cellAt s i ≡ t → rowOf (t .kind) ≡ some r → Passes s i (r .label) (t .label)
+    → Passes s i (r .a) (t .a) → Passes s i (r .b) (t .b) → Passes s i (r .c) (t .c) → cellFault s i ≡ none
+unfolding cellFault rowFault firstBad
+cell-sound {s} {i} t r e f pl pa pb pc =
+    rw (
+      e,
+      f,
+      every unnamedOk r t (pl .named) (pa .named) (pb .named) (pc .named),
+      every (referenceOk i) r t (pl .lower) (pa .lower) (pb .lower) (pc .lower),
+      every (sortOk s) r t (pl .sorted) (pa .sorted) (pb .sorted) (pc .sorted),
+    )
+
+-- No cell from m on and before n has a fault.
+abbrev pub Sound : List ℕ → ℕ → ℕ → Type 0
+Sound s m n = (i : ℕ) → m ≤ i → i < n → cellFault s i ≡ none
+
+sound-join : (s : List ℕ) (m x n : ℕ) → Sound s m x → Sound s x n → Sound s m n
+sound-join s m x n f g i l h = elim (decLt i x) [ yes p ↦ f i l p | no p ↦ g i (omega arith) h ]
+
+-- What holds of a good tree of use u that stands in s from cell m on; i is any cell behind it.
+pub record Laid (s : List ℕ) (m : ℕ) (u : Use) (t : Tree) : Type 0 where
+  pub passes : (i : ℕ) → m + cells t ≤ i → Passes s i u (refer m t)
+  pub opens : (i : ℕ) → m + cells t ≤ i → branch (treeAt s) i u (refer m t) ≡ t
+  pub sound : Sound s m (m + cells t)
+
+number-passes : {s : List ℕ} {i n : ℕ} {u : Use} {x : ℕ} → Number n u x → Passes s i u x
+number-passes blank = record { named = refl; lower = refl; sorted = refl }
+number-passes (number h) = record { named = refl; lower = refl; sorted = refl }
+
+number-branch : (g : ℕ → Tree) (i : ℕ) {n : ℕ} {u : Use} {x : ℕ} → Number n u x → branch g i u x ≡ raw x
+unfolding branch
+number-branch g i blank = refl
+number-branch g i (number h) = refl
+
+is-true : (b : Bool) → T b → b ≡ true
+is-true true t = refl
+is-true false t = absurd t
+
+own-sort : (s : Sort) (r : Row) → r .sort ≡ s → sortIs s (some r) ≡ true
+own-sort type-sort r h = rw h
+own-sort term-sort r h = rw h
+
+lower-branch : (g : ℕ → Tree) (i x : ℕ) (s : Sort) → ltb x i ≡ true → branch g i (refers s) x ≡ g x
+unfolding branch
+lower-branch g i x s h = rw (h, branch)
+
+-- the step of `laid`: the three fields are laid down one after the other, and then the cell
+laid-cell : {s : List ℕ} {m k l : ℕ} {a b c : Tree} {so : Sort} {r : Row} → rowOf k ≡ some r → r .sort ≡ so → Number 256 (r .label) l
+    → Laid s m (r .a) a
+    → Laid s (m + cells a) (r .b) b
+    → Laid s (m + cells a + cells b) (r .c) c
+    → cellAt s (refer m (node k l a b c))
+    ≡ record { kind = k; label = l; a = refer m a; b = refer (m + cells a) b; c = refer (m + cells a + cells b) c }
+    → Laid s m (refers so) (node k l a b c)
+unfolding cells refer grow
+laid-cell {s} {m} {k} {l} {a} {b} {c} {so} {r} e f hl la lb lc q =
+    let n = refer m (node k l a b c) in
+    record {
+      passes = λ i h. record { named = refl; lower = lower′ i h; sorted = rw (q, e) (own-sort so r f) };
+      opens = λ i h. lower-branch (treeAt s) i n so (lower′ i h)
+          ∙ treeAt-grow s n
+          ∙ rw (q, e, la .opens n (omega arith), lb .opens n (omega arith), lc .opens n (omega arith));
+      sound = sound-join s m (m + cells a) _ (la .sound)
+          (sound-join s (m + cells a) (m + cells a + cells b) _ (lb .sound)
+          (sound-join s (m + cells a + cells b) n _ (λ i g h. lc .sound i g (omega arith))
+          (λ i g h. rw (last i g h)
+          (cell-sound _ _ q e (number-passes hl) (la .passes n (omega arith)) (lb .passes n (omega arith))
+          (lc .passes n (omega arith))))));
+    }
+  where
+    lower′ : (i : ℕ) → m + cells (node k l a b c) ≤ i → ltb (refer m (node k l a b c)) i ≡ true
+    lower′ i h = is-true _ (lt→ltb (refer m (node k l a b c)) i (omega arith))
+
+    last : (i : ℕ) → refer m (node k l a b c) ≤ i → i < m + cells (node k l a b c) → i ≡ refer m (node k l a b c)
+    last i g h = omega arith
+
+pub laid : {s : List ℕ} {m : ℕ} {u : Use} {t : Tree} → Good u t → Part s m (lay m t) → Laid s m u t
+unfolding cells refer lay
+laid {s} (leaf h) p =
+    record { passes = λ i l. number-passes h; opens = λ i l. number-branch (treeAt s) i h; sound = λ i l g. absurd (omega arith) }
+laid {m = m} (cell {a = a} {b = b} {c = c} e f h hl ga gb gc) p =
+    let pb = part-right (cells a) (lay m a) _ (length-lay m a) p in
+    let pc = part-right (cells b) (lay (m + cells a) b) _ (length-lay (m + cells a) b) pb in
+    let pd = part-right (cells c) (lay (m + cells a + cells b) c) _ (length-lay (m + cells a + cells b) c) pc in
+    let end : m + cells a + cells b + cells c ≡ m + (cells a + cells b + cells c) = omega arith in
+    laid-cell e f hl (laid ga (part-left (lay m a) _ p)) (laid gb (part-left (lay (m + cells a) b) _ pb))
+    (laid gc (part-left (lay (m + cells a + cells b) c) _ pc)) (cell-back _ (rw end at pd))
+
+-- Of a tree that has a cell: the cell that stands for it is its last, opens to it and is of its sort.
+pub root-last : {s : Sort} {t : Tree} (m : ℕ) → Good (refers s) t → suc (refer m t) ≡ m + cells t
+unfolding cells refer
+root-last m (cell e f h hl ga gb gc) = omega arith
+
+pub root-opens : {s : List ℕ} {m : ℕ} {so : Sort} {t : Tree} → Laid s m (refers so) t → treeAt s (refer m t) ≡ t
+root-opens {s} {m} {so} {t} l =
+    let i = m + cells t in
+    sym (lower-branch (treeAt s) i (refer m t) so (l .passes i (omega arith) .lower)) ∙ l .opens i (omega arith)
+
+pub root-sorted : {s : List ℕ} {m : ℕ} {so : Sort} {t : Tree} → Laid s m (refers so) t → hasSort s so (refer m t) ≡ true
+root-sorted {m = m} {t = t} l = l .passes (m + cells t) (omega arith) .sorted
+
+-- every element is a byte, by the shape of the list
+pub data Bytes : List ℕ → Type 0 where
+  empty : Bytes []
+  byte-then : {n : ℕ} {x : List ℕ} → n < 256 → Bytes x → Bytes (n ∷ x)
+
+pub is-bytes : {x : List ℕ} → Bytes x → IsBytes x
+is-bytes empty i = omega arith
+is-bytes (byte-then h p) zero = h
+is-bytes (byte-then h p) (suc i) = is-bytes p i
+
+pub bytes-append : {x y : List ℕ} → Bytes x → Bytes y → Bytes (x ++ y)
+bytes-append empty q = q
+bytes-append (byte-then h p) q = byte-then h (bytes-append p q)
+
+pair-then : {n : ℕ} {x : List ℕ} → n < 65536 → Bytes x → Bytes (n % 256 ∷ n / 256 ∷ x)
+pair-then {n} h p = byte-then {n = n % 256} (omega arith) (byte-then {n = n / 256} (omega arith) p)
+
+pub cell-bytes : (t : Cell) → t .kind < 256 → t .label < 256 → t .a < 65536 → t .b < 65536 → t .c < 65536 → Bytes (cellBytes t)
+unfolding cellBytes
+cell-bytes t k l a b c = byte-then k (byte-then l (pair-then a (pair-then b (pair-then c empty))))
+
+number-fits : {n : ℕ} {u : Use} {x : ℕ} → Number n u x → 0 < n → x < n
+number-fits blank h = h
+number-fits (number f) h = f
+
+refer-fits : {u : Use} {t : Tree} (m : ℕ) → Good u t → m + cells t ≤ 65536 → refer m t < 65536
+unfolding cells refer
+refer-fits m (leaf h) l = number-fits h (omega arith)
+refer-fits m (cell e f h hl ga gb gc) l = omega arith
+
+pub lay-bytes : {u : Use} {t : Tree} (m : ℕ) → Good u t → m + cells t ≤ 65536 → Bytes (lay m t)
+unfolding cells lay
+lay-bytes m (leaf h) f = empty
+lay-bytes m (cell {a = a} {b = b} {c = c} e f h hl ga gb gc) n =
+    let m′ = m + cells a in
+    let m″ = m + cells a + cells b in
+    bytes-append (lay-bytes m ga (omega arith))
+    (bytes-append (lay-bytes m′ gb (omega arith))
+    (bytes-append (lay-bytes m″ gc (omega arith))
+    (cell-bytes _ h (number-fits hl (omega arith)) (refer-fits m ga (omega arith)) (refer-fits m′ gb (omega arith))
+    (refer-fits m″ gc (omega arith)))))

@@ -1,0 +1,6 @@
+pub mod Numbers
+pub mod Trees
+pub mod Opening
+pub mod Tests
+pub mod Laying
+pub mod RoundTrip

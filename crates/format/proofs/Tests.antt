@@ -1,0 +1,322 @@
+-- The tests 2 to 10 pass exactly on well-formed books; a well-formed book's root is the tree of a term whose labels, indices and numbers
+-- fit. Assumes nothing.
+use Prim.Native.Nat.{ℕ, zero, suc, _+_, _*_, _/_, _%_, _≤_, _<_}
+use mathlib.Core.Path.{_≡_, refl, sym, ap, _∙_, subst}
+use mathlib.Core.Logic.{_↔_, Iff·rfl, Iff·trans, Iff·and}
+use mathlib.Core.Bool.{Bool, true, false, not, _&&_, false≢true, and-eq-true-iff}
+use mathlib.Core.Option.{Option, none, some, Option·some-injective, Option·some-ne-none, Option·none-ne-some}
+use mathlib.Core.List.{List, [], _∷_}
+use native.Mathlib.Omega.{arith}
+use native.Mathlib.Nat.{add-zero, add-suc, suc-add, zero-add}
+use borrow.Author.Tests.{ltb-true, ltb-false, eqb-true, not-true, lt-ltb, le-ltb, eq-eqb}
+use lib.Dec.{ltb, eqb}
+use lib.ListN.{length}
+use Rattle.calculus.specs.Syntax.{Ty, int, top, arrow, inter, field}
+use Rattle.calculus.specs.Syntax.{Term, var, lit, unit, anno, app, lam, merge, fix, rcd, proj, size}
+use Rattle.format.specs.Table.{Sort, type-sort, term-sort, Use, unused, plain, refers, Row, table, rowIn, rowOf}
+use Rattle.format.specs.Cell.{IsBytes, byte, pair, Cell, cellAt, half, signed}
+use Rattle.format.specs.Tree.{Tree, raw, node, cells, branch, grow, treeAt}
+use Rattle.format.specs.Terms.{fromType, fromTerm, toTerm, TypeFits, TermFits}
+use Rattle.format.specs.Book.{lengthOk, trailerOk, countOk, unnamedOk, referenceOk, sortOk, sortIs, hasSort, everyField}
+use Rattle.format.specs.Book.{bad-kind, firstBad, rowFault, cellFault, cellsFinding, rootFinding, cellsForm, formFinding}
+use Rattle.format.specs.Book.{count, rootOf, trailerAt, sizeLimit, WellFormedCells, WellFormed, opened}
+use Rattle.format.proofs.Numbers.{unsigned-signed, signed-fits}
+use Rattle.format.proofs.Trees.{term-cells, term-back}
+use Rattle.format.proofs.Opening.{treeAt-grow}
+
+-- ---- Boolean tests as statements
+
+ltb-says : (a b : ℕ) → (ltb a b ≡ true) ↔ (a < b)
+ltb-says a b = (ltb-true a b, lt-ltb a b)
+
+nltb-says : (a b : ℕ) → (not (ltb a b) ≡ true) ↔ (b ≤ a)
+nltb-says a b = (λ e. ltb-false a b (not-true (ltb a b) e), λ h. ap not (le-ltb a b h))
+
+eqb-says : (a b : ℕ) → (eqb a b ≡ true) ↔ (a ≡ b)
+eqb-says a b = (eqb-true a b, eq-eqb a b)
+
+both : {P Q : Type 0} {a b : Bool} → ((a ≡ true) ↔ P) → ((b ≡ true) ↔ Q) → (a && b ≡ true) ↔ (P × Q)
+both {a} {b} p q = Iff·trans (and-eq-true-iff a b) (Iff·and p q)
+
+-- ---- findings: one test after another
+
+-- a test, and then what comes after it
+abbrev guard : {X : Type 0} → Bool → X → Option X → Option X
+guard t x m = elim t [ true ↦ m | false ↦ some x ]
+
+first : {X P Q : Type 0} (t : Bool) (x : X) {m : Option X} → ((t ≡ true) ↔ P) → ((m ≡ none) ↔ Q) → (guard t x m ≡ none) ↔ (P × Q)
+first true x p q = (λ e. (p .0 refl, q .0 e), λ h. q .1 (h .1))
+first false x p q = (λ e. absurd (Option·some-ne-none x e), λ h. absurd (false≢true (p .1 (h .0))))
+
+-- a finding, and only then what comes after it
+abbrev after : {X Y : Type 0} → Option X → (X → Y) → Option Y → Option Y
+after o g m = elim o [ none ↦ m | some x ↦ some (g x) ]
+
+before : {X Y P Q : Type 0} (o : Option X) (g : X → Y) {m : Option Y} → ((o ≡ none) ↔ P) → ((m ≡ none) ↔ Q) → (after o g m ≡ none) ↔ (P × Q)
+before none g p q = (λ e. (p .0 refl, q .0 e), λ h. q .1 (h .1))
+before (some x) g p q = (λ e. absurd (Option·some-ne-none (g x) e), λ h. absurd (Option·some-ne-none x (p .1 (h .0))))
+
+-- a test that must fail, and nothing after it
+last : {X P : Type 0} (t : Bool) (x : X) → ((not t ≡ true) ↔ P) → (_≡_ {A = Option X} (elim t [ true ↦ some x | false ↦ none ]) none) ↔ P
+last true x p = (λ e. absurd (Option·some-ne-none x e), λ h. absurd (false≢true (p .1 h)))
+last false x p = (λ e. p .0 refl, λ h. refl)
+
+cellsFinding-says : (s : List ℕ) (n i : ℕ) → (cellsFinding s n i ≡ none) ↔ ((j : ℕ) → j < n → cellFault s (i + j) ≡ none)
+unfolding cellsFinding
+cellsFinding-says s zero i = (λ e j h. absurd (omega arith), λ h. refl)
+cellsFinding-says s (suc n) i = Iff·trans (before (cellFault s i) _ Iff·rfl (cellsFinding-says s n (suc i))) (to, from)
+  where
+    to : ((cellFault s i ≡ none) × ((j : ℕ) → j < n → cellFault s (suc i + j) ≡ none)) → (j : ℕ) → j < suc n → cellFault s (i + j) ≡ none
+    to h zero l = rw add-zero (h .0)
+    to h (suc j) l = rw (add-suc i j, ← suc-add i j) (h .1 j (omega arith))
+
+    from : ((j : ℕ) → j < suc n → cellFault s (i + j) ≡ none) → (cellFault s i ≡ none) × ((j : ℕ) → j < n → cellFault s (suc i + j) ≡ none)
+    from h = (rw add-zero at (h 0 (omega arith)), λ j l. rw (suc-add i j, ← add-suc i j) (h (suc j) (omega arith)))
+
+pub cellsForm-says : (s : List ℕ) → (cellsForm s ≡ none) ↔ WellFormedCells s
+unfolding cellsForm
+cellsForm-says s =
+    Iff·trans
+    (first (lengthOk s) _ (both (both (nltb-says (length s) 16) (nltb-says 32768 (length s))) (eqb-says (length s % 8) 0))
+    (first (trailerOk s) _
+    (both (both (eqb-says (byte s (trailerAt s)) 0xf0) (eqb-says (byte s (trailerAt s + 1)) 1)) (eqb-says (pair s (trailerAt s + 6)) 0))
+    (first (countOk s) _ (both (eqb-says (pair s (trailerAt s + 2)) (count s)) (ltb-says (rootOf s) (count s)))
+    (cellsFinding-says s (count s) 0)))) (
+      λ h. record {
+        long = h .0 .0 .0;
+        short = h .0 .0 .1;
+        whole = h .0 .1;
+        mark = h .1 .0 .0 .0;
+        version = h .1 .0 .0 .1;
+        zeros = h .1 .0 .1;
+        counted = h .1 .1 .0 .0;
+        rooted = h .1 .1 .0 .1;
+        sound = λ i l. rw zero-add at (h .1 .1 .1 i l);
+      },
+      λ w. (((w .long, w .short), w .whole), (((w .mark, w .version), w .zeros), ((w .counted, w .rooted), λ j l. rw zero-add (w .sound j l)))),
+    )
+
+pub formFinding-says : (s : List ℕ) → (formFinding s ≡ none) ↔ WellFormed s
+unfolding formFinding rootFinding
+formFinding-says s =
+    let n = cells (treeAt s (rootOf s)) in
+    Iff·trans
+    (before (cellsForm s) _ (cellsForm-says s)
+    (first (hasSort s term-sort (rootOf s)) _ Iff·rfl (last (ltb sizeLimit n) _ (nltb-says sizeLimit n))))
+    (λ h. record { formed = h .0; term = h .1 .0; small = h .1 .1 }, λ w. (w .formed, (w .term, w .small)))
+
+-- ---- a cell that passes 5 to 8, over kind and field
+
+-- something of every field of a cell, by its use
+pub record Each (P : Use → ℕ → Type 0) (r : Row) (t : Cell) : Type 0 where
+  pub label : P (r .label) (t .label)
+  pub a : P (r .a) (t .a)
+  pub b : P (r .b) (t .b)
+  pub c : P (r .c) (t .c)
+
+each : {P Q : Use → ℕ → Type 0} {r : Row} {t : Cell} → ((u : Use) (x : ℕ) → P u x → Q u x) → Each P r t → Each Q r t
+each f h = record { label = f _ _ (h .label); a = f _ _ (h .a); b = f _ _ (h .b); c = f _ _ (h .c) }
+
+each-both : {P Q : Use → ℕ → Type 0} {r : Row} {t : Cell} → Each P r t → Each Q r t → Each (λ u x. P u x × Q u x) r t
+each-both h k = record { label = (h .label, k .label); a = (h .a, k .a); b = (h .b, k .b); c = (h .c, k .c) }
+
+everyField-says : (q : Use → ℕ → Bool) (r : Row) (t : Cell) → (everyField q r t ≡ true) ↔ Each (λ u x. q u x ≡ true) r t
+everyField-says q r t =
+    Iff·trans (both (both (both Iff·rfl Iff·rfl) Iff·rfl) Iff·rfl)
+    (λ h. record { label = h .0 .0 .0; a = h .0 .0 .1; b = h .0 .1; c = h .1 }, λ h. (((h .label, h .a), h .b), h .c))
+
+-- one field: what an unused one, a plain one and a reference owe
+abbrev pub FieldOk : List ℕ → ℕ → Use → ℕ → Type 0
+FieldOk s i unused x = x ≡ 0
+FieldOk s i plain x = Unit {0}
+FieldOk s i (refers o) x = (x < i) × (hasSort s o x ≡ true)
+
+field-says : (s : List ℕ) (i : ℕ) (u : Use) (x : ℕ)
+    → ((unnamedOk u x ≡ true) × ((referenceOk i u x ≡ true) × (sortOk s u x ≡ true))) ↔ FieldOk s i u x
+field-says s i unused x = (λ h. eqb-true x 0 (h .0), λ e. (eq-eqb x 0 e, (refl, refl)))
+field-says s i plain x = (λ h. tt, λ h. (refl, (refl, refl)))
+field-says s i (refers o) x = (λ h. (ltb-true x i (h .1 .0), h .1 .1), λ h. (refl, (lt-ltb x i (h .0), h .1)))
+
+pub rowFault-says : (s : List ℕ) (i : ℕ) (r : Row) (t : Cell) → (rowFault s i t (some r) ≡ none) ↔ Each (FieldOk s i) r t
+unfolding rowFault firstBad
+rowFault-says s i r t =
+    Iff·trans
+    (first (everyField unnamedOk r t) _ (everyField-says unnamedOk r t)
+    (first (everyField (referenceOk i) r t) _ (everyField-says (referenceOk i) r t)
+    (first (everyField (sortOk s) r t) _ (everyField-says (sortOk s) r t) Iff·rfl))) (
+      λ h. each (λ u x. field-says s i u x .0) (each-both (h .0) (each-both (h .1 .0) (h .1 .1 .0))),
+      λ h. let k = each (λ u x. field-says s i u x .1) h in
+          (each (λ u x p. p .0) k, (each (λ u x p. p .1 .0) k, (each (λ u x p. p .1 .1) k, refl))),
+    )
+
+-- its kind has a row, and its fields are as the row wants them
+pub record CellOk (s : List ℕ) (i : ℕ) : Type 0 where
+  pub row : Row
+  pub found : rowOf (cellAt s i .kind) ≡ some row
+  pub fields : Each (FieldOk s i) row (cellAt s i)
+
+pub cellFault-says : (s : List ℕ) (i : ℕ) → (cellFault s i ≡ none) ↔ CellOk s i
+unfolding cellFault rowFault
+cellFault-says s i = (go (rowOf (cellAt s i .kind)) refl, λ h. rw (h .found) (rowFault-says s i (h .row) (cellAt s i) .1 (h .fields)))
+  where
+    go : (o : Option Row) → rowOf (cellAt s i .kind) ≡ o → rowFault s i (cellAt s i) o ≡ none → CellOk s i
+    go none e h = absurd (Option·some-ne-none bad-kind h)
+    go (some r) e h = record { row = r; found = e; fields = rowFault-says s i r (cellAt s i) .0 h }
+
+-- ---- what a book opens to
+
+-- the tree of a type or a term that fits
+abbrev Opens : Sort → Tree → Type 0
+Opens type-sort t = (A : Ty) × (fromType A ≡ t) × TypeFits A
+Opens term-sort t = (e : Term) × (fromTerm e ≡ t) × TermFits e
+
+-- a field of a cell, its reference opened
+abbrev Holds : Use → Tree → Type 0
+Holds unused t = t ≡ raw 0
+Holds plain t = (x : ℕ) × (t ≡ raw x) × (x < 65536)
+Holds (refers o) t = Opens o t
+
+holds : (s : List ℕ) (i : ℕ) → ((o : Sort) (x : ℕ) → x < i → hasSort s o x ≡ true → Opens o (treeAt s x))
+    → (u : Use) (x : ℕ) → x < 65536 → FieldOk s i u x → Holds u (branch (treeAt s) i u x)
+unfolding branch
+holds s i opens unused x f h = ap raw h
+holds s i opens plain x f h = (x, refl, f)
+holds s i opens (refers o) x f h = rw (lt-ltb x i (h .0), branch) (opens o x (h .0) (h .1))
+
+-- a label, by its use
+abbrev Named : Use → ℕ → Type 0
+Named unused x = x ≡ 0
+Named plain x = x < 256
+Named (refers o) x = Unit {0}
+
+named : (s : List ℕ) (i : ℕ) (u : Use) (x : ℕ) → x < 256 → FieldOk s i u x → Named u x
+named s i unused x f h = h
+named s i plain x f h = f
+named s i (refers o) x f h = tt
+
+-- the parts of a cell's tree
+record Parts (r : Row) : Type 0 where
+  label : ℕ
+  ta : Tree
+  tb : Tree
+  tc : Tree
+  name : Named (r .label) label
+  a : Holds (r .a) ta
+  b : Holds (r .b) tb
+  c : Holds (r .c) tc
+
+-- a cell with this row, its references opened, is a type or a term
+abbrev Reads : Row → Type 0
+Reads r = (p : Parts r) → Opens (r .sort) (node (r .kind) (p .label) (p .ta) (p .tb) (p .tc))
+
+-- something of every row of a list
+abbrev All : (Row → Type 0) → List Row → Type 0
+All P [] = Unit {0}
+All P (r ∷ rs) = P r × All P rs
+
+infixr 20 _also_
+_also_ : {P Q : Type 0} → P → Q → P × Q
+p also q = (p, q)
+
+-- the first element whose test passes
+pick : (P : Row → Type 0) (t : Bool) (q : Row) (o : Option Row) (r : Row) → (t ≡ true → P q) → (o ≡ some r → P r)
+    → (_≡_ {A = Option Row} (elim t [ true ↦ some q | false ↦ o ]) (some r)) → P r
+pick P true q o r f g e = subst P (Option·some-injective q r e) (f refl)
+pick P false q o r f g e = g e
+
+-- what holds of every row holds of the row of a kind
+view : (P : Row → Type 0) (rs : List Row) → All P rs → (k : ℕ) (r : Row) → rowIn rs k ≡ some r → (k ≡ r .kind) × P r
+unfolding rowIn
+view P [] h k r e = absurd (Option·none-ne-some r e)
+view P (q ∷ rs) h k r e =
+    pick (λ r. (k ≡ r .kind) × P r) (eqb k (q .kind)) q (rowIn rs k) r (λ t. (eqb-true k (q .kind) t, h .0)) (view P rs (h .1) k r) e
+
+-- a number's two halves, put together and stored again
+number : (x y : ℕ) → x < 65536 → y < 65536 → fromTerm (lit (signed half (x + 65536 * y))) ≡ node 17 0 (raw 0) (raw x) (raw y)
+unfolding fromTerm
+number x y f g =
+    rw (unsigned-signed half (x + 65536 * y) (omega arith))
+    (let p : (x + 65536 * y) % 65536 ≡ x = omega arith in
+    let q : (x + 65536 * y) / 65536 ≡ y = omega arith in
+    cc)
+
+-- a cell of a kind is the tree of that kind's type or term: one line a kind
+rows : All Reads table
+unfolding table fromType fromTerm
+rows =
+    (λ p. (int, cc, tt))
+    also (λ p. (top, cc, tt))
+    also (λ p. (arrow (p .a .0) (p .b .0), cc, (p .a .2, p .b .2)))
+    also (λ p. (inter (p .a .0) (p .b .0), cc, (p .a .2, p .b .2)))
+    also (λ p. (field (p .label) (p .a .0), cc, (p .name, p .a .2)))
+    also (λ p. (var (p .a .0), cc, p .a .2))
+    also (λ p. (lit (signed half (p .b .0 + 65536 * p .c .0)), cc (number (p .b .0) (p .c .0) (p .b .2) (p .c .2)), signed-fits half _ (omega arith)))
+    also (λ p. (unit, cc, tt))
+    also (λ p. (anno (p .a .0) (p .b .0), cc, (p .a .2, p .b .2)))
+    also (λ p. (app (p .a .0) (p .b .0), cc, (p .a .2, p .b .2)))
+    also (λ p. (lam (p .a .0) (p .b .0) (p .c .0), cc, (p .a .2, p .b .2, p .c .2)))
+    also (λ p. (merge (p .a .0) (p .b .0), cc, (p .a .2, p .b .2)))
+    also (λ p. (fix (p .a .0) (p .b .0), cc, (p .a .2, p .b .2)))
+    also (λ p. (rcd (p .label) (p .a .0), cc, (p .name, p .a .2)))
+    also (λ p. (proj (p .label) (p .a .0), cc, (p .name, p .a .2)))
+    also tt
+
+-- a row that passes the question for a sort has it
+same-sort : (o u : Sort) (k : ℕ) (l a b c : Use) → sortIs o (some (record { kind = k; sort = u; label = l; a = a; b = b; c = c })) ≡ true → u ≡ o
+same-sort type-sort type-sort k l a b c e = refl
+same-sort type-sort term-sort k l a b c e = absurd (false≢true e)
+same-sort term-sort type-sort k l a b c e = absurd (false≢true e)
+same-sort term-sort term-sort k l a b c e = refl
+
+pair-fits : (s : List ℕ) → IsBytes s → (j : ℕ) → pair s j < 65536
+pair-fits s y j = omega (arith, y j, y (j + 1))
+
+cell-fits : (s : List ℕ) → IsBytes s → (i : ℕ)
+    → (cellAt s i .label < 256) × (cellAt s i .a < 65536) × (cellAt s i .b < 65536) × (cellAt s i .c < 65536)
+unfolding cellAt
+cell-fits s y i = (y (8 * i + 1), pair-fits s y (8 * i + 2), pair-fits s y (8 * i + 4), pair-fits s y (8 * i + 6))
+
+-- a cell that passes 5 to 8, over lower cells that open, opens
+cell-opens : (s : List ℕ) → IsBytes s → (i : ℕ) → CellOk s i
+    → ((o : Sort) (x : ℕ) → x < i → hasSort s o x ≡ true → Opens o (treeAt s x)) → (o : Sort) → hasSort s o i ≡ true → Opens o (treeAt s i)
+unfolding rowOf grow
+cell-opens s y i k below o e =
+    let r = k .row in
+    let t = cellAt s i in
+    let f = cell-fits s y i in
+    let v = view Reads table rows (t .kind) r (k .found) in
+    let q : r .sort ≡ o = same-sort o (r .sort) (r .kind) (r .label) (r .a) (r .b) (r .c) (rw (k .found) at e) in
+    rw (treeAt-grow s i, k .found, v .0, ← q)
+    (v .1
+    (record {
+      label = t .label;
+      ta = branch (treeAt s) i (r .a) (t .a);
+      tb = branch (treeAt s) i (r .b) (t .b);
+      tc = branch (treeAt s) i (r .c) (t .c);
+      name = named s i (r .label) (t .label) (f .0) (k .fields .label);
+      a = holds s i below (r .a) (t .a) (f .1) (k .fields .a);
+      b = holds s i below (r .b) (t .b) (f .2) (k .fields .b);
+      c = holds s i below (r .c) (t .c) (f .3) (k .fields .c);
+    }))
+
+-- every cell of a well-formed book is the tree of a type or a term, by its sort
+opens : (s : List ℕ) → IsBytes s → WellFormedCells s → (n i : ℕ) → i < n → i < count s → (o : Sort) → hasSort s o i ≡ true → Opens o (treeAt s i)
+opens s y w zero i h l = absurd (omega arith)
+opens s y w (suc n) i h l =
+    cell-opens s y i (cellFault-says s i .0 (w .sound i l)) (λ o x k e. opens s y w n x (omega arith) (omega arith) o e)
+
+root-opens : (s : List ℕ) → IsBytes s → WellFormed s → (e : Term) × (opened s ≡ e) × (fromTerm e ≡ treeAt s (rootOf s)) × TermFits e
+unfolding opened
+root-opens s y w =
+    let r = w .formed .rooted in
+    let t = opens s y (w .formed) (count s) (rootOf s) r r term-sort (w .term) in
+    (t .0, ap toTerm (sym (t .1)) ∙ term-back (t .0) (t .2), t .1, t .2)
+
+pub opened-tree : (s : List ℕ) → IsBytes s → WellFormed s → fromTerm (opened s) ≡ treeAt s (rootOf s)
+opened-tree s b w = let r = root-opens s b w in rw (r .1) (r .2)
+
+pub opened-small : (s : List ℕ) → IsBytes s → WellFormed s → size (opened s) ≤ sizeLimit
+opened-small s b w = rw (← term-cells (opened s), opened-tree s b w) (w .small)
+
+pub opened-fits : (s : List ℕ) → IsBytes s → WellFormed s → TermFits (opened s)
+opened-fits s b w = let r = root-opens s b w in rw (r .1) (r .3)
