@@ -58,9 +58,10 @@ firstStop v s f = elim v [ true ↦ some value | false ↦ elim s [ true ↦ som
 unfoldable pub evaluate : ℕ → ℕ → ℕ → Term → Ended
 evaluate l zero n e = elim (firstStop (value? e) true (full? l (next e))) [ none ↦ ended spent n e | some s ↦ ended s n e ]
 evaluate l (suc m) n e =
-    elim (firstStop (value? e) false (full? l (next e)))
-    [ none ↦ elim (next e) [ none ↦ ended spent n e | some f ↦ evaluate l m (suc n) f ]
-    | some s ↦ ended s n e ]
+    elim (firstStop (value? e) false (full? l (next e))) [
+      | none ↦ elim (next e) [ none ↦ ended spent n e | some f ↦ evaluate l m (suc n) f ]
+      | some s ↦ ended s n e
+    ]
 
 -- "Each carries the steps taken and lays down the term reached."
 unfoldable pub told : Ended → Result

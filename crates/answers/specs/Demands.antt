@@ -37,35 +37,45 @@ pub record Runs (e : Term) (limit : ℕ) (r : Result) : Type 0 where
   pub small : (n : ℕ) (f : Term) → n ≤ steps → Reaches n e f → size f ≤ sizeLimit
   pub why : StopsBy stop limit steps term
 
--- Demand 2.
-pub record Demand2 (E : Engine) : Type 0 where
-  -- "is accepted precisely if the typing rules .. derive a type for it"
-  pub accepts : (b : List ℕ) → IsBytes b → Accepts E b ↔ (WellFormed b × ((A : Ty) × Typed [] (opened b) A))
-  -- "that type is the one shown"
-  pub shows : (b w : List ℕ) (A : Ty) → IsBytes b → IsWork w → WellFormed b → Typed [] (opened b) A →
-    E .check b w ≡ result (accepted (size-type A)) (laid (typeBook A))
-  -- "and a run takes that calculus's steps, one by one, up to its value or to the limit that stopped it"
-  pub runs : (b w : List ℕ) (limit : ℕ) → IsBytes b → IsWork w → IsLimit limit → Accepts E b → Runs (opened b) limit (E .run b w limit)
+-- Demand 2, of one book: "A well-formed book of at most 4,095 cells, sharing opened,
+pub record Demand2For (E : Engine) (b : List ℕ) : Type 0 where
+  -- is accepted precisely if the typing rules .. derive a type for it;
+  pub accepts : Accepts E b ↔ (WellFormed b × ((A : Ty) × Typed [] (opened b) A))
+  -- that type is the one shown,
+  pub shows : (A : Ty) → WellFormed b → Typed [] (opened b) A → (w : List ℕ) → IsWork w →
+      E .check b w ≡ result (accepted (size-type A)) (laid (typeBook A))
+  -- and a run takes that calculus's steps, one by one, up to its value or to the limit that stopped it."
+  pub runs : Accepts E b → (w : List ℕ) (limit : ℕ) → IsWork w → IsLimit limit → Runs (opened b) limit (E .run b w limit)
+  -- A book that is not accepted is not run: it is turned back as the check turns it back.
+  pub turns-back : ¬ Accepts E b → (w : List ℕ) (limit : ℕ) → IsLimit limit → E .run b w limit ≡ E .check b w
 
--- Demand 3, of every accepted book and with both halves of every merge open.
-pub record Demand3 (E : Engine) : Type 0 where
-  -- "every term it reaches after any number of steps, with room for it or without, is the only one reached after that many"
-  pub only : (b : List ℕ) → IsBytes b → Accepts E b → (n : ℕ) (f g : Term) → Reaches n (opened b) f → Reaches n (opened b) g → f ≡ g
-  -- "it is a value and has no successor under the calculus, or is no value and has exactly one"
-  pub ends : (b : List ℕ) → IsBytes b → Accepts E b → (n : ℕ) (f : Term) → Reaches n (opened b) f →
-    (IsValue f × ((g : Term) → ¬ Step f g)) ⊎ ((¬ IsValue f) × ((g : Term) × Step f g × ((h : Term) → Step f h → h ≡ g)))
-  -- "it has a type below the first"
-  pub typed : (b : List ℕ) → IsBytes b → Accepts E b → (n : ℕ) (f : Term) → Reaches n (opened b) f →
-    (A : Ty) × (B : Ty) × Typed [] (opened b) A × Typed [] f B × Below B A
-  -- "if its size is within the limit, it is, laid down, an accepted book itself": by every check
-  pub book : (b : List ℕ) → IsBytes b → Accepts E b → (n : ℕ) (f : Term) → Reaches n (opened b) f → size f ≤ sizeLimit →
-    (w : List ℕ) → IsWork w → (m : ℕ) × (E .check (termBook f) w .answer ≡ accepted m)
-  -- "each lays down the term reached after the steps it reports"
-  pub lays-down : (b w : List ℕ) (limit : ℕ) → IsBytes b → IsWork w → IsLimit limit → Accepts E b →
-    (s : Stop) × (n : ℕ) × (f : Term) × Reaches n (opened b) f × (E .run b w limit ≡ result (stopped s n) (laid (termBook f)))
-  -- "one whose limit is no higher than the other's reports as its steps the lesser of its limit and the other's steps"
-  pub lesser : (b w v : List ℕ) (limit other : ℕ) → IsBytes b → IsWork w → IsWork v → IsLimit limit → IsLimit other → Accepts E b → limit ≤ other →
-    stepsOf (E .run b w limit .answer) ≡ min limit (stepsOf (E .run b v other .answer))
-  -- "and unless that one was stopped for steps, both give the same answer and the same bytes"
-  pub same : (b w v : List ℕ) (limit other : ℕ) → IsBytes b → IsWork w → IsWork v → IsLimit limit → IsLimit other → Accepts E b → limit ≤ other →
-    ((n : ℕ) → E .run b w limit .answer ≢ stopped spent n) → E .run b w limit ≡ E .run b v other
+abbrev pub Demand2 : Engine → Type 0
+Demand2 E = (b : List ℕ) → IsBytes b → Demand2For E b
+
+-- The term is a value and has no successor, or is no value and has exactly one.
+abbrev pub EndsOrSteps : Term → Type 0
+EndsOrSteps f = (IsValue f × ((g : Term) → ¬ Step f g)) ⊎ ((¬ IsValue f) × ((g : Term) × Step f g × ((h : Term) → Step f h → h ≡ g)))
+
+-- Demand 3, of one accepted book, whole: "whichever half each merge on the way is read from,
+pub record Demand3For (E : Engine) (b : List ℕ) : Type 0 where
+  -- every term it reaches after any number of steps, with room for it or without, is the only one reached after that many;
+  pub only : (n : ℕ) (f g : Term) → Reaches n (opened b) f → Reaches n (opened b) g → f ≡ g
+  -- it is a value and has no successor under the calculus, or is no value and has exactly one;
+  pub ends : (n : ℕ) (f : Term) → Reaches n (opened b) f → EndsOrSteps f
+  -- it has a type below the first;
+  pub typed : (n : ℕ) (f : Term) → Reaches n (opened b) f → (A : Ty) × (B : Ty) × Typed [] (opened b) A × Typed [] f B × Below B A
+  -- and if its size is within the limit, it is, laid down, an accepted book itself" (by every check with 65,536 bytes).
+  pub book : (n : ℕ) (f : Term) → Reaches n (opened b) f → size f ≤ sizeLimit → (w : List ℕ) → IsWork w →
+      (m : ℕ) × (E .check (termBook f) w .answer ≡ accepted m)
+  -- "And for every two step limits, two laptops running that book agree: each lays down the term reached after the steps it reports;
+  pub lays-down : (w : List ℕ) (limit : ℕ) → IsWork w → IsLimit limit →
+      (s : Stop) × (n : ℕ) × (f : Term) × Reaches n (opened b) f × (E .run b w limit ≡ result (stopped s n) (laid (termBook f)))
+  -- one whose limit is no higher than the other's reports as its steps the lesser of its limit and the other's steps;
+  pub lesser : (w v : List ℕ) (limit other : ℕ) → IsWork w → IsWork v → IsLimit limit → IsLimit other → limit ≤ other →
+      stepsOf (E .run b w limit .answer) ≡ min limit (stepsOf (E .run b v other .answer))
+  -- and unless that one was stopped for steps, both give the same answer and the same bytes."
+  pub same : (w v : List ℕ) (limit other : ℕ) → IsWork w → IsWork v → IsLimit limit → IsLimit other → limit ≤ other →
+      ((n : ℕ) → E .run b w limit .answer ≢ stopped spent n) → E .run b w limit ≡ E .run b v other
+
+abbrev pub Demand3 : Engine → Type 0
+Demand3 E = (b : List ℕ) → IsBytes b → Accepts E b → Demand3For E b

@@ -2,3 +2,4 @@ pub mod Answer
 pub mod Engine
 pub mod Definition
 pub mod Demands
+pub mod Samples

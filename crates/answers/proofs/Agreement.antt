@@ -1,0 +1,77 @@
+-- Two runs of one term, by what a run is (`Runs`) and two facts of its chain: the lower limit's run reports the lesser of its limit and
+-- the other's steps, and says the same unless it was stopped for steps. Assumes nothing.
+use Prim.Native.Nat.{ℕ, suc, _≤_, _<_, min}
+use mathlib.Core.Path.{_≡_, refl, sym, _∙_, subst, subst₂}
+use mathlib.Core.Logic.{_≢_}
+use native.Mathlib.Decide.{decLe, decLt}
+use native.Mathlib.Omega.{arith}
+use Rattle.calculus.specs.Syntax.{Term, size, IsValue}
+use Rattle.calculus.specs.Step.{Step, Reaches, r-suc}
+use Rattle.format.specs.Book.{sizeLimit, termBook}
+use Rattle.answers.specs.Answer.{Stop, value, spent, room, Result, result, stopped}
+use Rattle.answers.specs.Engine.{laid}
+use Rattle.answers.specs.Demands.{StopsBy, Runs}
+use Rattle.answers.proofs.Reaching.{onward}
+
+told-alike : {s t : Stop} {n m : ℕ} {f g : Term} → s ≡ t → n ≡ m → f ≡ g →
+    result (stopped s n) (laid (termBook f)) ≡ result (stopped t m) (laid (termBook g))
+told-alike p q o = rw (p, q, o)
+
+module _
+    {e : Term}
+    (only : (n : ℕ) (f g : Term) → Reaches n e f → Reaches n e g → f ≡ g)
+    (final : (f g : Term) → IsValue f → ¬ Step f g)
+  where
+    -- a run stopped at f before step m of the chain, all of it within the limit, was stopped for steps
+    stopped-early : (s : Stop) {l n m : ℕ} {f g : Term} → StopsBy s l n f → Reaches n e f → n < m → Reaches m e g →
+        ((k : ℕ) (h : Term) → k ≤ m → Reaches k e h → size h ≤ sizeLimit) → (s ≡ spent) × (n ≡ l)
+    stopped-early value {n = n} {f = f} w r h q small =
+        let o = onward q n h in
+        absurd (final f (o .1) w (subst (λ (x : Term). Step x (o .1)) (only n (o .0) f (o .2) r) (o .3)))
+    stopped-early spent w r h q small = (refl, w .1)
+    stopped-early room {n = n} w r h q small =
+        let z : size (w .2 .0) ≤ sizeLimit = small (suc n) (w .2 .0) h (r-suc r (w .2 .1)) in
+        let y : sizeLimit < size (w .2 .0) = w .2 .2 in
+        absurd (omega arith)
+
+    -- two runs that stopped after the same steps, at one term
+    same-stop : (s t : Stop) {l k : ℕ} (n : ℕ) (f : Term) → l ≤ k → StopsBy s l n f → StopsBy t k n f → s ≢ spent → s ≡ t
+    same-stop value value n f h v w d = refl
+    same-stop value spent n f h v w d = absurd (w .0 v)
+    same-stop value room n f h v w d = absurd (w .0 v)
+    same-stop spent t n f h v w d = absurd (d refl)
+    same-stop room value n f h v w d = absurd (v .0 w)
+    same-stop room spent n f h v w d = absurd (omega (arith, v .1, w .1))
+    same-stop room room n f h v w d = refl
+
+    module _ {l k : ℕ} {r q : Result} (x : Runs e l r) (y : Runs e k q) (h : l ≤ k) where
+      -- the one whose limit is no higher stopped no later
+      no-later : x .steps ≤ y .steps
+      no-later =
+          elim (decLe (x .steps) (y .steps)) [
+            | yes a ↦ a
+            | no u ↦
+                let s = stopped-early (y .stop) (y .why) (y .reached) (omega arith) (x .reached) (x .small) in
+                absurd (omega (arith, s .1, x .taken))
+          ]
+
+      -- and earlier only for steps
+      earlier : x .steps < y .steps → (x .stop ≡ spent) × (x .steps ≡ l)
+      earlier a = stopped-early (x .stop) (x .why) (x .reached) a (y .reached) (y .small)
+
+      pub lesser-steps : x .steps ≡ min l (y .steps)
+      lesser-steps =
+          elim (decLt (x .steps) (y .steps)) [
+            | yes a ↦ omega (arith, earlier a .1)
+            | no u ↦ omega (arith, no-later, x .taken)
+          ]
+
+      pub same-result : x .stop ≢ spent → r ≡ q
+      same-result d =
+          let n : x .steps ≡ y .steps =
+          elim (decLt (x .steps) (y .steps)) [ yes a ↦ absurd (d (earlier a .0)) | no u ↦ omega (arith, no-later) ] in
+          let f : x .term ≡ y .term =
+          only (y .steps) (x .term) (y .term) (subst (λ (i : ℕ). Reaches i e (x .term)) n (x .reached)) (y .reached) in
+          let w : StopsBy (y .stop) k (x .steps) (x .term) = subst₂ (λ (i : ℕ) (g : Term). StopsBy (y .stop) k i g) (sym n) (sym f) (y .why) in
+          let s : x .stop ≡ y .stop = same-stop (x .stop) (y .stop) (x .steps) (x .term) h (x .why) w d in
+          x .says ∙ told-alike s n f ∙ sym (y .says)

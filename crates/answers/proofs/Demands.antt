@@ -1,0 +1,181 @@
+-- Demands 2 and 3 hold of the executable definitions; and demand 3 follows from demand 2, of any engine. Assumes nothing.
+use Prim.Native.Nat.{ℕ, zero, suc, _+_, _≤_, min, zero-le}
+use mathlib.Core.Path.{_≡_, refl, sym, _∙_, ap, subst, subst⁻¹}
+use mathlib.Core.Bool.{Bool, true, false}
+use mathlib.Core.Logic.{_↔_, _≢_, _⊎_, inl, inr}
+use mathlib.Core.Option.{Option, none, some}
+use mathlib.Core.List.{List, []}
+use native.Mathlib.Nat.{zero-add}
+use native.Mathlib.Omega.{arith}
+use lib.Dec.{T, eqb, eqb-refl, eqb→eq}
+use lib.ListN.{length, length-replicate}
+use Rattle.calculus.specs.Syntax.{Ty, size-type, Term, size, IsValue}
+use Rattle.calculus.specs.Typing.{Typed}
+use Rattle.calculus.specs.Step.{Step, Reaches, r-zero, r-suc}
+use Rattle.calculus.specs.Infer.{Found, found, infer}
+use Rattle.calculus.specs.Infer as Infer
+use Rattle.calculus.proofs.Chain.{sound}
+use Rattle.calculus.proofs.Soundness.{value-no-step}
+use Rattle.calculus.proofs.Inference.{infer-says}
+use Rattle.format.specs.Cell.{IsBytes}
+use Rattle.format.specs.Book.{sizeLimit, Finding, formFinding, WellFormed, rootOf, follow, opened, typeBook, termBook}
+use Rattle.format.proofs.Tests.{formFinding-says, opened-fits, opened-small}
+use Rattle.format.proofs.RoundTrip.{term-laid, TermLaid}
+use Rattle.answers.specs.Answer.{Refusal, bad-buffer, malformed, ill-typed, Stop, spent, Answer, refused, accepted, stopped, stepsOf, Result, result}
+use Rattle.answers.specs.Engine.{Engine, workLength, IsWork, IsLimit, zeros, laid}
+use Rattle.answers.specs.Definition.{definition, check, run, judge, afterForm, afterTyping, turnedBack, shown, told, evaluate}
+use Rattle.answers.specs.Demands.{Accepts, Runs, Demand2For, Demand2, Demand3For, Demand3}
+use Rattle.answers.proofs.Fits.{reaches-fits}
+use Rattle.answers.proofs.Running.{Ran, ran}
+use Rattle.answers.proofs.Agreement.{lesser-steps, same-result}
+
+-- Demand 2 fixes what an engine says of accepted books, so the theorem of the calculus gives demand 3.
+module _ (E : Engine) (d : Demand2 E) (b : List ℕ) (bytes : IsBytes b) (a : Accepts E b) where
+  well-typed : WellFormed b × ((A : Ty) × Typed [] (opened b) A)
+  well-typed = d b bytes .accepts .0 a
+
+  book-accepted : (n : ℕ) (f : Term) → Reaches n (opened b) f → size f ≤ sizeLimit → (w : List ℕ) → IsWork w →
+      (m : ℕ) × (E .check (termBook f) w .answer ≡ accepted m)
+  book-accepted n f r h w k =
+      let l : TermLaid f = term-laid f (reaches-fits r (opened-fits b bytes (well-typed .0))) h in
+      let t = sound (well-typed .1 .1) n f r .typed in
+      let u : Typed [] (opened (termBook f)) (t .0) = subst⁻¹ (λ (x : Term). Typed [] x (t .0)) (l .opens) (t .1) in
+      (_, ap (λ (x : Result). x .answer) (d (termBook f) (l .bytes) .shows (t .0) (l .well-formed) u w k))
+
+  only-one : (n : ℕ) (f g : Term) → Reaches n (opened b) f → Reaches n (opened b) g → f ≡ g
+  only-one n f g r q = sound (well-typed .1 .1) n g q .only f r
+
+  final : (f g : Term) → IsValue f → ¬ Step f g
+  final f g v s = value-no-step (v .1) s
+
+  runs-of : (w : List ℕ) (l : ℕ) → IsWork w → IsLimit l → Runs (opened b) l (E .run b w l)
+  runs-of = d b bytes .runs a
+
+  steps-of : {w : List ℕ} {l : ℕ} (x : Runs (opened b) l (E .run b w l)) → stepsOf (E .run b w l .answer) ≡ x .steps
+  steps-of x = ap (λ (r : Result). stepsOf (r .answer)) (x .says)
+
+  pub demand3-for : Demand3For E b
+  demand3-for =
+      record {
+        only = only-one;
+        ends = λ n f r. sound (well-typed .1 .1) n f r .ends;
+        typed = λ n f r. let p = sound (well-typed .1 .1) n f r .typed in (well-typed .1 .0, p .0, well-typed .1 .1, p .1, p .2);
+        book = book-accepted;
+        lays-down = λ w l k h. let x = runs-of w l k h in (x .stop, x .steps, x .term, x .reached, x .says);
+        lesser = λ w v l m j k h i q.
+            let x = runs-of w l j h in
+            let y = runs-of v m k i in
+            steps-of x ∙ lesser-steps only-one final x y q ∙ ap (min l) (sym (steps-of y));
+        same = λ w v l m j k h i q u.
+            let x = runs-of w l j h in
+            same-result only-one final x (runs-of v m k i) q
+            (λ e. u (x .steps) (ap (λ (r : Result). r .answer) (x .says) ∙ ap (λ (s : Stop). stopped s (x .steps)) e));
+      }
+
+pub demand3-from-2 : (E : Engine) → Demand2 E → Demand3 E
+demand3-from-2 E d b bytes a = demand3-for E d b bytes a
+
+-- The definitions: with a work buffer of 65,536 bytes the rows from 2 on decide.
+pub in-work : (b w : List ℕ) (g : Ty → Result) → IsWork w → judge b w g ≡ afterForm b g (formFinding b)
+unfolding judge
+in-work b w g k = rw (k, judge)
+
+outcome : (b w : List ℕ) (g : Ty → Result) (A : Ty) → IsWork w → WellFormed b → Typed [] (opened b) A → judge b w g ≡ g A
+unfolding afterForm afterTyping
+outcome b w g A k f t = in-work b w g k ∙ rw (formFinding-says b .1 f) (rw (infer-says [] (opened b) A .1 t))
+
+-- a book is well-formed and typed, or turned back whatever is answered for a type
+abbrev Judged : List ℕ → Type 0
+Judged b =
+    (WellFormed b × ((A : Ty) × Typed [] (opened b) A))
+    ⊎ ((r : Refusal) × (i : ℕ) × ((g : Ty → Result) → afterForm b g (formFinding b) ≡ turnedBack r i))
+
+judged : (b : List ℕ) → Judged b
+unfolding afterForm afterTyping
+judged b = form (formFinding b) refl
+  where
+    typing : (x : Found) → formFinding b ≡ none → infer [] (opened b) ≡ x → Judged b
+    typing (found A) f e = inl (formFinding-says b .0 f, (A, infer-says [] (opened b) A .0 e))
+    typing (Infer.refused r p) f e = inr (ill-typed r, follow b (rootOf b) p, λ g. rw f (rw e))
+
+    form : (x : Option Finding) → formFinding b ≡ x → Judged b
+    form none f = typing (infer [] (opened b)) f refl
+    form (some y) f = inr (malformed (y .fault), y .cell, λ g. rw f)
+
+work-at-hand : IsWork (zeros workLength)
+unfolding zeros
+work-at-hand = length-replicate {A = ℕ} workLength 0
+
+refused-accepted : (r : Refusal) (i n : ℕ) → refused r i ≢ accepted n
+refused-accepted r i n h = let z : _≡_ {A = ℕ} 0 1 = cc in absurd (omega arith)
+
+-- a check that accepts met no row
+accepts-typed : (b : List ℕ) → Accepts definition b → Judged b → WellFormed b × ((A : Ty) × Typed [] (opened b) A)
+unfolding check turnedBack
+accepts-typed b a (inl t) = t
+accepts-typed b a (inr x) =
+    absurd
+    (refused-accepted (x .0) (x .1) (a .size)
+    (sym (ap (λ (y : Result). y .answer) (in-work b (a .work) shown (a .is-work) ∙ x .2 shown)) ∙ a .answers))
+
+typed-accepts : (b : List ℕ) → WellFormed b × ((A : Ty) × Typed [] (opened b) A) → Accepts definition b
+unfolding check shown
+typed-accepts b t =
+    record {
+      work = zeros workLength;
+      is-work = work-at-hand;
+      size = size-type (t .1 .0);
+      answers = ap (λ (y : Result). y .answer) (outcome b (zeros workLength) shown (t .1 .0) work-at-hand (t .0) (t .1 .1));
+    }
+
+-- the term after no steps is the root
+first-small : (b : List ℕ) → IsBytes b → WellFormed b → (n : ℕ) (f : Term) → n ≤ 0 → Reaches n (opened b) f → size f ≤ sizeLimit
+first-small b bytes t n f h r-zero = opened-small b bytes t
+first-small b bytes t n f h (r-suc q s) = absurd (omega arith)
+
+definition-runs : (b w : List ℕ) (l : ℕ) → IsBytes b → IsWork w → Accepts definition b → Runs (opened b) l (run b w l)
+unfolding run told
+definition-runs b w l bytes k a =
+    let t = accepts-typed b a (judged b) in
+    let r : Ran (opened b) l (evaluate sizeLimit l 0 (opened b)) =
+    subst (λ (n : ℕ). Ran (opened b) n (evaluate sizeLimit l 0 (opened b))) (zero-add l)
+    (ran (t .1 .1) l 0 (opened b) r-zero (first-small b bytes (t .0))) in
+    record {
+      stop = _;
+      steps = _;
+      term = _;
+      says = outcome b w (λ A. told (evaluate sizeLimit l 0 (opened b))) (t .1 .0) k (t .0) (t .1 .1);
+      taken = r .taken;
+      reached = r .reached;
+      small = r .small;
+      why = r .why;
+    }
+
+-- whatever is answered for a type, a book that is turned back is turned back alike
+turned-alike : (b w : List ℕ) (g h : Ty → Result) → afterForm b g (formFinding b) ≡ afterForm b h (formFinding b) → judge b w g ≡ judge b w h
+unfolding judge
+turned-alike b w g h e = go (eqb (length w) workLength)
+  where
+    go : (x : Bool) →
+        _≡_ {A = Result} (elim x [ true ↦ afterForm b g (formFinding b) | false ↦ result (refused bad-buffer 0) w ])
+        (elim x [ true ↦ afterForm b h (formFinding b) | false ↦ result (refused bad-buffer 0) w ])
+    go true = e
+    go false = refl
+
+definition-turns-back : (b w : List ℕ) (l : ℕ) → Judged b → ¬ Accepts definition b → run b w l ≡ check b w
+unfolding run check
+definition-turns-back b w l (inl t) n = absurd (n (typed-accepts b t))
+definition-turns-back b w l (inr x) n = turned-alike b w (λ A. told (evaluate sizeLimit l 0 (opened b))) shown (x .2 _ ∙ sym (x .2 shown))
+
+pub demand2 : Demand2 definition
+unfolding check shown
+demand2 b bytes =
+    record {
+      accepts = ((λ a. accepts-typed b a (judged b)), typed-accepts b);
+      shows = λ A f t w k. outcome b w shown A k f t;
+      runs = λ a w l k h. definition-runs b w l bytes k a;
+      turns-back = λ n w l h. definition-turns-back b w l (judged b) n;
+    }
+
+pub demand3 : Demand3 definition
+demand3 = demand3-from-2 definition demand2

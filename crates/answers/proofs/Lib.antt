@@ -1,0 +1,6 @@
+pub mod Fits
+pub mod Reaching
+pub mod Running
+pub mod Agreement
+pub mod Demands
+pub mod Samples

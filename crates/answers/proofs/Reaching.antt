@@ -1,0 +1,30 @@
+-- The terms on the way to a term that is reached. Assumes nothing.
+use Prim.Native.Nat.{ℕ, zero, suc, _≤_, _<_}
+use mathlib.Core.Path.{_≡_, subst⁻¹}
+use native.Mathlib.Decide.{decLe}
+use native.Mathlib.Omega.{arith}
+use Rattle.calculus.specs.Syntax.{Term}
+use Rattle.calculus.specs.Step.{Step, Reaches, r-zero, r-suc}
+
+-- before a term after m steps stands one after n, for each n up to m
+pub before : {m : ℕ} {e f : Term} → Reaches m e f → (n : ℕ) → n ≤ m → (g : Term) × Reaches n e g
+before {f = f} r-zero n h =
+    let z : n ≡ 0 = omega arith in
+    (f, subst⁻¹ (λ (k : ℕ). Reaches k f f) z r-zero)
+before {e = e} (r-suc {n = m} {g = g} r s) n h =
+    elim (decLe n m) [
+      | yes l ↦ before r n l
+      | no u ↦
+          let z : n ≡ suc m = omega arith in
+          (g, subst⁻¹ (λ (k : ℕ). Reaches k e g) z (r-suc r s))
+    ]
+
+pub last-step : {n : ℕ} {e g : Term} → Reaches (suc n) e g → (f : Term) × Reaches n e f × Step f g
+last-step (r-suc {f = f} r s) = (f, r, s)
+
+-- one of the terms before the last has a successor on the way
+pub onward : {m : ℕ} {e f : Term} → Reaches m e f → (n : ℕ) → n < m → (g : Term) × (h : Term) × Reaches n e g × Step g h × Reaches (suc n) e h
+onward r n l =
+    let b = before r (suc n) l in
+    let s = last-step (b .1) in
+    (s .0, b .0, s .1, s .2, b .1)

@@ -1,0 +1,57 @@
+-- All samples marked M hold of the definitions, by one computation. Assumes nothing.
+use Prim.Native.Nat.{ℕ}
+use mathlib.Core.Path.{_≡_, refl, sym, _∙_, ap}
+use mathlib.Core.List.{List, [], _∷_, map}
+use native.Mathlib.Decide.{ℕ-discrete}
+use Rattle.calculus.specs.Syntax.{Ty, size, size-type, put}
+use Rattle.calculus.specs.Decide.{topLike?, belowWithin, below?, disjointInt, disjointArrow, disjointField, disjoint?, value?, closed?}
+use Rattle.calculus.specs.Decide.{decided, sameUnder, sameInteger, sameType, sameTerm, eachPart, consistentLit, consistentLam, consistentRcd, consistent?}
+use Rattle.calculus.specs.Infer.{lookup, checked, applied, projected, labelled, mergeable?, merged, infer}
+use Rattle.calculus.specs.Evaluate.{within, orElse, mergeBoth, firstPart, castInt, castArrow, castField, cast, apply, project, next}
+use Rattle.format.specs.Table.{table, rowIn, rowOf}
+use Rattle.format.specs.Cell.{cellAt, cellBytes, signed, unsigned}
+use Rattle.format.specs.Tree.{cells, branch, grow, openWithin, treeAt, refer, lay}
+use Rattle.format.specs.Terms.{fromType, fromTerm, plainOf, toType, toTerm}
+use Rattle.format.specs.Book.{sizeLimit, firstBad, rowFault, cellFault, cellsFinding, rootFinding, cellsForm, formFinding, follow, opened, trailer, book}
+use Rattle.answers.specs.Answer.{Result}
+use Rattle.answers.specs.Engine.{IsWork, laid}
+use Rattle.answers.specs.Definition.{definition, turnedBack, afterTyping, afterForm, shown, full?, firstStop, evaluate, told}
+use Rattle.answers.specs.Definition.{check, run}
+use Rattle.answers.specs.Samples as Samples
+use Rattle.answers.specs.Samples.{Call, Sample, called, expected, Holds, Every, samples}
+use Rattle.answers.specs.Samples.{equalNumbers, unequalNumbers, mergedVariable, twiceRead, identityOnMerge, identityUnderTop}
+use Rattle.answers.specs.Samples.{appliedTop, appliedNumber, hiddenField, ownFixpoint}
+use Rattle.answers.proofs.Demands.{in-work}
+
+-- to name it on a line is to unfold every definition that a computation of an answer meets, but for the zero tail
+unfoldable pub computing : ℕ
+unfolding size size-type put topLike? belowWithin below? disjointInt disjointArrow disjointField disjoint? value? closed? decided sameUnder sameInteger ℕ-discrete sameType sameTerm eachPart consistentLit consistentLam consistentRcd consistent? lookup checked applied projected labelled mergeable? merged infer within orElse mergeBoth firstPart castInt castArrow castField cast apply project next table rowIn rowOf cellAt cellBytes signed unsigned cells branch grow openWithin treeAt refer lay fromType fromTerm plainOf toType toTerm firstBad rowFault cellFault cellsFinding rootFinding cellsForm formFinding follow opened trailer book turnedBack afterTyping afterForm shown full? firstStop evaluate told laid
+computing = 0
+
+-- the definitions' answer to a call, with any work buffer of 65,536 bytes
+answered : Sample → Result
+answered s = by (s .call)
+  where
+    by : Call → Result
+    by Samples.check = afterForm (s .book) shown (formFinding (s .book))
+    by (Samples.run l) = afterForm (s .book) (λ (A : Ty). told (evaluate sizeLimit l 0 (opened (s .book)))) (formFinding (s .book))
+
+-- the one computation
+computed : map answered samples ≡ map expected samples
+unfolding computing answered samples equalNumbers unequalNumbers mergedVariable twiceRead identityOnMerge identityUnderTop appliedTop appliedNumber hiddenField ownFixpoint
+computed = refl
+
+as-answered : (s : Sample) (w : List ℕ) → IsWork w → called definition (s .call) (s .book) w ≡ answered s
+unfolding answered check run
+as-answered s w k = by (s .call) refl
+  where
+    by : (c : Call) → s .call ≡ c → called definition (s .call) (s .book) w ≡ answered s
+    by Samples.check e = rw (e, called, answered) (in-work (s .book) w shown k)
+    by (Samples.run l) e = rw (e, called, answered) (in-work (s .book) w (λ (A : Ty). told (evaluate sizeLimit l 0 (opened (s .book)))) k)
+
+each : (ss : List Sample) → map answered ss ≡ map expected ss → Every (Holds definition) ss
+each [] e = tt
+each (s ∷ ss) e = ((λ w k. as-answered s w k ∙ cc), each ss cc)
+
+pub samples-hold : Every (Holds definition) samples
+samples-hold = each samples computed

@@ -1,0 +1,182 @@
+-- Document 01, "Sample books": those marked M, as one list. Bytes, answers and laid-down bytes are literals. Assumes nothing.
+use Prim.Native.Nat.{ℕ}
+use Prim.Native.String.{String}
+use mathlib.Core.Path.{_≡_}
+use mathlib.Core.List.{List, [], _∷_, _++_}
+use Rattle.calculus.specs.Infer.{conflict, not-function}
+use Rattle.answers.specs.Answer.{ill-typed, value, spent, Answer, refused, accepted, stopped, Result, result}
+use Rattle.answers.specs.Engine.{Engine, IsWork, laid}
+
+pub data Call : Type 0 where
+  check : Call
+  run : ℕ → Call
+
+-- A book, a call of it, and what is expected: the answer, and the bytes laid down (none after a refusal).
+pub record Sample : Type 0 where
+  pub name : String
+  pub book : List ℕ
+  pub call : Call
+  pub answer : Answer
+  pub lays : List ℕ
+
+abbrev sample : String → List ℕ → Call → Answer → List ℕ → Sample
+sample n b c a l = record { name = n; book = b; call = c; answer = a; lays = l }
+
+abbrev pub called : Engine → Call → List ℕ → List ℕ → Result
+called E check b w = E .check b w
+called E (run l) b w = E .run b w l
+
+abbrev pub expected : Sample → Result
+expected s = result (s .answer) (laid (s .lays))
+
+-- The engine answers as expected, with any work buffer of 65,536 bytes.
+abbrev pub Holds : Engine → Sample → Type 0
+Holds E s = (w : List ℕ) → IsWork w → called E (s .call) (s .book) w ≡ expected s
+
+abbrev pub Every : (Sample → Type 0) → List Sample → Type 0
+Every P [] = Unit {0}
+Every P (s ∷ ss) = P s × Every P ss
+
+-- The eight bytes of a cell or of the trailer.
+abbrev pub line : (k l a₀ a₁ b₀ b₁ c₀ c₁ : ℕ) → List ℕ
+line k l a₀ a₁ b₀ b₁ c₀ c₁ = k ∷ l ∷ a₀ ∷ a₁ ∷ b₀ ∷ b₁ ∷ c₀ ∷ c₁ ∷ []
+
+-- "1 merged with 1": accepted, value, 0 steps
+unfoldable pub equalNumbers : List ℕ
+equalNumbers =
+    line 17 0 0 0 1 0 0 0
+    ++ line 17 0 0 0 1 0 0 0
+    ++ line 22 0 0 0 1 0 0 0
+    ++ line 240 1 3 0 2 0 0 0
+
+-- "1 merged with 2": 14
+unfoldable pub unequalNumbers : List ℕ
+unequalNumbers =
+    line 17 0 0 0 1 0 0 0
+    ++ line 17 0 0 0 2 0 0 0
+    ++ line 22 0 0 0 1 0 0 0
+    ++ line 240 1 3 0 2 0 0 0
+
+-- "a variable merged with itself": 14
+unfoldable pub mergedVariable : List ℕ
+mergedVariable =
+    line 1 0 0 0 0 0 0 0
+    ++ line 16 0 0 0 0 0 0 0
+    ++ line 22 0 1 0 1 0 0 0
+    ++ line 21 0 2 0 0 0 0 0
+    ++ line 240 1 4 0 3 0 0 0
+
+-- "1 under Int and Int, then Int": 1 after 2 steps
+unfoldable pub twiceRead : List ℕ
+twiceRead =
+    line 17 0 0 0 1 0 0 0
+    ++ line 1 0 0 0 0 0 0 0
+    ++ line 1 0 0 0 0 0 0 0
+    ++ line 4 0 1 0 2 0 0 0
+    ++ line 19 0 0 0 3 0 0 0
+    ++ line 19 0 4 0 1 0 0 0
+    ++ line 240 1 6 0 5 0 0 0
+
+-- "the identity on a merge": 1 after 2 steps
+unfoldable pub identityOnMerge : List ℕ
+identityOnMerge =
+    line 1 0 0 0 0 0 0 0
+    ++ line 16 0 0 0 0 0 0 0
+    ++ line 21 0 1 0 0 0 0 0
+    ++ line 17 0 0 0 1 0 0 0
+    ++ line 17 0 0 0 5 0 0 0
+    ++ line 24 7 4 0 0 0 0 0
+    ++ line 22 0 3 0 5 0 0 0
+    ++ line 20 0 2 0 6 0 0 0
+    ++ line 240 1 8 0 7 0 0 0
+
+-- "the identity under Int to Top": top value, 1 step
+unfoldable pub identityUnderTop : List ℕ
+identityUnderTop =
+    line 1 0 0 0 0 0 0 0
+    ++ line 16 0 0 0 0 0 0 0
+    ++ line 21 0 1 0 0 0 0 0
+    ++ line 2 0 0 0 0 0 0 0
+    ++ line 3 0 0 0 3 0 0 0
+    ++ line 19 0 2 0 4 0 0 0
+    ++ line 240 1 6 0 5 0 0 0
+
+-- "the top value applied to 3": top value, 1 step
+unfoldable pub appliedTop : List ℕ
+appliedTop =
+    line 18 0 0 0 0 0 0 0
+    ++ line 17 0 0 0 3 0 0 0
+    ++ line 20 0 0 0 1 0 0 0
+    ++ line 240 1 3 0 2 0 0 0
+
+-- "3 applied to 4": 12
+unfoldable pub appliedNumber : List ℕ
+appliedNumber =
+    line 17 0 0 0 3 0 0 0
+    ++ line 17 0 0 0 4 0 0 0
+    ++ line 20 0 0 0 1 0 0 0
+    ++ line 240 1 3 0 2 0 0 0
+
+-- "the hidden field": 2 after 4 steps
+unfoldable pub hiddenField : List ℕ
+hiddenField =
+    line 1 0 0 0 0 0 0 0
+    ++ line 5 2 0 0 0 0 0 0
+    ++ line 17 0 0 0 2 0 0 0
+    ++ line 24 1 2 0 0 0 0 0
+    ++ line 16 0 0 0 0 0 0 0
+    ++ line 22 0 3 0 4 0 0 0
+    ++ line 5 1 0 0 0 0 0 0
+    ++ line 19 0 5 0 6 0 0 0
+    ++ line 25 1 7 0 0 0 0 0
+    ++ line 21 0 8 0 1 0 0 0
+    ++ line 17 0 0 0 1 0 0 0
+    ++ line 24 1 10 0 0 0 0 0
+    ++ line 17 0 0 0 9 0 0 0
+    ++ line 24 2 12 0 0 0 0 0
+    ++ line 22 0 11 0 13 0 0 0
+    ++ line 20 0 9 0 14 0 0 0
+    ++ line 240 1 16 0 15 0 0 0
+
+-- "the fixpoint of its own variable": limit 0: spent, 0
+unfoldable pub ownFixpoint : List ℕ
+ownFixpoint =
+    line 16 0 0 0 0 0 0 0
+    ++ line 1 0 0 0 0 0 0 0
+    ++ line 23 0 0 0 1 0 0 0
+    ++ line 240 1 3 0 2 0 0 0
+
+-- every sample marked M: the check, and the run with a limit equal to its steps and with one above
+unfoldable pub samples : List Sample
+samples =
+    sample "1 merged with 1" equalNumbers check (accepted 3) (line 1 0 0 0 0 0 0 0 ++ line 1 0 0 0 0 0 0 0 ++ line 4 0 0 0 1 0 0 0 ++ line 240 1 3 0 2 0 0 0)
+    ∷ sample "1 merged with 1" equalNumbers (run 0) (stopped value 0) (line 17 0 0 0 1 0 0 0 ++ line 17 0 0 0 1 0 0 0 ++ line 22 0 0 0 1 0 0 0 ++ line 240 1 3 0 2 0 0 0)
+    ∷ sample "1 merged with 1" equalNumbers (run 1) (stopped value 0) (line 17 0 0 0 1 0 0 0 ++ line 17 0 0 0 1 0 0 0 ++ line 22 0 0 0 1 0 0 0 ++ line 240 1 3 0 2 0 0 0)
+    ∷ sample "1 merged with 2" unequalNumbers check (refused (ill-typed conflict) 2) []
+    ∷ sample "1 merged with 2" unequalNumbers (run 0) (refused (ill-typed conflict) 2) []
+    ∷ sample "1 merged with 2" unequalNumbers (run 1) (refused (ill-typed conflict) 2) []
+    ∷ sample "a variable merged with itself" mergedVariable check (refused (ill-typed conflict) 2) []
+    ∷ sample "a variable merged with itself" mergedVariable (run 0) (refused (ill-typed conflict) 2) []
+    ∷ sample "a variable merged with itself" mergedVariable (run 1) (refused (ill-typed conflict) 2) []
+    ∷ sample "1 under Int and Int, then Int" twiceRead check (accepted 1) (line 1 0 0 0 0 0 0 0 ++ line 240 1 1 0 0 0 0 0)
+    ∷ sample "1 under Int and Int, then Int" twiceRead (run 2) (stopped value 2) (line 17 0 0 0 1 0 0 0 ++ line 240 1 1 0 0 0 0 0)
+    ∷ sample "1 under Int and Int, then Int" twiceRead (run 3) (stopped value 2) (line 17 0 0 0 1 0 0 0 ++ line 240 1 1 0 0 0 0 0)
+    ∷ sample "the identity on a merge" identityOnMerge check (accepted 1) (line 1 0 0 0 0 0 0 0 ++ line 240 1 1 0 0 0 0 0)
+    ∷ sample "the identity on a merge" identityOnMerge (run 2) (stopped value 2) (line 17 0 0 0 1 0 0 0 ++ line 240 1 1 0 0 0 0 0)
+    ∷ sample "the identity on a merge" identityOnMerge (run 3) (stopped value 2) (line 17 0 0 0 1 0 0 0 ++ line 240 1 1 0 0 0 0 0)
+    ∷ sample "the identity under Int to Top" identityUnderTop check (accepted 3) (line 1 0 0 0 0 0 0 0 ++ line 2 0 0 0 0 0 0 0 ++ line 3 0 0 0 1 0 0 0 ++ line 240 1 3 0 2 0 0 0)
+    ∷ sample "the identity under Int to Top" identityUnderTop (run 1) (stopped value 1) (line 18 0 0 0 0 0 0 0 ++ line 240 1 1 0 0 0 0 0)
+    ∷ sample "the identity under Int to Top" identityUnderTop (run 2) (stopped value 1) (line 18 0 0 0 0 0 0 0 ++ line 240 1 1 0 0 0 0 0)
+    ∷ sample "the top value applied to 3" appliedTop check (accepted 1) (line 2 0 0 0 0 0 0 0 ++ line 240 1 1 0 0 0 0 0)
+    ∷ sample "the top value applied to 3" appliedTop (run 1) (stopped value 1) (line 18 0 0 0 0 0 0 0 ++ line 240 1 1 0 0 0 0 0)
+    ∷ sample "the top value applied to 3" appliedTop (run 2) (stopped value 1) (line 18 0 0 0 0 0 0 0 ++ line 240 1 1 0 0 0 0 0)
+    ∷ sample "3 applied to 4" appliedNumber check (refused (ill-typed not-function) 2) []
+    ∷ sample "3 applied to 4" appliedNumber (run 0) (refused (ill-typed not-function) 2) []
+    ∷ sample "3 applied to 4" appliedNumber (run 1) (refused (ill-typed not-function) 2) []
+    ∷ sample "the hidden field" hiddenField check (accepted 1) (line 1 0 0 0 0 0 0 0 ++ line 240 1 1 0 0 0 0 0)
+    ∷ sample "the hidden field" hiddenField (run 4) (stopped value 4) (line 17 0 0 0 2 0 0 0 ++ line 240 1 1 0 0 0 0 0)
+    ∷ sample "the hidden field" hiddenField (run 5) (stopped value 4) (line 17 0 0 0 2 0 0 0 ++ line 240 1 1 0 0 0 0 0)
+    ∷ sample "the fixpoint of its own variable" ownFixpoint check (accepted 1) (line 1 0 0 0 0 0 0 0 ++ line 240 1 1 0 0 0 0 0)
+    ∷ sample "the fixpoint of its own variable" ownFixpoint (run 0) (stopped spent 0) (line 16 0 0 0 0 0 0 0 ++ line 1 0 0 0 0 0 0 0 ++ line 23 0 0 0 1 0 0 0 ++ line 240 1 3 0 2 0 0 0)
+    ∷ sample "the fixpoint of its own variable" ownFixpoint (run 1) (stopped spent 1) (line 16 0 0 0 0 0 0 0 ++ line 1 0 0 0 0 0 0 0 ++ line 23 0 0 0 1 0 0 0 ++ line 1 0 0 0 0 0 0 0 ++ line 19 0 2 0 3 0 0 0 ++ line 240 1 5 0 4 0 0 0)
+    ∷ []
