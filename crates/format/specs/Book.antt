@@ -146,10 +146,14 @@ pub record WellFormed (s : List ℕ) : Type 0 where
   pub term : hasSort s term-sort (rootOf s) ≡ true
   pub small : cells (treeAt s (rootOf s)) ≤ sizeLimit
 
--- The cell at the end of a way from cell i, field by field: 0 for a, anything else for b.
+abbrev fieldOn : List ℕ → ℕ → ℕ → ℕ
+fieldOn s i zero = cellAt s i .a
+fieldOn s i (suc f) = cellAt s i .b
+
+-- The cell at the end of a way from cell i, field by field: 0 for a, 1 for b. A reference that is not lower ends the way.
 unfoldable pub follow : List ℕ → ℕ → List ℕ → ℕ
 follow s i [] = i
-follow s i (f ∷ p) = follow s (elim f [ zero ↦ cellAt s i .a | suc n ↦ cellAt s i .b ]) p
+follow s i (f ∷ p) = elim (ltb (fieldOn s i f) i) [ true ↦ follow s (fieldOn s i f) p | false ↦ i ]
 
 -- The root of a book, sharing opened.
 unfoldable pub opened : List ℕ → Term
