@@ -13,7 +13,7 @@ use Rattle.answers.specs.Engine.{laid}
 use Rattle.answers.specs.Demands.{StopsBy, Runs}
 use Rattle.answers.proofs.Reaching.{onward}
 
-told-alike : {s t : Stop} {n m : ℕ} {f g : Term} → s ≡ t → n ≡ m → f ≡ g →
+pub told-alike : {s t : Stop} {n m : ℕ} {f g : Term} → s ≡ t → n ≡ m → f ≡ g →
     result (stopped s n) (laid (termBook f)) ≡ result (stopped t m) (laid (termBook g))
 told-alike p q o = rw (p, q, o)
 

@@ -80,7 +80,7 @@ pub in-work : (b w : List ℕ) (g : Ty → Result) → IsWork w → judge b w g 
 unfolding judge
 in-work b w g k = rw (k, judge)
 
-outcome : (b w : List ℕ) (g : Ty → Result) (A : Ty) → IsWork w → WellFormed b → Typed [] (opened b) A → judge b w g ≡ g A
+pub outcome : (b w : List ℕ) (g : Ty → Result) (A : Ty) → IsWork w → WellFormed b → Typed [] (opened b) A → judge b w g ≡ g A
 unfolding afterForm afterTyping
 outcome b w g A k f t = in-work b w g k ∙ rw (formFinding-says b .1 f) (rw (infer-says [] (opened b) A .1 t))
 
@@ -102,11 +102,11 @@ judged b = form (formFinding b) refl
     form none f = typing (infer [] (opened b)) f refl
     form (some y) f = inr (malformed (y .fault), y .cell, λ g. rw f)
 
-work-at-hand : IsWork (zeros workLength)
+pub work-at-hand : IsWork (zeros workLength)
 unfolding zeros
 work-at-hand = length-replicate {A = ℕ} workLength 0
 
-refused-accepted : (r : Refusal) (i n : ℕ) → refused r i ≢ accepted n
+pub refused-accepted : (r : Refusal) (i n : ℕ) → refused r i ≢ accepted n
 refused-accepted r i n h = let z : _≡_ {A = ℕ} 0 1 = cc in absurd (omega arith)
 
 -- a check that accepts met no row
@@ -118,7 +118,7 @@ accepts-typed b a (inr x) =
     (refused-accepted (x .0) (x .1) (a .size)
     (sym (ap (λ (y : Result). y .answer) (in-work b (a .work) shown (a .is-work) ∙ x .2 shown)) ∙ a .answers))
 
-typed-accepts : (b : List ℕ) → WellFormed b × ((A : Ty) × Typed [] (opened b) A) → Accepts definition b
+pub typed-accepts : (b : List ℕ) → WellFormed b × ((A : Ty) × Typed [] (opened b) A) → Accepts definition b
 unfolding check shown
 typed-accepts b t =
     record {
@@ -133,13 +133,17 @@ first-small : (b : List ℕ) → IsBytes b → WellFormed b → (n : ℕ) (f : T
 first-small b bytes t n f h r-zero = opened-small b bytes t
 first-small b bytes t n f h (r-suc q s) = absurd (omega arith)
 
+-- the executable run from the root
+pub root-ran : (b : List ℕ) (l : ℕ) {A : Ty} → IsBytes b → WellFormed b → Typed [] (opened b) A →
+    Ran (opened b) l (evaluate sizeLimit l 0 (opened b))
+root-ran b l bytes f t =
+    subst (λ (n : ℕ). Ran (opened b) n (evaluate sizeLimit l 0 (opened b))) (zero-add l) (ran t l 0 (opened b) r-zero (first-small b bytes f))
+
 definition-runs : (b w : List ℕ) (l : ℕ) → IsBytes b → IsWork w → Accepts definition b → Runs (opened b) l (run b w l)
 unfolding run told
 definition-runs b w l bytes k a =
     let t = accepts-typed b a (judged b) in
-    let r : Ran (opened b) l (evaluate sizeLimit l 0 (opened b)) =
-    subst (λ (n : ℕ). Ran (opened b) n (evaluate sizeLimit l 0 (opened b))) (zero-add l)
-    (ran (t .1 .1) l 0 (opened b) r-zero (first-small b bytes (t .0))) in
+    let r : Ran (opened b) l (evaluate sizeLimit l 0 (opened b)) = root-ran b l bytes (t .0) (t .1 .1) in
     record {
       stop = _;
       steps = _;

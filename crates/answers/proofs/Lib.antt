@@ -4,3 +4,4 @@ pub mod Running
 pub mod Agreement
 pub mod Demands
 pub mod Samples
+pub mod Impostors

@@ -28,7 +28,7 @@ pub record Ran (e : Term) (limit : ℕ) (r : Ended) : Type 0 where
   pub small : (n : ℕ) (f : Term) → n ≤ r .steps → Reaches n e f → size f ≤ sizeLimit
   pub why : StopsBy (r .stop) limit (r .steps) (r .term)
 
-abbrev at : Stop → ℕ → Term → Ended
+abbrev pub at : Stop → ℕ → Term → Ended
 at s n e = record { stop = s; steps = n; term = e }
 
 true-of : (b : Bool) → T b → b ≡ true
@@ -40,12 +40,12 @@ false-of true h = absurd (h tt)
 false-of false h = refl
 
 -- the four ways on, as equations
-evaluate-value : (l m n : ℕ) (e : Term) → value? e ≡ true → evaluate l m n e ≡ at value n e
+pub evaluate-value : (l m n : ℕ) (e : Term) → value? e ≡ true → evaluate l m n e ≡ at value n e
 unfolding evaluate firstStop
 evaluate-value l zero n e h = rw (h, evaluate, firstStop)
 evaluate-value l (suc m) n e h = rw (h, evaluate, firstStop)
 
-evaluate-spent : (l n : ℕ) (e : Term) → value? e ≡ false → evaluate l zero n e ≡ at spent n e
+pub evaluate-spent : (l n : ℕ) (e : Term) → value? e ≡ false → evaluate l zero n e ≡ at spent n e
 unfolding evaluate firstStop
 evaluate-spent l n e h = rw (h, evaluate, firstStop)
 

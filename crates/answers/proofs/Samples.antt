@@ -3,7 +3,7 @@ use Prim.Native.Nat.{ℕ}
 use mathlib.Core.Path.{_≡_, refl, sym, _∙_, ap}
 use mathlib.Core.List.{List, [], _∷_, map}
 use native.Mathlib.Decide.{ℕ-discrete}
-use Rattle.calculus.specs.Syntax.{Ty, size, size-type, put}
+use Rattle.calculus.specs.Syntax.{Ty, int, size, size-type, Term, var, anno, fix, put}
 use Rattle.calculus.specs.Decide.{topLike?, belowWithin, below?, disjointInt, disjointArrow, disjointField, disjoint?, value?, closed?}
 use Rattle.calculus.specs.Decide.{decided, sameUnder, sameInteger, sameType, sameTerm, eachPart, consistentLit, consistentLam, consistentRcd, consistent?}
 use Rattle.calculus.specs.Infer.{lookup, checked, applied, projected, labelled, mergeable?, merged, infer}
@@ -13,14 +13,15 @@ use Rattle.format.specs.Cell.{cellAt, cellBytes, signed, unsigned}
 use Rattle.format.specs.Tree.{cells, branch, grow, openWithin, treeAt, refer, lay}
 use Rattle.format.specs.Terms.{fromType, fromTerm, plainOf, toType, toTerm}
 use Rattle.format.specs.Book.{sizeLimit, firstBad, rowFault, cellFault, cellsFinding, rootFinding, cellsForm, formFinding, follow, opened, trailer, book}
-use Rattle.answers.specs.Answer.{Result}
-use Rattle.answers.specs.Engine.{IsWork, laid}
+use Rattle.answers.specs.Answer.{bad-buffer, spent, room, refused, Result, result}
+use Rattle.answers.specs.Engine.{IsWork, zeros, laid}
 use Rattle.answers.specs.Definition.{definition, turnedBack, afterTyping, afterForm, shown, full?, firstStop, evaluate, told}
-use Rattle.answers.specs.Definition.{check, run}
+use Rattle.answers.specs.Definition.{judge, check, run}
 use Rattle.answers.specs.Samples as Samples
 use Rattle.answers.specs.Samples.{Call, Sample, called, expected, Holds, Every, samples}
 use Rattle.answers.specs.Samples.{equalNumbers, unequalNumbers, mergedVariable, twiceRead, identityOnMerge, identityUnderTop}
 use Rattle.answers.specs.Samples.{appliedTop, appliedNumber, hiddenField, ownFixpoint}
+use Rattle.answers.proofs.Running.{at}
 use Rattle.answers.proofs.Demands.{in-work}
 
 -- to name it on a line is to unfold every definition that a computation of an answer meets, but for the zero tail
@@ -55,3 +56,30 @@ each (s ∷ ss) e = ((λ w k. as-answered s w k ∙ cc), each ss cc)
 
 pub samples-hold : Every (Holds definition) samples
 samples-hold = each samples computed
+
+-- ---- closed facts beside the samples
+
+-- The fixpoint at Int whose body is its own variable: sizes 3, 5, 7, .. With room for 5 the third term is too large.
+abbrev growing : Term
+growing = fix (var 0) int
+
+-- limit 0: spent, 0
+growing-0 : evaluate 5 0 0 growing ≡ at spent 0 growing
+unfolding computing
+growing-0 = refl
+
+-- limit 1: spent after 1, "else no room": the third term is not asked for
+growing-1 : evaluate 5 1 0 growing ≡ at spent 1 (anno growing int)
+unfolding computing
+growing-1 = refl
+
+-- limit 2: no room, 1 step
+growing-2 : evaluate 5 2 0 growing ≡ at room 1 (anno growing int)
+unfolding computing
+growing-2 = refl
+
+-- "Refusal 1 touches nothing": whatever the book and the call
+refusal-1 : (c : Call) (b : List ℕ) → called definition c b (7 ∷ 8 ∷ 9 ∷ []) ≡ result (refused bad-buffer 0) (7 ∷ 8 ∷ 9 ∷ [])
+unfolding zeros judge check run
+refusal-1 Samples.check b = refl
+refusal-1 (Samples.run l) b = refl

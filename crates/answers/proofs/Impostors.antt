@@ -1,0 +1,394 @@
+-- Impostors, as engines: which of demands 2 and 3 each breaks, at a witness book, and which it obeys. Document 01, "To the testers".
+-- Assumes nothing.
+use Prim.Native.Nat.{ℕ, zero, suc, _≤_, min}
+use mathlib.Core.Path.{_≡_, refl, sym, _∙_, ap, subst, subst⁻¹}
+use mathlib.Core.Bool.{Bool, true, false, _&&_, and-eq-true-iff}
+use mathlib.Core.Logic.{_≢_}
+use mathlib.Core.Option.{none}
+use mathlib.Core.List.{List, [], _∷_, _++_}
+use native.Mathlib.Nat.{le-refl}
+use native.Mathlib.Decide.{decLe}
+use native.Mathlib.Omega.{arith}
+use lib.Dec.{T, ltb, ltb→lt, lit<}
+use lib.ListN.{getD}
+use Rattle.calculus.specs.Syntax.{Ty, int, inter, size-type, Term, IsValue, v-lit}
+use Rattle.calculus.specs.Typing.{Typed}
+use Rattle.calculus.specs.Step.{Step, Reaches, r-zero}
+use Rattle.calculus.specs.Infer.{conflict, found, infer}
+use Rattle.calculus.specs.Infer as Infer
+use Rattle.calculus.specs.Decide.{value?}
+use Rattle.calculus.proofs.Chain.{reaches-unique}
+use Rattle.calculus.proofs.Soundness.{value-no-step}
+use Rattle.calculus.proofs.Inference.{infer-says}
+use Rattle.format.specs.Cell.{IsBytes}
+use Rattle.format.specs.Book.{sizeLimit, formFinding, WellFormed, opened, termBook}
+use Rattle.format.proofs.Tests.{formFinding-says}
+use Rattle.answers.specs.Answer.{Refusal, Stop, value, spent, room, accepted, stopped, stepsOf, Result, result}
+use Rattle.answers.specs.Engine.{Engine, workLength, IsWork, IsLimit, zeros, laid}
+use Rattle.answers.specs.Definition.{definition, check, run, judge, turnedBack, told, Ended, evaluate}
+use Rattle.answers.specs.Demands.{Accepts, Runs, Demand2, Demand3For, Demand3}
+use Rattle.answers.specs.Samples.{line, equalNumbers, unequalNumbers, twiceRead}
+use Rattle.answers.proofs.Reaching.{onward}
+use Rattle.answers.proofs.Running.{Ran, evaluate-value, evaluate-spent}
+use Rattle.answers.proofs.Agreement.{told-alike, lesser-steps, same-result}
+use Rattle.answers.proofs.Demands.{outcome, work-at-hand, refused-accepted, typed-accepts, root-ran, demand2, demand3}
+use Rattle.answers.proofs.Samples.{computing}
+
+-- how the true run of a book ends
+abbrev pub ending : List ℕ → ℕ → Ended
+ending b l = evaluate sizeLimit l 0 (opened b)
+
+-- what `cc` finds in an equation of two constructors
+clash : ¬ (_≡_ {A = ℕ} 0 1)
+clash z = omega arith
+
+-- ---- the witnesses
+
+-- a book that is accepted, with the type that is shown
+pub record Accepted (b : List ℕ) (A : Ty) : Type 0 where
+  pub bytes : IsBytes b
+  pub formed : WellFormed b
+  pub typed : Typed [] (opened b) A
+
+bytes? : List ℕ → Bool
+bytes? [] = true
+bytes? (n ∷ s) = ltb n 256 && bytes? s
+
+all-bytes : (s : List ℕ) → bytes? s ≡ true → IsBytes s
+unfolding bytes?
+all-bytes [] h i = lit< tt
+all-bytes (n ∷ s) h zero = ltb→lt n 256 (subst⁻¹ T (and-eq-true-iff (ltb n 256) (bytes? s) .0 h .0) tt)
+all-bytes (n ∷ s) h (suc i) = all-bytes s (and-eq-true-iff (ltb n 256) (bytes? s) .0 h .1) i
+
+-- three computations
+computed : (b : List ℕ) (A : Ty) → bytes? b ≡ true → formFinding b ≡ none → infer [] (opened b) ≡ found A → Accepted b A
+computed b A h f t = record { bytes = all-bytes b h; formed = formFinding-says b .0 f; typed = infer-says [] (opened b) A .0 t }
+
+-- 1 annotated with Int: 1 after 1 step
+annotated : List ℕ
+annotated = line 17 0 0 0 1 0 0 0 ++ line 1 0 0 0 0 0 0 0 ++ line 19 0 0 0 1 0 0 0 ++ line 240 1 3 0 2 0 0 0
+
+annotated-accepted : Accepted annotated int
+unfolding computing annotated bytes?
+annotated-accepted = computed annotated int refl refl refl
+
+-- a top value that the root does not reach, then the root 1
+unreached : List ℕ
+unreached = line 18 0 0 0 0 0 0 0 ++ line 17 0 0 0 1 0 0 0 ++ line 240 1 2 0 1 0 0 0
+
+unreached-accepted : Accepted unreached int
+unfolding computing unreached bytes?
+unreached-accepted = computed unreached int refl refl refl
+
+-- the sample "1 under Int and Int, then Int": 1 after 2 steps
+twice-read-accepted : Accepted twiceRead int
+unfolding computing twiceRead bytes?
+twice-read-accepted = computed twiceRead int refl refl refl
+
+-- the sample "1 merged with 1"
+equal-accepted : Accepted equalNumbers (inter int int)
+unfolding computing equalNumbers bytes?
+equal-accepted = computed equalNumbers (inter int int) refl refl refl
+
+-- the sample "1 merged with 2", which has no type
+unequal-bytes : IsBytes unequalNumbers
+unfolding bytes? unequalNumbers
+unequal-bytes = all-bytes unequalNumbers refl
+
+unequal-untyped : (A : Ty) → ¬ Typed [] (opened unequalNumbers) A
+unfolding computing unequalNumbers
+unequal-untyped A t = let p : Infer.refused conflict [] ≡ found A = infer-says [] (opened unequalNumbers) A .1 t in clash (cc p)
+
+-- ---- what the demands leave to an engine
+
+spent? : (s : Stop) → Dec (s ≡ spent)
+spent? value = no (λ h. clash cc)
+spent? spent = yes refl
+spent? room = no (λ h. clash cc)
+
+-- a run of a typed term has one answer
+pub runs-unique : {e : Term} {A : Ty} {l : ℕ} {r q : Result} → Typed [] e A → Runs e l r → Runs e l q → r ≡ q
+runs-unique {e} {l = l} t x y =
+    elim (spent? (x .stop)) [
+      | no n ↦ same-result only final x y (le-refl l) n
+      | yes h ↦ elim (spent? (y .stop)) [
+        | no n ↦ sym (same-result only final y x (le-refl l) n)
+        | yes k ↦ x .says ∙ told-alike (h ∙ sym k) steps term ∙ sym (y .says)
+      ]
+    ]
+  where
+    only : (n : ℕ) (f g : Term) → Reaches n e f → Reaches n e g → f ≡ g
+    only n f g u v = reaches-unique t v u
+
+    final : (f g : Term) → IsValue f → ¬ Step f g
+    final f g v = value-no-step (v .1)
+
+    steps : x .steps ≡ y .steps
+    steps = omega (arith, lesser-steps only final x y (le-refl l), y .taken)
+
+    term : x .term ≡ y .term
+    term = only (x .steps) (x .term) (y .term) (x .reached) (subst⁻¹ (λ (n : ℕ). Reaches n e (y .term)) steps (y .reached))
+
+module _ {b : List ℕ} {A : Ty} (a : Accepted b A) where
+  true-accepts : Accepts definition b
+  true-accepts = typed-accepts b (a .formed, (A, a .typed))
+
+  -- Demand 2 leaves nothing of an accepted book's run open: it is the definitions' run.
+  pub demand2-determines : (E : Engine) → Demand2 E → (w : List ℕ) (l : ℕ) → IsWork w → IsLimit l → E .run b w l ≡ run b w l
+  demand2-determines E d w l k h =
+      let e : Accepts E b = d b (a .bytes) .accepts .1 (a .formed, (A, a .typed)) in
+      runs-unique (a .typed) (d b (a .bytes) .runs e w l k h) (demand2 b (a .bytes) .runs true-accepts w l k h)
+
+  true-ran : (l : ℕ) → Ran (opened b) l (ending b l)
+  true-ran l = root-ran b l (a .bytes) (a .formed) (a .typed)
+
+  -- the only term after the steps of a true run is its last
+  true-term : (l : ℕ) {f : Term} → Reaches (ending b l .steps) (opened b) f → f ≡ ending b l .term
+  true-term l r = reaches-unique (a .typed) (true-ran l .reached) r
+
+  -- and past a value there is none
+  no-further : (l : ℕ) {n : ℕ} {f : Term} → IsValue (ending b l .term) → Reaches n (opened b) f → n ≤ ending b l .steps
+  no-further l {n} v r =
+      elim (decLe n (ending b l .steps)) [
+        | yes h ↦ h
+        | no u ↦
+            let o = onward r (ending b l .steps) (omega arith) in
+            absurd (value-no-step (v .1) (subst (λ (e : Term). Step e (o .1)) (true-term l (o .2)) (o .3)))
+      ]
+
+-- ---- engines that check and turn back truly, and answer g to the run of an accepted book
+
+unfoldable pub posing : (List ℕ → ℕ → Result) → Engine
+posing g = record { check = check; run = λ b w l. judge b w (λ A. g b l) }
+
+-- the definitions are such an engine
+posing-true : posing (λ b l. told (ending b l)) ≡ definition
+unfolding posing run
+posing-true = refl
+
+module _ (g : List ℕ → ℕ → Result) {b : List ℕ} {A : Ty} (a : Accepted b A) where
+  posing-accepts : Accepts (posing g) b
+  unfolding posing
+  posing-accepts =
+      let t = true-accepts a in
+      record { work = t .work; is-work = t .is-work; size = t .size; answers = t .answers }
+
+  posing-runs : (w : List ℕ) (l : ℕ) → IsWork w → posing g .run b w l ≡ g b l
+  unfolding posing
+  posing-runs w l k = outcome b w (λ A. g b l) A k (a .formed) (a .typed)
+
+  -- demand 2: g gives the true run's answer
+  posing-2 : Demand2 (posing g) → (l : ℕ) → IsLimit l → g b l .answer ≡ told (ending b l) .answer
+  unfolding run
+  posing-2 d l h =
+      let w = zeros workLength in
+      let true-run = outcome b w (λ A. told (ending b l)) A work-at-hand (a .formed) (a .typed) in
+      ap (λ (r : Result). r .answer) (sym (posing-runs w l work-at-hand) ∙ demand2-determines a (posing g) d w l work-at-hand h ∙ true-run)
+
+  -- demand 3: g lays down the term reached after the steps that it reports;
+  posing-3 : Demand3 (posing g) → (l : ℕ) → IsLimit l →
+      (s : Stop) × (n : ℕ) × (f : Term) × Reaches n (opened b) f × (g b l ≡ result (stopped s n) (laid (termBook f)))
+  posing-3 d l h =
+      let w = zeros workLength in
+      let x = d b (a .bytes) posing-accepts .lays-down w l work-at-hand h in
+      (x .0, x .1, x .2, x .3, sym (posing-runs w l work-at-hand) ∙ x .4)
+
+  -- which is the last term of the true run of as many
+  posing-lays : Demand3 (posing g) → (l m : ℕ) → IsLimit l → stepsOf (g b l .answer) ≡ ending b m .steps →
+      g b l .left ≡ laid (termBook (ending b m .term))
+  posing-lays d l m h q =
+      let x = posing-3 d l h in
+      let n : x .1 ≡ ending b m .steps = sym (ap (λ (r : Result). stepsOf (r .answer)) (x .4)) ∙ q in
+      let r : Reaches (ending b m .steps) (opened b) (x .2) = rw n at (x .3) in
+      ap (λ (r : Result). r .left) (x .4) ∙ ap (λ (f : Term). laid (termBook f)) (true-term a m r)
+
+-- ---- 1 and 2: `room` or `spent` early
+
+unfoldable pub atMostOne : ℕ → ℕ
+atMostOne zero = 0
+atMostOne (suc n) = 1
+
+-- where a step has been taken, s is the reason to stop
+unfoldable pub hurried : Stop → Ended → Ended
+hurried s r = record { stop = elim (r .steps) [ zero ↦ r .stop | suc n ↦ s ]; steps = r .steps; term = r .term }
+
+-- "at one step wherever the book has one with room and the limit allows it"
+unfoldable pub early : Stop → Engine
+early s = posing (λ b l. told (hurried s (ending b (atMostOne l))))
+
+abbrev pub earlyRoom : Engine
+earlyRoom = early room
+
+abbrev pub earlySpent : Engine
+earlySpent = early spent
+
+early-breaks-2 : (s : Stop) → s ≢ value → ¬ Demand2 (early s)
+unfolding early atMostOne hurried computing annotated
+early-breaks-2 s n d = let p : stopped s 1 ≡ stopped value 1 = posing-2 _ annotated-accepted d 1 (lit< tt) in n (cc p)
+
+-- 1 annotated with Int is a value after one step, and no room was wanting
+pub early-room-breaks-2 : ¬ Demand2 earlyRoom
+early-room-breaks-2 = early-breaks-2 room (λ h. clash cc)
+
+-- nor steps
+pub early-spent-breaks-2 : ¬ Demand2 earlySpent
+early-spent-breaks-2 = early-breaks-2 spent (λ h. clash cc)
+
+module _ (s : Stop) {b : List ℕ} {A : Ty} (a : Accepted b A) where
+  -- the true run behind it
+  abbrev behind : ℕ → Ended
+  behind l = ending b (atMostOne l)
+
+  early-runs : (w : List ℕ) (l : ℕ) → IsWork w → early s .run b w l ≡ told (hurried s (behind l))
+  unfolding early
+  early-runs w l k = posing-runs _ a w l k
+
+  early-lesser : (l m : ℕ) → l ≤ m → behind l .steps ≡ min l (behind m .steps)
+  unfolding atMostOne
+  early-lesser zero m h = omega (arith, true-ran a 0 .taken)
+  early-lesser (suc l) zero h = absurd (omega arith)
+  early-lesser (suc l) (suc m) h = omega (arith, true-ran a 1 .taken)
+
+  early-same : (l m : ℕ) → l ≤ m → ((n : ℕ) → told (hurried s (behind l)) .answer ≢ stopped spent n) →
+      told (hurried s (behind l)) ≡ told (hurried s (behind m))
+  unfolding atMostOne told hurried
+  early-same zero m h n = go (value? (opened b)) refl
+    where
+      go : (v : Bool) → value? (opened b) ≡ v → told (hurried s (behind 0)) ≡ told (hurried s (behind m))
+      go true p = rw (evaluate-value sizeLimit 0 0 (opened b) p, evaluate-value sizeLimit (atMostOne m) 0 (opened b) p)
+      go false p = absurd (n 0 (rw (evaluate-spent sizeLimit 0 (opened b) p)))
+  early-same (suc l) zero h n = absurd (omega arith)
+  early-same (suc l) (suc m) h n = refl
+
+-- whatever reason it gives early, it obeys demand 3
+pub early-obeys-3 : (s : Stop) → Demand3 (early s)
+unfolding early posing told hurried
+early-obeys-3 s b bytes x =
+    let y : Accepts definition b = record { work = x .work; is-work = x .is-work; size = x .size; answers = x .answers } in
+    let d : Demand3For definition b = demand3 b bytes y in
+    let t = demand2 b bytes .accepts .0 y in
+    let a : Accepted b (t .1 .0) = record { bytes = bytes; formed = t .0; typed = t .1 .1 } in
+    record {
+      only = d .only;
+      ends = d .ends;
+      typed = d .typed;
+      book = d .book;
+      lays-down = λ w l k h. (_, _, _, true-ran a (atMostOne l) .reached, early-runs s a w l k);
+      lesser = λ w v l m j k h i q. rw (early-runs s a w l j, early-runs s a v m k) (early-lesser s a l m q);
+      same = λ w v l m j k h i q u.
+          let p = early-runs s a w l j in
+          p ∙ early-same s a l m q (λ n e. u n (ap (λ (r : Result). r .answer) p ∙ e)) ∙ sym (early-runs s a v m k);
+    }
+
+-- ---- 3: invented steps
+
+-- the true run, but for its step figure: k makes one from the limit and the steps taken
+unfoldable pub figured : (ℕ → ℕ → ℕ) → ℕ → Ended → Ended
+figured k l r = record { stop = r .stop; steps = k l (r .steps); term = r .term }
+
+unfoldable pub inventedSteps : (ℕ → ℕ → ℕ) → Engine
+inventedSteps k = posing (λ b l. told (figured k l (ending b l)))
+
+-- 1 annotated with Int takes one step: any other figure breaks demand 2
+pub invented-steps-break-2 : (k : ℕ → ℕ → ℕ) → k 1 1 ≢ 1 → ¬ Demand2 (inventedSteps k)
+unfolding inventedSteps figured computing annotated
+invented-steps-break-2 k n d = let p : stopped value (k 1 1) ≡ stopped value 1 = posing-2 _ annotated-accepted d 1 (lit< tt) in n (cc p)
+
+-- and demand 3: after no steps another term is reached, and after more than one none
+pub invented-steps-break-3 : (k : ℕ → ℕ → ℕ) → k 1 1 ≢ 1 → ¬ Demand3 (inventedSteps k)
+unfolding inventedSteps figured computing annotated
+invented-steps-break-3 k n d =
+    let x = posing-3 _ annotated-accepted d 1 (lit< tt) in
+    let m : k 1 1 ≡ x .1 = ap (λ (r : Result). stepsOf (r .answer)) (x .4) in
+    let h : x .1 ≤ 1 = no-further annotated-accepted 1 (int, v-lit) (x .3) in
+    let p : _≡_ {A = ℕ} 240 1 = ap (λ (s : List ℕ). getD s 8 0) (posing-lays _ annotated-accepted d 1 0 (lit< tt) (omega arith)) in
+    absurd (omega arith)
+
+-- ---- 4: the first step, and then that term again
+
+-- where the limit of one step is spent, it counts on to the whole limit l
+unfoldable pub repeating : ℕ → Ended → Ended
+repeating l r = record { stop = r .stop; steps = elim (r .stop) [ value ↦ r .steps | spent ↦ l | room ↦ r .steps ]; term = r .term }
+
+unfoldable pub repeatsFirst : Engine
+repeatsFirst = posing (λ b l. told (repeating l (ending b (atMostOne l))))
+
+-- "1 under Int and Int, then Int" is a value after two steps, not spent
+pub repeats-first-breaks-2 : ¬ Demand2 repeatsFirst
+unfolding repeatsFirst repeating atMostOne computing twiceRead
+repeats-first-breaks-2 d = let p : stopped spent 2 ≡ stopped value 2 = posing-2 _ twice-read-accepted d 2 (lit< tt) in clash (cc p)
+
+-- and after two steps the term is 1, whose book has its trailer where the repeated one has a cell
+pub repeats-first-breaks-3 : ¬ Demand3 repeatsFirst
+unfolding repeatsFirst repeating atMostOne computing twiceRead
+repeats-first-breaks-3 d =
+    let p : _≡_ {A = ℕ} 17 240 = ap (λ (s : List ℕ). getD s 8 0) (posing-lays _ twice-read-accepted d 2 2 (lit< tt) refl) in
+    absurd (omega arith)
+
+-- ---- 5: the book handed back untouched
+
+unfoldable pub handsBack : Engine
+handsBack = posing (λ b l. result (stopped value 0) (laid b))
+
+-- 1 annotated with Int takes a step
+pub hands-back-breaks-2 : ¬ Demand2 handsBack
+unfolding handsBack computing annotated
+hands-back-breaks-2 d = let p : stopped value 0 ≡ stopped value 1 = posing-2 _ annotated-accepted d 1 (lit< tt) in clash (cc p)
+
+-- a book with a cell that the root does not reach is not the root laid down
+pub hands-back-breaks-3 : ¬ Demand3 handsBack
+unfolding handsBack computing unreached
+hands-back-breaks-3 d =
+    let p : _≡_ {A = ℕ} 18 17 = ap (λ (s : List ℕ). getD s 0 0) (posing-lays _ unreached-accepted d 0 0 (lit< tt) refl) in
+    absurd (omega arith)
+
+-- ---- 6: a fixed reply
+
+-- c to every check and r to every run
+unfoldable pub fixedReply : Result → Result → Engine
+fixedReply c r = record { check = λ b w. c; run = λ b w l. r }
+
+-- two books have types of two sizes: every fixed reply breaks demand 2
+pub fixed-reply-breaks-2 : (c r : Result) → ¬ Demand2 (fixedReply c r)
+unfolding fixedReply size-type
+fixed-reply-breaks-2 c r d =
+    let p : accepted 1 ≡ accepted 3 = sym (size-shown annotated-accepted) ∙ size-shown equal-accepted in
+    absurd (omega (arith, accepted-size p))
+  where
+    size-shown : {b : List ℕ} {A : Ty} → Accepted b A → c .answer ≡ accepted (size-type A)
+    size-shown {b} {A} a = ap (λ (r : Result). r .answer) (d b (a .bytes) .shows A (a .formed) (a .typed) (zeros workLength) work-at-hand)
+
+    accepted-size : {n m : ℕ} → accepted n ≡ accepted m → n ≡ m
+    accepted-size h = cc
+
+-- one that accepts, accepts "1 merged with 2", and breaks demand 3
+pub fixed-reply-breaks-3 : (c r : Result) (n : ℕ) → c .answer ≡ accepted n → ¬ Demand3 (fixedReply c r)
+unfolding fixedReply
+fixed-reply-breaks-3 c r n h d =
+    let a : Accepts (fixedReply c r) unequalNumbers = record { work = zeros workLength; is-work = work-at-hand; size = n; answers = h } in
+    let t = d unequalNumbers unequal-bytes a .typed 0 (opened unequalNumbers) r-zero in
+    unequal-untyped (t .0) (t .2)
+
+-- ---- 7: every book turned away
+
+-- by whatever refusals
+abbrev pub RefusesAll : Engine → Type 0
+RefusesAll E = (b : List ℕ) → ¬ Accepts E b
+
+-- 1 annotated with Int has a type, and demand 2 has it accepted
+pub refuses-all-breaks-2 : (E : Engine) → RefusesAll E → ¬ Demand2 E
+refuses-all-breaks-2 E n d =
+    let a = annotated-accepted in
+    n annotated (d annotated (a .bytes) .accepts .1 (a .formed, (int, a .typed)))
+
+-- demand 3 speaks of accepted books only
+pub refuses-all-obeys-3 : (E : Engine) → RefusesAll E → Demand3 E
+refuses-all-obeys-3 E n b bytes a = absurd (n b a)
+
+abbrev pub oneRefusal : Refusal → ℕ → Engine
+oneRefusal r i = fixedReply (turnedBack r i) (turnedBack r i)
+
+-- such is the engine that has one refusal for every book
+pub one-refusal-refuses-all : (r : Refusal) (i : ℕ) → RefusesAll (oneRefusal r i)
+unfolding fixedReply turnedBack
+one-refusal-refuses-all r i b a = refused-accepted r i (a .size) (a .answers)
