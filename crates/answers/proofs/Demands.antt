@@ -1,13 +1,13 @@
 -- Demands 2 and 3 hold of the executable definitions; and demand 3 follows from demand 2, of any engine. Assumes nothing.
-use Prim.Native.Nat.{ℕ, zero, suc, _+_, _≤_, min, zero-le}
+use Prim.Native.Nat.{ℕ, _≤_, min}
 use mathlib.Core.Path.{_≡_, refl, sym, _∙_, ap, subst, subst⁻¹}
 use mathlib.Core.Bool.{Bool, true, false}
-use mathlib.Core.Logic.{_↔_, _≢_, _⊎_, inl, inr}
+use mathlib.Core.Logic.{_≢_, _⊎_, inl, inr}
 use mathlib.Core.Option.{Option, none, some}
 use mathlib.Core.List.{List, []}
 use native.Mathlib.Nat.{zero-add}
 use native.Mathlib.Omega.{arith}
-use lib.Dec.{T, eqb, eqb-refl, eqb→eq}
+use lib.Dec.{eqb}
 use lib.ListN.{length, length-replicate}
 use Rattle.calculus.specs.Syntax.{Ty, size-type, Term, size, IsValue}
 use Rattle.calculus.specs.Typing.{Typed}
@@ -18,13 +18,13 @@ use Rattle.calculus.proofs.Chain.{sound}
 use Rattle.calculus.proofs.Soundness.{value-no-step}
 use Rattle.calculus.proofs.Inference.{infer-says}
 use Rattle.format.specs.Cell.{IsBytes}
-use Rattle.format.specs.Book.{sizeLimit, Finding, formFinding, WellFormed, rootOf, follow, opened, typeBook, termBook}
+use Rattle.format.specs.Book.{sizeLimit, Finding, formFinding, WellFormed, rootOf, follow, opened, termBook}
 use Rattle.format.proofs.Tests.{formFinding-says, opened-fits, opened-small}
 use Rattle.format.proofs.RoundTrip.{term-laid, TermLaid}
-use Rattle.answers.specs.Answer.{Refusal, bad-buffer, malformed, ill-typed, Stop, spent, Answer, refused, accepted, stopped, stepsOf, Result, result}
-use Rattle.answers.specs.Engine.{Engine, workLength, IsWork, IsLimit, zeros, laid}
+use Rattle.answers.specs.Answer.{Refusal, bad-buffer, malformed, ill-typed, Stop, refused, accepted, stopped, stepsOf, Result, result}
+use Rattle.answers.specs.Engine.{Engine, workLength, IsWork, IsLimit, zeros}
 use Rattle.answers.specs.Definition.{definition, check, run, judge, afterForm, afterTyping, turnedBack, shown, told, evaluate}
-use Rattle.answers.specs.Demands.{Accepts, Runs, Demand2For, Demand2, Demand3For, Demand3}
+use Rattle.answers.specs.Demands.{Accepts, Runs, Demand2, Demand3For, Demand3}
 use Rattle.answers.proofs.Fits.{reaches-fits}
 use Rattle.answers.proofs.Running.{Ran, ran}
 use Rattle.answers.proofs.Agreement.{lesser-steps, same-result}

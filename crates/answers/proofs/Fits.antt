@@ -1,11 +1,11 @@
 -- Steps keep labels, indices and numbers within their fields. Assumes nothing.
 use Prim.Native.Nat.{ℕ, suc}
-use mathlib.Core.Bool.{Bool, true, false, cond}
 use lib.Dec.{eqb}
 use Rattle.calculus.specs.Syntax.{Ty, Term, var, lit, unit, anno, app, lam, merge, fix, rcd, proj, put}
 use Rattle.calculus.specs.TypedReduction.{Cast, c-lit, c-top, c-arrow, c-rcd, c-left, c-right, c-both}
 use Rattle.calculus.specs.Step.{Step, s-app-left, s-app-right, s-merge-left, s-merge-right, s-anno, s-rcd, s-proj, s-cast, s-beta}
 use Rattle.calculus.specs.Step.{s-app-unit, s-proj-unit, s-proj-rcd, s-fix, Reaches, r-zero, r-suc}
+use Rattle.calculus.proofs.Bools.{by-test}
 use Rattle.format.specs.Terms.{TypeFits, TermFits}
 
 -- a reading takes its parts from the value and the type
@@ -18,13 +18,9 @@ cast-fits (c-left w o c) f t = cast-fits c (f .0) t
 cast-fits (c-right v o c) f t = cast-fits c (f .1) t
 cast-fits (c-both c d) f t = (cast-fits c f (t .0), cast-fits d f (t .1))
 
-either-fits : (b : Bool) (e f : Term) → TermFits e → TermFits f → TermFits (cond b e f)
-either-fits true e f h k = h
-either-fits false e f h k = k
-
 put-fits : (k : ℕ) (s e : Term) → TermFits s → TermFits e → TermFits (put k s e)
 unfolding put
-put-fits k s (var n) h f = either-fits (eqb n k) s (var n) h f
+put-fits k s (var n) h f = by-test TermFits (eqb n k) {x = s} {y = var n} (λ t. h) (λ t. f)
 put-fits k s (lit i) h f = f
 put-fits k s unit h f = f
 put-fits k s (anno e A) h f = (put-fits k s e h (f .0), f .1)

@@ -1,5 +1,5 @@
 -- The terms on the way to a term that is reached. Assumes nothing.
-use Prim.Native.Nat.{ℕ, zero, suc, _≤_, _<_}
+use Prim.Native.Nat.{ℕ, suc, _≤_, _<_}
 use mathlib.Core.Path.{_≡_, subst⁻¹}
 use native.Mathlib.Decide.{decLe}
 use native.Mathlib.Omega.{arith}

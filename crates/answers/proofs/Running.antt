@@ -1,18 +1,19 @@
 -- The executable run takes the calculus's steps: how it ends is what a run is. Assumes nothing.
-use Prim.Native.Nat.{ℕ, zero, suc, _+_, _≤_, _<_}
+use Prim.Native.Nat.{ℕ, zero, suc, _+_, _≤_}
 use mathlib.Core.Path.{_≡_, refl, sym, subst, subst⁻¹, subst₂}
 use mathlib.Core.Bool.{Bool, true, false, not}
 use mathlib.Core.Logic.{_⊎_, inl, inr}
-use mathlib.Core.Option.{Option, none, some}
+use mathlib.Core.Option.{some}
 use mathlib.Core.List.{[]}
 use native.Mathlib.Decide.{decLe}
 use native.Mathlib.Omega.{arith}
 use lib.Dec.{T, ltb, ltb→lt, nltb→le}
 use Rattle.calculus.specs.Syntax.{Ty, Term, size, IsValue}
 use Rattle.calculus.specs.Typing.{Typed}
-use Rattle.calculus.specs.Step.{Step, Reaches, r-zero, r-suc}
+use Rattle.calculus.specs.Step.{Step, Reaches, r-suc}
 use Rattle.calculus.specs.Decide.{value?}
 use Rattle.calculus.specs.Evaluate.{next}
+use Rattle.calculus.proofs.Bools.{T-true, T-false}
 use Rattle.calculus.proofs.Chain.{sound, Reached, Ends}
 use Rattle.calculus.proofs.Tests.{value?-says}
 use Rattle.calculus.proofs.Evaluation.{next-says}
@@ -30,14 +31,6 @@ pub record Ran (e : Term) (limit : ℕ) (r : Ended) : Type 0 where
 
 abbrev pub at : Stop → ℕ → Term → Ended
 at s n e = record { stop = s; steps = n; term = e }
-
-true-of : (b : Bool) → T b → b ≡ true
-true-of true h = refl
-true-of false h = absurd h
-
-false-of : (b : Bool) → ¬ T b → b ≡ false
-false-of true h = absurd (h tt)
-false-of false h = refl
 
 -- the four ways on, as equations
 pub evaluate-value : (l m n : ℕ) (e : Term) → value? e ≡ true → evaluate l m n e ≡ at value n e
@@ -80,10 +73,10 @@ module _ {e₀ : Term} {A : Ty} (t : Typed [] e₀ A) where
       p = sound t n e r
 
       go : Ends e → ((value? e ≡ true) × IsValue e) ⊎ ((value? e ≡ false) × (¬ IsValue e) × ((f : Term) × (next e ≡ some f) × Step e f))
-      go (inl v) = inl (true-of (value? e) (value?-says e .1 (v .0)), v .0)
+      go (inl v) = inl (T-true (value?-says e) (v .0), v .0)
       go (inr s) =
           inr
-          (false-of (value? e) (λ h. s .0 (value?-says e .0 h)), s .0, (s .1 .0, next-says (s .1 .0) (p .typed .1) .1 (s .1 .1), s .1 .1))
+          (T-false (value?-says e) (s .0), s .0, (s .1 .0, next-says (s .1 .0) (p .typed .1) .1 (s .1 .1), s .1 .1))
 
   ended-as : (s : Stop) {n l : ℕ} {e : Term} {r : Ended} → r ≡ at s n e → Reaches n e₀ e → Small n → n ≤ l → StopsBy s l n e → Ran e₀ l r
   ended-as s {l = l} q r h k w = subst⁻¹ (λ (x : Ended). Ran e₀ l x) q (record { taken = k; reached = r; small = h; why = w })

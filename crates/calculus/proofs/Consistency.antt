@@ -4,40 +4,25 @@ use Prim.Native.Nat.{ℕ}
 use mathlib.Core.Path.{_≡_, refl, sym, ap, ap₂, subst₂}
 use mathlib.Core.Logic.{_↔_, _⊎_, inl, inr, by-cases}
 use mathlib.Core.Bool.{Bool, true, false, not, _&&_, _||_}
-use lib.Dec.{T, eqb, eqb→eq, eqb-refl}
+use lib.Dec.{T, eqb}
 use lib.IntN.{ℤ}
 use native.Mathlib.Decide.{ℕ-discrete}
 use Rattle.calculus.specs.Syntax.{Ty, int, arrow, inter, field, Term, lit, lam, merge, rcd}
 use Rattle.calculus.specs.Syntax.{Value, v-lit, v-unit, v-lam, v-merge, v-rcd, Ty-discrete, Term-discrete}
 use Rattle.calculus.specs.Subtyping.{TopLike, Below, b-left, b-right}
-use Rattle.calculus.specs.Disjointness.{d-arrow, d-labels}
+use Rattle.calculus.specs.Disjointness.{DisjointByList, d-arrow, d-labels}
 use Rattle.calculus.specs.Decide.{decided, sameInteger, sameTerm, sameType, eachPart, consistentLit, consistentLam, consistentRcd, consistent?}
 use Rattle.calculus.specs.Decide.{disjoint?, disjointInt, disjointArrow, disjointField}
 use Rattle.calculus.specs.TypedReduction.{Cast, c-lit, c-arrow, c-rcd}
 use Rattle.calculus.specs.Consistency.{Consistent, ConsistentByList, k-lit, k-lam, k-rcd, k-left, k-right, k-disjoint}
+use Rattle.calculus.proofs.Bools.{decided-says, T-and, eqb-says, _and_, _or_}
 use Rattle.calculus.proofs.Subtyping.{below-refl, topLike-dec}
 use Rattle.calculus.proofs.Disjointness.{disjoint-or-common, list→disjoint}
 use Rattle.calculus.proofs.Decisions.{disjoint?-says}
 use Rattle.calculus.proofs.TypedReduction.{cast-below, cast-topLike, cast-left, cast-right, Proper, by-type, cast-inter}
 use Rattle.calculus.proofs.TypedReduction.{ProperCast, p-lit, p-arrow, p-rcd, p-left, p-right, cast-proper}
 
--- what tests on Bools, numbers and trees say
-pub T-and : (a b : Bool) → T (a && b) ↔ (T a × T b)
-T-and true b = (λ t. (tt, t), λ p. p .1)
-T-and false b = (λ t. absurd t, λ p. p .0)
-
-pub T-or : (a b : Bool) → T (a || b) ↔ (T a ⊎ T b)
-T-or true b = (λ t. inl tt, λ p. tt)
-T-or false b = (λ t. inr t, elim [ inl t ↦ absurd t | inr t ↦ t ])
-
-pub decided-says : {P : Type 0} (d : Dec P) → T (decided d) ↔ P
-unfolding decided
-decided-says (yes p) = (λ t. p, λ p. tt)
-decided-says (no n) = (λ t. absurd t, n)
-
-pub eqb-says : (m n : ℕ) → T (eqb m n) ↔ (m ≡ n)
-eqb-says m n = (eqb→eq m n, λ e. rw e (eqb-refl n))
-
+-- what the tests on trees say
 pub sameTerm-says : (e f : Term) → T (sameTerm e f) ↔ (e ≡ f)
 unfolding sameTerm
 sameTerm-says e f = decided-says (Term-discrete ℕ-discrete sameInteger (Ty-discrete ℕ-discrete) e f)
@@ -74,46 +59,47 @@ read-merge : {v w x y z : Term} {A : Ty} → Consistent v x → Consistent w x �
 read-merge {A} k m (p-left c) d = k A _ _ c d
 read-merge {A} k m (p-right c) d = m A _ _ c d
 
-from-halves : {v w x : Term} → Consistent v x → Consistent w x → Consistent (merge v w) x
-from-halves k m = agree λ A p y z c. read-merge k m (cast-proper p c)
+-- a merge against a value, from its halves
+pub consistent-merge : {v w x : Term} → Consistent v x → Consistent w x → Consistent (merge v w) x
+consistent-merge k m = agree λ A p y z c. read-merge k m (cast-proper p c)
 
 pub list→consistent : {v w : Term} → ConsistentByList v w → Consistent v w
 list→consistent k-lit = agree λ A p x y c d. read-lits (cast-proper p c) (cast-proper p d)
 list→consistent k-lam = agree λ A p x y c d. read-lams (cast-proper p c) (cast-proper p d)
 list→consistent (k-rcd k) = agree λ A p x y c d. read-rcds (list→consistent k) (cast-proper p c) (cast-proper p d)
-list→consistent (k-left k m) = from-halves (list→consistent k) (list→consistent m)
-list→consistent (k-right k m) = consistent-sym (from-halves (consistent-sym (list→consistent k)) (consistent-sym (list→consistent m)))
+list→consistent (k-left k m) = consistent-merge (list→consistent k) (list→consistent m)
+list→consistent (k-right k m) = consistent-sym (consistent-merge (consistent-sym (list→consistent k)) (consistent-sym (list→consistent m)))
 list→consistent (k-disjoint v w d) = agree λ A p x y c e. absurd (p .1 (list→disjoint d A (cast-below c v) (cast-below e w)))
-
--- a merge against a value, from its halves
-pub consistent-merge : {v w x : Term} {A B C : Ty} → Value v A → Value w B → Value x C → Consistent v x → Consistent w x → Consistent (merge v w) x
-consistent-merge v w x k m = from-halves k m
 
 -- The test stands between the two: what is consistent passes it, and what passes it is on the list.
 pub record Between (b : Bool) (v w : Term) : Type 0 where
   pub passes : Consistent v w → T b
   pub listed : T b → ConsistentByList v w
 
-between-left : {a b : Bool} {v u w : Term} {A B : Ty} → Value v A → Value u B → Between a v w → Between b u w → Between (a && b) (merge v u) w
-between-left {a} {b} v u f g = record {
-  passes = λ k. let (l, r) = consistent-halves v u k in T-and a b .1 (f .passes l, g .passes r);
-  listed = λ t. let (l, r) = T-and a b .0 t in k-left (f .listed l) (g .listed r);
+-- two tests of parts, where the parts together are the whole
+between-both : {a b : Bool} {v w x y v′ w′ : Term} → (Consistent v′ w′ → Consistent v w × Consistent x y) →
+    (ConsistentByList v w → ConsistentByList x y → ConsistentByList v′ w′) → Between a v w → Between b x y → Between (a && b) v′ w′
+between-both {a} {b} parts whole f g = record {
+  passes = λ k. let (l, r) = parts k in T-and a b .1 (f .passes l, g .passes r);
+  listed = λ t. let (l, r) = T-and a b .0 t in whole (f .listed l) (g .listed r);
 }
 
+between-left : {a b : Bool} {v u w : Term} {A B : Ty} → Value v A → Value u B → Between a v w → Between b u w → Between (a && b) (merge v u) w
+between-left v u = between-both (consistent-halves v u) k-left
+
 between-right : {a b : Bool} {v u w : Term} {A B : Ty} → Value v A → Value u B → Between a w v → Between b w u → Between (a && b) w (merge v u)
-between-right {a} {b} v u f g = record {
-  passes = λ k. let (l, r) = consistent-halves v u (consistent-sym k) in T-and a b .1 (f .passes (consistent-sym l), g .passes (consistent-sym r));
-  listed = λ t. let (l, r) = T-and a b .0 t in k-right (f .listed l) (g .listed r);
-}
+between-right v u =
+    between-both (λ k. let (l, r) = consistent-halves v u (consistent-sym k) in (consistent-sym l, consistent-sym r)) k-right
 
 -- disjoint by the test for types
 apart : {v w : Term} {A B : Ty} → Value v A → Value w B → T (disjoint? A B) → Between true v w
 apart {A} {B} v w t = record { passes = λ k. tt; listed = λ s. k-disjoint v w (disjoint?-says A B .0 t) }
 
-two-lits : {i j : ℤ} → (d : Dec (i ≡ j)) → Between (decided d) (lit i) (lit j)
-unfolding decided
-two-lits {i} (yes e) = record { passes = λ k. tt; listed = λ t. rw (← e) k-lit }
-two-lits {i} {j} (no n) = record { passes = λ k. let q : lit i ≡ lit j = k int _ _ c-lit c-lit in n (cc q); listed = λ t. absurd t }
+two-lits : {i j : ℤ} (d : Dec (i ≡ j)) → Between (decided d) (lit i) (lit j)
+two-lits {i} {j} d = record {
+  passes = λ k. let q : lit i ≡ lit j = k int _ _ c-lit c-lit in decided-says d .1 (cc q);
+  listed = λ t. rw (← decided-says d .0 t) k-lit;
+}
 
 between-lit : {i : ℤ} {w : Term} {B : Ty} → Value w B → Between (eachPart (consistentLit i) w) (lit i) w
 unfolding eachPart consistentLit disjoint? disjointInt
@@ -126,27 +112,20 @@ between-lit (v-rcd v) = apart v-lit (v-rcd v) tt
 -- disjoint outputs, or a common supertype under which both are read
 two-lams : {e f : Term} {A B C D : Ty} → Between ((sameTerm e f && sameType A C) || disjoint? B D) (lam e A B) (lam f C D)
 two-lams {e} {f} {A} {B} {C} {D} = record {
-  passes = λ k. T-or same (disjoint? B D) .1
-      (elim (disjoint-or-common B D) [ inl d ↦ inr (disjoint?-says B D .1 d) | inr w ↦ inl (tested (read k w)) ]);
-  listed = λ t. elim (T-or same (disjoint? B D) .0 t)
-      [ inl s ↦ alike s | inr d ↦ k-disjoint v-lam v-lam (d-arrow (disjoint?-says B D .0 d)) ];
+  passes = λ k. test .1 (elim (disjoint-or-common B D) [ inl d ↦ inr d | inr c ↦ inl (read k c) ]);
+  listed = λ t. elim (test .0 t) [
+    | inl s ↦ subst₂ (λ g F. ConsistentByList (lam e A B) (lam g F D)) (s .0) (s .1) k-lam
+    | inr d ↦ k-disjoint v-lam v-lam (d-arrow d)
+  ];
 }
   where
-    same : Bool
-    same = sameTerm e f && sameType A C
+    test : T ((sameTerm e f && sameType A C) || disjoint? B D) ↔ (((e ≡ f) × (A ≡ C)) ⊎ DisjointByList B D)
+    test = ((sameTerm e f, sameTerm-says e f) and (sameType A C, sameType-says A C) or (disjoint? B D, disjoint?-says B D)) .1
 
     read : Consistent (lam e A B) (lam f C D) → ((E : Ty) × (¬ TopLike E) × Below B E × Below D E) → (e ≡ f) × (A ≡ C)
     read k (E, n, b, d) =
         let q : lam e A E ≡ lam f C E = k (arrow (inter A C) E) _ _ (c-arrow n (b-left (below-refl A)) b) (c-arrow n (b-right (below-refl C)) d) in
         (cc q, cc q)
-
-    tested : (e ≡ f) × (A ≡ C) → T same
-    tested p = T-and (sameTerm e f) (sameType A C) .1 (sameTerm-says e f .1 (p .0), sameType-says A C .1 (p .1))
-
-    alike : T same → ConsistentByList (lam e A B) (lam f C D)
-    alike s =
-        let (p, q) = T-and (sameTerm e f) (sameType A C) .0 s in
-        subst₂ (λ g F. ConsistentByList (lam e A B) (lam g F D)) (sameTerm-says e f .0 p) (sameType-says A C .0 q) k-lam
 
 between-lam : {e w : Term} {A B C : Ty} → Value w C → Between (eachPart (consistentLam e A B) w) (lam e A B) w
 unfolding eachPart consistentLam disjoint? disjointArrow

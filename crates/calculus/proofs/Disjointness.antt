@@ -2,7 +2,7 @@
 -- just that. Assumes nothing.
 use Prim.Native.Nat.{ℕ}
 use mathlib.Core.Path.{_≡_, refl, sym, subst}
-use mathlib.Core.Logic.{_↔_, _⊎_, inl, inr, _≢_}
+use mathlib.Core.Logic.{_↔_, _⊎_, inl, inr, _≢_, Iff·trans}
 use mathlib.Core.Bool.{Bool, true, false, not, _&&_, _||_}
 use lib.Dec.{T, eqb}
 use Rattle.calculus.specs.Syntax.{Ty, int, top, arrow, inter, field}
@@ -10,7 +10,8 @@ use Rattle.calculus.specs.Subtyping.{TopLike, Below, b-int, b-top, b-lef
 use Rattle.calculus.specs.Disjointness.{Disjoint, Head, HasHead, h-int, h-arrow, h-field, DisjointByList}
 use Rattle.calculus.specs.Disjointness.{d-top-left, d-top-right, d-inter-left, d-inter-right, d-heads, d-arrow, d-labels, d-field}
 use Rattle.calculus.specs.Decide.{disjointInt, disjointArrow, disjointField, disjoint?}
-use Rattle.calculus.proofs.Subtyping.{topLike-above, below-inter, below-refl, below-heads, heads-differ, eqb-says}
+use Rattle.calculus.proofs.Bools.{eqb-says}
+use Rattle.calculus.proofs.Subtyping.{topLike-above, below-inter, below-refl, below-heads, heads-differ}
 
 -- Each rule of the list keeps to the specification.
 pub disjoint-sym : {A B : Ty} → Disjoint A B → Disjoint B A
@@ -127,6 +128,10 @@ disjoint?-says A B = go (answer A B)
     go : {x : Bool} → Answer A B x → T x ↔ DisjointByList A B
     go (listed d) = (λ t. d, λ e. tt)
     go (common n b c) = (λ t. absurd t, λ d. n (list→disjoint d _ b c))
+
+-- the same of the specification
+pub disjoint?-means : (A B : Ty) → T (disjoint? A B) ↔ Disjoint A B
+disjoint?-means A B = Iff·trans (disjoint?-says A B) (list→disjoint, disjoint→list A B)
 
 pub list-sym : {A B : Ty} → DisjointByList A B → DisjointByList B A
 list-sym {A} {B} d = disjoint→list B A (disjoint-sym (list→disjoint d))

@@ -2,11 +2,11 @@
 use Prim.Native.Nat.{ℕ}
 use mathlib.Core.Path.{_≡_, refl, _∙_, ap, subst}
 use mathlib.Core.Logic.{_↔_}
-use mathlib.Core.Bool.{Bool, true, false, cond}
-use mathlib.Core.Option.{Option, none, some}
+use mathlib.Core.Bool.{Bool, true, false}
+use mathlib.Core.Option.{Option, some}
 use mathlib.Core.List.{[]}
-use lib.Dec.{T, eqb, eqb→eq, eqb-refl, not-T}
-use lib.Ieee.Bits.{is-true, is-false}
+use borrow.Author.Tests.{eq-eqb}
+use lib.Dec.{T, eqb, eqb→eq}
 use Rattle.calculus.specs.Syntax.{Ty, Term, var, lit, unit, anno, app, lam, merge, fix, rcd, proj}
 use Rattle.calculus.specs.Syntax.{Value, v-lit, v-unit, v-lam, v-merge, v-rcd, IsValue}
 use Rattle.calculus.specs.TypedReduction.{Cast}
@@ -14,28 +14,16 @@ use Rattle.calculus.specs.Typing.{Typed}
 use Rattle.calculus.specs.Step.{Step, s-app-left, s-app-right, s-merge-left, s-merge-right, s-anno, s-rcd, s-proj, s-cast, s-beta}
 use Rattle.calculus.specs.Step.{s-app-unit, s-proj-unit, s-proj-rcd, s-fix}
 use Rattle.calculus.specs.Decide.{value?}
-use Rattle.calculus.specs.Evaluate.{within, cast, apply, project, next}
+use Rattle.calculus.specs.Evaluate.{cast, apply, project, next}
+use Rattle.calculus.proofs.Bools.{T-true, T-false}
 use Rattle.calculus.proofs.TypedReduction.{cast-from}
-use Rattle.calculus.proofs.Tests.{value?-says, cast-sound, cast-complete}
+use Rattle.calculus.proofs.Tests.{value?-says, Answers, nothing, answer, answers-some, answers-within, answers-if, cast-reads, cast-sound}
+use Rattle.calculus.proofs.Tests.{Answered, answered, the-answer, some-within, cast-some, cast-complete}
 use Rattle.calculus.proofs.Soundness.{self-consistent, value-no-step, step-unique}
-
--- the answer, if any, satisfies P
-data Answers (P : Term → Type 0) : Option Term → Type 0 where
-  nothing : Answers P none
-  answer : {e : Term} → P e → Answers P (some e)
-
-answers-some : {P : Term → Type 0} {e : Term} → Answers P (some e) → P e
-answers-some (answer p) = p
 
 answers-map : {P Q : Term → Type 0} {r : Option Term} → ((e : Term) → P e → Q e) → Answers P r → Answers Q r
 answers-map k nothing = nothing
 answers-map k (answer {e} p) = answer (k e p)
-
-answers-within : {P Q : Term → Type 0} {r : Option Term} (f : Term → Term) →
-    Answers P r → ((e : Term) → P e → Q (f e)) → Answers Q (within f r)
-unfolding within
-answers-within f nothing k = nothing
-answers-within f (answer {e} p) k = answer (k e p)
 
 -- one answer for a value, another for any other term
 answers-value : {P : Term → Type 0} {r s : Option Term} (e : Term) →
@@ -46,18 +34,11 @@ answers-value {P} {r} {s} e p q = go (value? e) (value?-says e .0)
     go true k = let v = k tt in p (v .0) (v .1)
     go false k = q
 
-cast-answers : {v : Term} {B : Ty} (A : Ty) → Value v B → Answers (Cast v A) (cast A v)
-cast-answers {v} A w = go (cast A v) (λ x. cast-sound w)
-  where
-    go : (r : Option Term) → ((x : Term) → r ≡ some x → Cast v A x) → Answers (Cast v A) r
-    go none k = nothing
-    go (some x) k = answer (k x refl)
-
 apply-answers : {v w : Term} {A B : Ty} → Value v A → Value w B → Answers (Step (app v w)) (apply v w)
 unfolding apply
 apply-answers v-lit w = nothing
 apply-answers v-unit w = answer (s-app-unit w)
-apply-answers (v-lam {A}) w = answers-within _ (cast-answers A w) (λ x. s-beta)
+apply-answers (v-lam {A}) w = answers-within _ (cast-reads A _ _ w) (λ x. s-beta)
 apply-answers (v-merge u v) w = nothing
 apply-answers (v-rcd v) w = nothing
 
@@ -67,11 +48,7 @@ project-answers l v-lit = nothing
 project-answers l v-unit = answer s-proj-unit
 project-answers l v-lam = nothing
 project-answers l (v-merge u v) = nothing
-project-answers l (v-rcd {l = k} {v = e} v) = go (eqb l k) (eqb→eq l k)
-  where
-    go : (b : Bool) → (T b → l ≡ k) → Answers (Step (proj l (rcd k e))) (cond b (some e) none)
-    go true h = answer {e = e} (rw (h tt) (s-proj-rcd v))
-    go false h = nothing
+project-answers l (v-rcd {l = k} v) = answers-if (eqb l k) λ t. answer (rw (eqb→eq l k t) (s-proj-rcd v))
 
 next-answers : (e : Term) → Answers (Step e) (next e)
 unfolding next
@@ -79,7 +56,7 @@ next-answers (var n) = nothing
 next-answers (lit i) = nothing
 next-answers unit = nothing
 next-answers (anno e A) =
-    answers-value e (λ B v. answers-map (λ x. s-cast) (cast-answers A v)) (answers-within _ (next-answers e) (λ x. s-anno))
+    answers-value e (λ B v. answers-map (λ x. s-cast) (cast-reads A _ _ v)) (answers-within _ (next-answers e) (λ x. s-anno))
 next-answers (app e f) =
     answers-value e
     (λ A v. answers-value f (λ B w. apply-answers v w) (answers-within _ (next-answers f) (λ x. s-app-right v)))
@@ -101,23 +78,12 @@ cast-says {v} {A} x t w =
 pub next-sound : (e f : Term) → next e ≡ some f → Step e f
 next-sound e f h = answers-some (subst (Answers (Step e)) h (next-answers e))
 
--- there is an answer
-data Answered : Option Term → Type 0 where
-  answered : {e : Term} → Answered (some e)
-
 -- a value is found to be one, a term with a successor is not
 value-true : {v : Term} {A : Ty} → Value v A → value? v ≡ true
-value-true {v} {A} w = is-true (value? v) (value?-says v .1 (A, w))
+value-true {v} {A} w = T-true (value?-says v) (A, w)
 
 step-false : {e f : Term} → Step e f → value? e ≡ false
-step-false {e} s = is-false (value? e) (not-T (value? e) (λ v. value-no-step (value?-says e .0 v .1) s))
-
-some-within : {r : Option Term} (f : Term → Term) → Answered r → Answered (within f r)
-unfolding within
-some-within f answered = answered
-
-cast-some : {v x : Term} {A : Ty} → Cast v A x → Answered (cast A v)
-cast-some c = let h = cast-complete c in rw (h .1) answered
+step-false {e} s = T-false (value?-says e) (λ v. value-no-step (v .1) s)
 
 next-some : {e f : Term} → Step e f → Answered (next e)
 unfolding next apply project value?
@@ -132,14 +98,11 @@ next-some (s-cast c) = rw (value-true (cast-from c .1), next) (cast-some c)
 next-some (s-beta c) = rw (value-true (cast-from c .1), next) (some-within _ (cast-some c))
 next-some (s-app-unit v) = rw (value-true v, next) answered
 next-some s-proj-unit = answered
-next-some (s-proj-rcd {l} v) = rw (value-true v, is-true (eqb l l) (eqb-refl l), next) answered
+next-some (s-proj-rcd {l} v) = rw (value-true v, eq-eqb l l refl, next) answered
 next-some s-fix = answered
 
 pub next-complete : {e f : Term} → Step e f → (g : Term) × (next e ≡ some g)
-next-complete s = go (next-some s)
-  where
-    go : {r : Option Term} → Answered r → (g : Term) × (r ≡ some g)
-    go (answered {e = g}) = (g, refl)
+next-complete s = the-answer (next-some s)
 
 pub next-says : {e : Term} {A : Ty} (f : Term) → Typed [] e A → (next e ≡ some f) ↔ Step e f
 next-says {e} f t = (next-sound e f, λ s. let h = next-complete s in h .1 ∙ ap some (step-unique t (next-sound e (h .0) (h .1)) s))

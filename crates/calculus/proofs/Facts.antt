@@ -1,7 +1,7 @@
 -- Closed facts that show what the relations and the functions that decide them say. Each is proved from the definitions alone: no theorem
 -- of the other proofs stands between. Assumes nothing.
 use Prim.Native.Nat.{ℕ}
-use mathlib.Core.Path.{_≡_, refl, ap}
+use mathlib.Core.Path.{_≡_, refl}
 use mathlib.Core.Logic.{_≢_, _⊎_, inl, inr}
 use mathlib.Core.Bool.{true, false}
 use mathlib.Core.Option.{some}
@@ -10,7 +10,7 @@ use lib.IntN.{pos}
 use native.Mathlib.Omega.{arith}
 use native.Mathlib.Decide.{ℕ-discrete}
 use Rattle.calculus.specs.Syntax.{Ty, int, top, arrow, inter, field}
-use Rattle.calculus.specs.Syntax.{Term, var, lit, unit, anno, app, lam, merge, rcd, put, size-type, Ty-discrete, Term-discrete}
+use Rattle.calculus.specs.Syntax.{Term, var, lit, unit, anno, app, lam, merge, rcd, put, size-type}
 use Rattle.calculus.specs.Syntax.{Value, v-lit, v-lam, v-merge, v-rcd}
 use Rattle.calculus.specs.Subtyping.{Below, b-int, b-top, b-left, b-right, b-arrow, b-field}
 use Rattle.calculus.specs.Disjointness.{Disjoint, h-int, h-arrow, DisjointByList}

@@ -1,14 +1,14 @@
 -- infer finds exactly the types that the rules derive. Assumes nothing.
 use Prim.Native.Nat.{ℕ, zero, suc}
 use mathlib.Core.Path.{_≡_, refl, subst}
-use mathlib.Core.Logic.{_↔_, _⊎_, inl, inr}
-use mathlib.Core.Bool.{Bool, true, false, _&&_, _||_, cond}
+use mathlib.Core.Logic.{_↔_, _⊎_, inl, inr, Iff·rfl, Iff·trans}
+use mathlib.Core.Bool.{Bool, cond}
 use mathlib.Core.List.{List, [], _∷_}
-use lib.Dec.{T, eqb, eqb→eq, eqb-refl}
-use lib.Ieee.Bits.{is-true}
+use borrow.Author.Tests.{eq-eqb}
+use lib.Dec.{T, eqb, eqb→eq}
 use lib.ListN.{getElem?}
 use Rattle.calculus.specs.Syntax.{Ty, int, top, arrow, inter, field}
-use Rattle.calculus.specs.Syntax.{Term, var, lit, unit, anno, app, lam, merge, fix, rcd, proj, Value, v-merge}
+use Rattle.calculus.specs.Syntax.{Term, var, lit, unit, anno, app, lam, merge, fix, rcd, proj, Value, v-merge, IsValue}
 use Rattle.calculus.specs.Subtyping.{Below}
 use Rattle.calculus.specs.Disjointness.{Disjoint}
 use Rattle.calculus.specs.Consistency.{Consistent}
@@ -16,10 +16,10 @@ use Rattle.calculus.specs.Typing.{Lookup, here, there, Applies, a-arrow,
 use Rattle.calculus.specs.Typing.{Typed, t-unit, t-lit, t-var, t-anno, t-app, t-lam, t-merge, t-mergev, t-fix, t-rcd, t-proj}
 use Rattle.calculus.specs.Decide.{below?, disjoint?, value?, closed?, consistent?}
 use Rattle.calculus.specs.Infer.{Reason, Found, found, refused, lookup, checked, applied, projected, labelled, mergeable?, merged, infer}
-use Rattle.calculus.proofs.Decisions.{below?-says, disjoint?-says}
-use Rattle.calculus.proofs.Tests.{value?-says, consistent?-says}
-use Rattle.calculus.proofs.Disjointness.{list→disjoint, disjoint→list}
-use Rattle.calculus.proofs.Consistency.{list→consistent, consistent→list}
+use Rattle.calculus.proofs.Bools.{T-true, by-test, T-and, Test, _and_, _or_}
+use Rattle.calculus.proofs.Disjointness.{disjoint?-means}
+use Rattle.calculus.proofs.Decisions.{below?-says, below?-true}
+use Rattle.calculus.proofs.Tests.{value?-says, consistent?-means}
 use Rattle.calculus.proofs.Typing.{typed-value, typed-closed, typed-weaken, typed-strengthen}
 
 -- the type found, if any, satisfies P
@@ -35,8 +35,7 @@ gives-map k (finds {A} p) = finds (k A p)
 gives-map k refuses = refuses
 
 gives-cond : {P : Ty → Type 0} (b : Bool) (A : Ty) (r : Reason) (p : List ℕ) → (T b → P A) → Gives P (cond b (found A) (refused r p))
-gives-cond true A r p k = finds (k tt)
-gives-cond false A r p k = refuses
+gives-cond {P} b A r p k = by-test (Gives P) b (λ t. finds (k t)) (λ n. refuses)
 
 -- what each part of infer gives, from what it is given
 gives-lookup : (Γ : List Ty) (n : ℕ) → Gives (Lookup Γ n) (lookup (getElem? Γ n))
@@ -83,58 +82,35 @@ gives-merged e f (finds {A} p) (finds {A = B} q) k = gives-cond (mergeable? e f 
 gives-merged e f (finds p) refuses k = refuses
 gives-merged e f refuses q k = refuses
 
-and-says : (a b c d : Bool) → T (a && (b && c) && d) ↔ (T a × T b × T c × T d)
-and-says true true true d = (λ t. (tt, tt, tt, t), λ t. t .3)
-and-says true true false d = (λ t. absurd t, λ t. t .2)
-and-says true false c d = (λ t. absurd t, λ t. t .1)
-and-says false b c d = (λ t. absurd t, λ t. t .0)
+-- the two rules for merges
+abbrev ByValues : Term → Term → Ty → Ty → Type 0
+ByValues e f A B = Value e A × Value f B × Typed [] e A × Typed [] f B × Consistent e f
 
-or-says : (a b : Bool) → T (a || b) ↔ (T a ⊎ T b)
-or-says true b = (inl, λ t. tt)
-or-says false b = (inr, λ t. elim t [ inl x ↦ absurd x | inr y ↦ y ])
-
--- one of the two rules for merges applies
-abbrev Mergeable : Term → Term → Ty → Ty → Type 0
-Mergeable e f A B = Disjoint A B ⊎ (Value e A × Value f B × Typed [] e A × Typed [] f B × Consistent e f)
-
-mergeable-typed : {Γ : List Ty} {e f : Term} {A B : Ty} → Typed Γ e A → Typed Γ f B → Mergeable e f A B → Typed Γ (merge e f) (inter A B)
+mergeable-typed : {Γ : List Ty} {e f : Term} {A B : Ty} → Typed Γ e A → Typed Γ f B →
+    Disjoint A B ⊎ ByValues e f A B → Typed Γ (merge e f) (inter A B)
 mergeable-typed s t (inl d) = t-merge s t d
-mergeable-typed s t (inr h) = t-mergev (h .0) (h .1) (h .2) (h .3) (h .4)
+mergeable-typed s t (inr (v, w, p, q, k)) = t-mergev v w p q k
 
--- the test asks just that, of halves that have these types
-mergeable-says : {Γ : List Ty} {e f : Term} {A B : Ty} → Typed Γ e A → Typed Γ f B → T (mergeable? e f A B) ↔ Mergeable e f A B
+-- the test asks just whether one applies, of halves that have these types
+mergeable-says : {Γ : List Ty} {e f : Term} {A B : Ty} → Typed Γ e A → Typed Γ f B → T (mergeable? e f A B) ↔ (Disjoint A B ⊎ ByValues e f A B)
 unfolding mergeable? closed?
-mergeable-says {Γ} {e} {f} {A} {B} s t = (λ m. to (or-says (disjoint? A B) values? .0 m), λ h. or-says (disjoint? A B) values? .1 (from h))
+mergeable-says {Γ} {e} {f} {A} {B} s t = ((disjoint? A B, disjoint?-means A B) or (values .0, Iff·trans (values .1) (to, from))) .1
   where
-    values? : Bool
-    values? = value? (merge e f) && (closed? 0 e && closed? 0 f) && consistent? e f
+    Asked : Type 0
+    Asked = (IsValue (merge e f) × (T (closed? 0 e) × T (closed? 0 f))) × T (consistent? e f)
 
-    split : T values? ↔ (T (value? (merge e f)) × T (closed? 0 e) × T (closed? 0 f) × T (consistent? e f))
-    split = and-says (value? (merge e f)) (closed? 0 e) (closed? 0 f) (consistent? e f)
+    values : Test Asked
+    values =
+        (value? (merge e f), value?-says (merge e f))
+        and (closed? 0 (merge e f), T-and (closed? 0 e) (closed? 0 f))
+        and (consistent? e f, Iff·rfl)
 
-    halves : {C : Ty} → Value (merge e f) C → T (closed? 0 e) → T (closed? 0 f) → T (consistent? e f) → Mergeable e f A B
-    halves (v-merge v w) c d k =
-        inr (
-          rw (typed-value s v) v,
-          rw (typed-value t w) w,
-          typed-strengthen [] Γ s c,
-          typed-strengthen [] Γ t d,
-          list→consistent (consistent?-says v w .0 k),
-        )
+    to : Asked → ByValues e f A B
+    to (((C, v-merge v w), (c, d)), k) =
+        (rw (typed-value s v) v, rw (typed-value t w) w, typed-strengthen [] Γ s c, typed-strengthen [] Γ t d, consistent?-means v w .0 k)
 
-    to : T (disjoint? A B) ⊎ T values? → Mergeable e f A B
-    to (inl d) = inl (list→disjoint (disjoint?-says A B .0 d))
-    to (inr h) = let p = split .0 h in halves (value?-says (merge e f) .0 (p .0) .1) (p .1) (p .2) (p .3)
-
-    from : Mergeable e f A B → T (disjoint? A B) ⊎ T values?
-    from (inl d) = inl (disjoint?-says A B .1 (disjoint→list A B d))
-    from (inr h) =
-        inr (split .1 (
-          value?-says (merge e f) .1 (inter A B, v-merge (h .0) (h .1)),
-          typed-closed (h .2),
-          typed-closed (h .3),
-          consistent?-says (h .0) (h .1) .1 (consistent→list (h .0) (h .1) (h .4)),
-        ))
+    from : ByValues e f A B → Asked
+    from (v, w, p, q, k) = (((inter A B, v-merge v w), (typed-closed p, typed-closed q)), consistent?-means v w .1 k)
 
 infer-sound : (Γ : List Ty) (e : Term) → Gives (Typed Γ e) (infer Γ e)
 unfolding infer
@@ -149,9 +125,6 @@ infer-sound Γ (fix e A) = gives-checked 0 A A (infer-sound (A ∷ Γ) e) (λ C.
 infer-sound Γ (rcd l e) = gives-labelled l (infer-sound Γ e) (λ A. t-rcd)
 infer-sound Γ (proj l e) = gives-projected l (infer-sound Γ e) (λ A B. t-proj)
 
-below-true : {A B : Ty} → Below A B → below? A B ≡ true
-below-true {A} {B} b = is-true (below? A B) (below?-says A B .1 b)
-
 lookup-complete : {Γ : List Ty} {n : ℕ} {A : Ty} → Lookup Γ n A → lookup (getElem? Γ n) ≡ found A
 unfolding lookup
 lookup-complete here = refl
@@ -159,12 +132,12 @@ lookup-complete (there x) = lookup-complete x
 
 applied-complete : {A B C E : Ty} → Applies C A B → Below E A → applied (found C) (found E) ≡ found B
 unfolding applied checked
-applied-complete a-arrow b = rw (below-true b)
-applied-complete a-top b = rw (below-true b)
+applied-complete a-arrow b = rw (below?-true b)
+applied-complete a-top b = rw (below?-true b)
 
 projected-complete : {l : ℕ} {A B : Ty} → Projects l A B → projected l (found A) ≡ found B
 unfolding projected
-projected-complete (p-field {l}) = rw (is-true (eqb l l) (eqb-refl l))
+projected-complete (p-field {l}) = rw (eq-eqb l l refl)
 projected-complete p-top = refl
 
 infer-complete : (Γ : List Ty) (e : Term) (A : Ty) → Typed Γ e A → infer Γ e ≡ found A
@@ -172,18 +145,18 @@ unfolding infer checked labelled merged
 infer-complete Γ (var n) A (t-var x) = lookup-complete x
 infer-complete Γ (lit i) A t-lit = refl
 infer-complete Γ unit A t-unit = refl
-infer-complete Γ (anno e B) A (t-anno {A = C} t b) = rw (infer-complete Γ e C t, below-true b)
+infer-complete Γ (anno e B) A (t-anno {A = C} t b) = rw (infer-complete Γ e C t, below?-true b)
 infer-complete Γ (app e f) A (t-app {C} {E} s a t b) = rw (infer-complete Γ e C s, infer-complete Γ f E t) (applied-complete a b)
-infer-complete Γ (lam e B C) A (t-lam {C = E} t b) = rw (infer-complete (B ∷ Γ) e E t, below-true b)
+infer-complete Γ (lam e B C) A (t-lam {C = E} t b) = rw (infer-complete (B ∷ Γ) e E t, below?-true b)
 infer-complete Γ (merge e f) A (t-merge {A = B} {B = C} s t d) =
-    rw (infer-complete Γ e B s, infer-complete Γ f C t, is-true (mergeable? e f B C) (mergeable-says s t .1 (inl d)))
+    rw (infer-complete Γ e B s, infer-complete Γ f C t, T-true {b = mergeable? e f B C} (mergeable-says s t) (inl d))
 infer-complete Γ (merge e f) A (t-mergev {A = B} {B = C} v w s t k) =
     rw (
       infer-complete Γ e B (typed-weaken s Γ),
       infer-complete Γ f C (typed-weaken t Γ),
-      is-true (mergeable? e f B C) (mergeable-says s t .1 (inr (v, w, s, t, k))),
+      T-true {b = mergeable? e f B C} (mergeable-says s t) (inr (v, w, s, t, k)),
     )
-infer-complete Γ (fix e B) A (t-fix {B = C} t b) = rw (infer-complete (B ∷ Γ) e C t, below-true b)
+infer-complete Γ (fix e B) A (t-fix {B = C} t b) = rw (infer-complete (B ∷ Γ) e C t, below?-true b)
 infer-complete Γ (rcd l e) A (t-rcd {A = B} t) = rw (infer-complete Γ e B t)
 infer-complete Γ (proj l e) A (t-proj {A = B} t p) = rw (infer-complete Γ e B t) (projected-complete p)
 

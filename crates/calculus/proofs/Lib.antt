@@ -1,3 +1,5 @@
+pub mod Facts
+pub mod Bools
 pub mod Subtyping
 pub mod Disjointness
 pub mod Runtime
@@ -10,4 +12,3 @@ pub mod Soundness
 pub mod Chain
 pub mod Inference
 pub mod Evaluation
-pub mod Facts

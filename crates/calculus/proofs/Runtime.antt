@@ -2,14 +2,13 @@
 use Prim.Native.Nat.{ℕ}
 use mathlib.Core.Path.{_≡_, refl, ap, ap₂, fun-ext, sym}
 use mathlib.Core.Bool.{_&&_}
-use lib.Dec.{T}
 use Rattle.calculus.specs.Syntax.{Ty, top, arrow, inter, field}
 use Rattle.calculus.specs.Subtyping.{TopLike, Below, b-top, b-left, b-right, b-both, b-arrow, b-field}
 use Rattle.calculus.specs.Disjointness.{Disjoint}
 use Rattle.calculus.specs.Decide.{disjoint?, disjointArrow, disjointField}
 use Rattle.calculus.proofs.Subtyping.{topLike-above, below-refl, below-trans}
-use Rattle.calculus.proofs.Disjointness.{disjoint-sym, list→disjoint, disjoint→list}
-use Rattle.calculus.proofs.Decisions.{topLike?-says, disjoint?-says, disjoint?-topLike-left}
+use Rattle.calculus.proofs.Disjointness.{disjoint-sym, disjoint?-means}
+use Rattle.calculus.proofs.Decisions.{topLike?-says, disjoint?-topLike-left}
 
 pub data Runtime : Ty → Ty → Type 0 where
   -- RSUB-Z
@@ -60,9 +59,7 @@ runtime-disjoint? (r-inter r s) = ap₂ (λ f g B. f B && g B) (runtime-disjoint
 runtime-disjoint? (r-field {l} r) = ap (disjointField l) (runtime-disjoint? r)
 
 runtime-disjoint-left : {A A′ B : Ty} → Runtime A A′ → Disjoint A′ B → Disjoint A B
-runtime-disjoint-left {A} {A′} {B} r d =
-    let passed : T (disjoint? A B) = rw (runtime-disjoint? r) (disjoint?-says A′ B .1 (disjoint→list A′ B d)) in
-    list→disjoint (disjoint?-says A B .0 passed)
+runtime-disjoint-left {A} {A′} {B} r d = disjoint?-means A B .0 (rw (runtime-disjoint? r) (disjoint?-means A′ B .1 d))
 
 -- a runtime subtype is disjoint with what the type is disjoint with, on both sides at once
 pub runtime-disjoint : {A A′ B B′ : Ty} → Runtime A A′ → Runtime B B′ → Disjoint A′ B′ → Disjoint A B

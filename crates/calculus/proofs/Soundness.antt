@@ -4,9 +4,9 @@ use Prim.Native.Nat.{ℕ, _<_, _+_}
 use native.Mathlib.Omega.{arith}
 use mathlib.Core.Path.{_≡_, refl, sym, ap, subst}
 use mathlib.Core.Logic.{_⊎_, inl, inr, _≢_}
-use mathlib.Core.Bool.{Bool, true, false, cond}
+use mathlib.Core.Bool.{cond}
 use mathlib.Core.List.{List, [], _∷_, _++_}
-use lib.Dec.{T, eqb, eqb→eq, eqb-refl}
+use lib.Dec.{eqb}
 use lib.ListN.{length, length-append}
 use Rattle.calculus.specs.Syntax.{Ty, int, top, inter, field}
 use Rattle.calculus.specs.Syntax.{Term, var, unit, anno, app, merge, rcd, proj, put}
@@ -19,6 +19,7 @@ use Rattle.calculus.specs.Typing.{Lookup, here, there, Applies, a-arrow,
 use Rattle.calculus.specs.Typing.{t-unit, t-lit, t-var, t-anno, t-app, t-lam, t-merge, t-mergev, t-fix, t-rcd, t-proj}
 use Rattle.calculus.specs.Step.{Step, s-app-left, s-app-right, s-merge-left, s-merge-right, s-anno, s-rcd, s-proj}
 use Rattle.calculus.specs.Step.{s-cast, s-beta, s-app-unit, s-proj-unit, s-proj-rcd, s-fix}
+use Rattle.calculus.proofs.Bools.{by-test, eqb-says}
 use Rattle.calculus.proofs.Subtyping.{below-refl, below-trans}
 use Rattle.calculus.proofs.Disjointness.{disjoint→list}
 use Rattle.calculus.proofs.Runtime.{Runtime, r-refl, r-top, r-arrow, r-inter, r-field, runtime-below, runtime-disjoint}
@@ -133,10 +134,10 @@ lookup-last (C ∷ Δ) (there l) e = lookup-last Δ l (omega arith)
 
 -- the variable case: the variable that goes, or another
 put-var : (Δ : List Ty) {n : ℕ} {s : Term} {A B B′ : Ty} → Lookup (Δ ++ (B ∷ [])) n A → Typed [] s B′ → Runtime B′ B
-    → (b : Bool) → eqb n (length Δ) ≡ b → (A′ : Ty) × Typed Δ (cond b s (var n)) A′ × Runtime A′ A
-put-var Δ {n} {B′} l s r true e = (B′, typed-weaken s Δ, rw (lookup-last Δ l (eqb→eq n (length Δ) (rw e tt))) r)
-put-var Δ {n} {A} {B} l s r false e =
-    let other : n ≢ length Δ = λ p. let h : T (eqb n (length Δ)) = rw (← p) (eqb-refl n) in rw e at h in
+    → Refines Δ (cond (eqb n (length Δ)) s (var n)) A
+put-var Δ {n} {A} {B} {B′} l s r =
+    by-test (λ e. Refines Δ e A) (eqb n (length Δ)) (λ t. (B′, typed-weaken s Δ, rw (lookup-last Δ l (eqb-says n (length Δ) .0 t)) r)) λ f.
+    let other : n ≢ length Δ = λ p. f (eqb-says n (length Δ) .1 p) in
     let within : n < length Δ + 1 = rw (length-append Δ (B ∷ [])) at (lookup-within l) in
     (A, t-var (lookup-strengthen Δ (B ∷ []) n l (omega arith)), r-refl)
 
@@ -146,7 +147,7 @@ pub put-typed : (Δ : List Ty) {e s : Term} {A B B′ : Ty} → Typed (Δ ++ (B 
 unfolding put
 put-typed Δ t-unit s r = exact t-unit
 put-typed Δ t-lit s r = exact t-lit
-put-typed Δ (t-var {n} l) s r = put-var Δ l s r (eqb n (length Δ)) refl
+put-typed Δ (t-var l) s r = put-var Δ l s r
 put-typed Δ (t-anno t b) s r = refine-anno (put-typed Δ t s r) b
 put-typed Δ (t-app t a u b) s r = refine-app (put-typed Δ t s r) a (put-typed Δ u s r) b
 put-typed Δ (t-lam {A} t b) s r = let h = put-typed (A ∷ Δ) t s r in exact (t-lam (h .1) (refine-below (h .2) b))

@@ -3,35 +3,14 @@
 use Prim.Native.Nat.{ℕ, zero, suc, _+_, _≤_}
 use native.Mathlib.Omega.{arith}
 use mathlib.Core.Path.{_≡_, refl, subst, ap}
-use mathlib.Core.Logic.{_↔_, _⊎_, inl, inr, _≢_, Iff·rfl, Iff·trans, Dec·of-iff}
+use mathlib.Core.Logic.{_↔_, _⊎_, inl, inr, _≢_, Iff·rfl, Iff·trans}
 use mathlib.Core.Bool.{Bool, true, false, not, _&&_, _||_}
-use lib.Dec.{T, T-not, eqb, eqb→eq, eqb-refl}
+use lib.Dec.{T, T-not, eqb}
 use Rattle.calculus.specs.Syntax.{Ty, int, top, arrow, inter, field, size-type}
 use Rattle.calculus.specs.Subtyping.{TopLike, Ordinary, Below, b-int, b-top, b-left, b-right, b-both, b-arrow, b-field}
 use Rattle.calculus.specs.Disjointness.{Head, number, function, record-type, HasHead, h-int, h-arrow, h-field}
 use Rattle.calculus.specs.Decide.{topLike?, belowWithin, below?}
-
--- Tests that say something: they are decisions, two that say the same are equal; of both, of either, of equal numbers.
-pub T-dec : (x : Bool) → Dec (T x)
-T-dec true = yes tt
-T-dec false = no (λ t. t)
-
-pub T-same : {x y : Bool} {P : Type 0} → T x ↔ P → T y ↔ P → x ≡ y
-T-same {x = true} {y = true} f g = refl
-T-same {x = true} {y = false} f g = absurd (g .1 (f .0 tt))
-T-same {x = false} {y = true} f g = absurd (f .1 (g .0 tt))
-T-same {x = false} {y = false} f g = refl
-
-pub and-says : {P Q : Type 0} (x y : Bool) → T x ↔ P → T y ↔ Q → T (x && y) ↔ (P × Q)
-and-says true y f g = (λ t. (f .0 tt, g .0 t), λ p. g .1 (p .1))
-and-says false y f g = (λ t. absurd t, λ p. f .1 (p .0))
-
-pub or-says : {P Q : Type 0} (x y : Bool) → T x ↔ P → T y ↔ Q → T (x || y) ↔ (P ⊎ Q)
-or-says true y f g = (λ t. inl (f .0 tt), λ s. tt)
-or-says false y f g = (λ t. inr (g .0 t), elim [ inl p ↦ absurd (f .1 p) | inr q ↦ g .1 q ])
-
-pub eqb-says : (m n : ℕ) → T (eqb m n) ↔ (m ≡ n)
-eqb-says m n = (eqb→eq m n, λ p. subst (λ (k : ℕ). T (eqb m k)) p (eqb-refl m))
+use Rattle.calculus.proofs.Bools.{T-dec, and-says, or-says, eqb-says}
 
 -- The test for top-like types.
 pub topLike?-says : (A : Ty) → T (topLike? A) ↔ TopLike A
@@ -43,7 +22,7 @@ topLike?-says (inter A B) = and-says (topLike? A) (topLike? B) (topLike?-says A)
 topLike?-says (field l A) = topLike?-says A
 
 pub topLike-dec : (A : Ty) → Dec (TopLike A)
-topLike-dec A = Dec·of-iff (topLike?-says A) (T-dec (topLike? A))
+topLike-dec A = T-dec (topLike? A) (topLike?-says A)
 
 -- a type above a top-like one is top-like
 pub topLike-above : {A B : Ty} → TopLike A → Below A B → TopLike B
@@ -223,4 +202,4 @@ unfolding below?
 below?-says A B = belowWithin-says (size-type A + size-type B) A B (omega arith)
 
 pub below-dec : (A B : Ty) → Dec (Below A B)
-below-dec A B = Dec·of-iff (below?-says A B) (T-dec (below? A B))
+below-dec A B = T-dec (below? A B) (below?-says A B)

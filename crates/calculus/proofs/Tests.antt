@@ -1,22 +1,23 @@
 -- The executable tests and readings of values answer exactly what the relations say; and the equations by which the tests and
 -- readings compute on merges. Assumes nothing.
 use Prim.Native.Nat.{ℕ}
-use mathlib.Core.Path.{_≡_, refl, sym, _∙_, ap₂}
-use mathlib.Core.Logic.{_↔_, by-cases}
-use mathlib.Core.Bool.{Bool, true, false, _&&_, and-false, cond}
-use mathlib.Core.Option.{Option, none, some, IsSome, get, some-get}
-use lib.Dec.{T, eqb, eqb-refl, not-T}
-use lib.Ieee.Bits.{is-true, is-false}
+use mathlib.Core.Path.{_≡_, refl, _∙_, ap₂}
+use mathlib.Core.Logic.{_↔_, Iff·trans, by-cases}
+use mathlib.Core.Bool.{Bool, _&&_, cond}
+use mathlib.Core.Option.{Option, none, some}
+use borrow.Author.Tests.{eq-eqb}
+use lib.Dec.{T, eqb}
 use Rattle.calculus.specs.Syntax.{Ty, int, top, arrow, inter, field, Term, var, lit, unit, anno, app, lam, merge, fix, rcd, proj}
 use Rattle.calculus.specs.Syntax.{Value, v-lit, v-unit, v-lam, v-merge, v-rcd, IsValue}
 use Rattle.calculus.specs.Subtyping.{TopLike, Ordinary}
 use Rattle.calculus.specs.TypedReduction.{Cast, c-lit, c-top, c-arrow, c-rcd, c-left, c-right, c-both}
 use Rattle.calculus.specs.Consistency.{Consistent, ConsistentByList}
-use Rattle.calculus.specs.Decide.{topLike?, below?, value?, consistent?, eachPart}
+use Rattle.calculus.specs.Decide.{below?, value?, consistent?, eachPart}
 use Rattle.calculus.specs.Evaluate.{within, orElse, mergeBoth, firstPart, castInt, castArrow, castField, cast}
+use Rattle.calculus.proofs.Bools.{T-same, by-test, and-says, T-and, and-exchange, eqb-says}
 use Rattle.calculus.proofs.Subtyping.{topLike-dec}
-use Rattle.calculus.proofs.Decisions.{topLike?-says, below?-says}
-use Rattle.calculus.proofs.Consistency.{T-and, eqb-says, between, list→consistent, consistent-sym}
+use Rattle.calculus.proofs.Decisions.{below?-says, topLike?-true, topLike?-false, below?-true}
+use Rattle.calculus.proofs.Consistency.{between, list→consistent, consistent-sym}
 pub use Rattle.calculus.proofs.Consistency.{sameTerm-says, sameType-says}
 
 value?-sound : (e : Term) → T (value? e) → IsValue e
@@ -53,12 +54,6 @@ consistent?-says v w = (between v w .listed, λ k. between v w .passes (list→c
 -- the same of the specification
 pub consistent?-means : {v w : Term} {A B : Ty} → Value v A → Value w B → T (consistent? v w) ↔ Consistent v w
 consistent?-means v w = (λ t. list→consistent (between v w .listed t), between v w .passes)
-
-topLike?-true : (A : Ty) → TopLike A → topLike? A ≡ true
-topLike?-true A t = is-true (topLike? A) (topLike?-says A .1 t)
-
-topLike?-false : (A : Ty) → ¬ TopLike A → topLike? A ≡ false
-topLike?-false A n = is-false (topLike? A) (not-T (topLike? A) (λ t. n (topLike?-says A .0 t)))
 
 -- cast, by the head of the type
 pub cast-top : (A : Ty) (v : Term) → Ordinary A → TopLike A → cast A v ≡ some unit
@@ -111,9 +106,8 @@ unfolding mergeBoth
 answers-both nothing s = nothing
 answers-both (answer {e} c) s = answers-within (merge e) s (λ f d. c-both c d)
 
-answers-if : {P : Term → Type 0} {r : Option Term} (b : Bool) → (T b → Answers P r) → Answers P (cond b r none)
-answers-if true k = k tt
-answers-if false k = nothing
+pub answers-if : {P : Term → Type 0} {r : Option Term} (b : Bool) → (T b → Answers P r) → Answers P (cond b r none)
+answers-if {P} b k = by-test (Answers P) b k (λ n. nothing)
 
 -- what f answers to a value is a reading under A
 abbrev pub Reads : Ty → (Term → Option Term) → Type 0
@@ -140,8 +134,7 @@ unfolding castArrow
 arrow-reads C D n v B v-lit = nothing
 arrow-reads C D n v B v-unit = nothing
 arrow-reads C D n v E (v-lam {A} {B}) = answers-if (below? C A && below? B D) λ t.
-    let (b, d) = T-and (below? C A) (below? B D) .0 t in
-    answer (c-arrow n (below?-says C A .0 b) (below?-says B D .0 d))
+    let (b, d) = and-says (below? C A) (below? B D) (below?-says C A) (below?-says B D) .0 t in answer (c-arrow n b d)
 arrow-reads C D n v B (v-merge u w) = nothing
 arrow-reads C D n v B (v-rcd u) = nothing
 
@@ -155,77 +148,71 @@ field-reads l A n f k v B (v-rcd {l = m} w) = answers-if (eqb l m) λ t.
     let e : l ≡ m = eqb-says l m .0 t in
     rw (← e) (answers-within (rcd l) (k _ _ w) (λ x. c-rcd n))
 
+-- under an ordinary type, cast reads the parts by f unless the type is top-like
+ordinary-reads : (A : Ty) → Ordinary A → (f : Term → Option Term) → ((v : Term) → ¬ TopLike A → cast A v ≡ firstPart f v) →
+    (¬ TopLike A → Reads A f) → Reads A (cast A)
+ordinary-reads A o f e k v B w =
+    by-cases (topLike-dec A) (λ t. rw (cast-top A v o t) (answer (c-top w o t))) (λ n. rw (e v n) (parts-read o f (k n) v B w))
+
 -- what cast answers is a reading, and it answers wherever there is one
 pub cast-reads : (A : Ty) → Reads A (cast A)
 unfolding cast
-cast-reads int v B w = parts-read tt castInt int-reads v B w
-cast-reads top v B w = answer (c-top w tt tt)
-cast-reads (arrow C D) v B w =
-    by-cases (topLike-dec D) (λ t. rw (cast-top (arrow C D) v tt t) (answer (c-top w tt t)))
-    (λ n. rw (cast-arrow C D v n) (parts-read tt (castArrow C D) (arrow-reads C D n) v B w))
-cast-reads (inter A B) v C w = answers-both (cast-reads A v C w) (cast-reads B v C w)
-cast-reads (field l A) v B w =
-    by-cases (topLike-dec A) (λ t. rw (cast-top (field l A) v tt t) (answer (c-top w tt t)))
-    (λ n. rw (cast-field l A v n) (parts-read tt (castField l (cast A)) (field-reads l A n (cast A) (cast-reads A)) v B w))
+cast-reads int = parts-read tt castInt int-reads
+cast-reads top = λ v B w. answer (c-top w tt tt)
+cast-reads (arrow C D) = ordinary-reads (arrow C D) tt (castArrow C D) (cast-arrow C D) (arrow-reads C D)
+cast-reads (inter A B) = λ v C w. answers-both (cast-reads A v C w) (cast-reads B v C w)
+cast-reads (field l A) =
+    ordinary-reads (field l A) tt (castField l (cast A)) (cast-field l A) (λ n. field-reads l A n (cast A) (cast-reads A))
 
 pub cast-sound : {v x : Term} {A B : Ty} → Value v B → cast A v ≡ some x → Cast v A x
 cast-sound {v} {A} {B} w e = answers-some (rw e at (cast-reads A v B w))
 
-some-within : (f : Term → Term) (r : Option Term) → IsSome r → IsSome (within f r)
+-- there is an answer
+pub data Answered : Option Term → Type 0 where
+  answered : {e : Term} → Answered (some e)
+
+pub the-answer : {r : Option Term} → Answered r → (e : Term) × (r ≡ some e)
+the-answer (answered {e}) = (e, refl)
+
+pub some-within : {r : Option Term} (f : Term → Term) → Answered r → Answered (within f r)
 unfolding within
-some-within f none h = h
-some-within f (some e) h = h
+some-within f answered = answered
 
-some-left : (r s : Option Term) → IsSome r → IsSome (orElse r s)
+some-left : {r : Option Term} (s : Option Term) → Answered r → Answered (orElse r s)
 unfolding orElse
-some-left none s h = absurd h
-some-left (some e) s h = h
+some-left s answered = answered
 
-some-right : (r s : Option Term) → IsSome s → IsSome (orElse r s)
+some-right : (r : Option Term) {s : Option Term} → Answered s → Answered (orElse r s)
 unfolding orElse
-some-right none s h = h
-some-right (some e) s h = tt
+some-right none h = h
+some-right (some e) h = answered
 
-some-both : (r s : Option Term) → IsSome r → IsSome s → IsSome (mergeBoth r s)
+some-both : {r s : Option Term} → Answered r → Answered s → Answered (mergeBoth r s)
 unfolding mergeBoth
-some-both none s h k = h
-some-both (some e) s h k = some-within (merge e) s k
+some-both (answered {e}) h = some-within (merge e) h
 
 -- the reading of a merge from one half
-some-merge : (v w : Term) (A : Ty) → Ordinary A → IsSome (orElse (cast A v) (cast A w)) → IsSome (cast A (merge v w))
-some-merge v w A o h = by-cases (topLike-dec A) (λ t. rw (cast-top A (merge v w) o t) tt) (λ n. rw (cast-merge A v w o n) h)
+some-merge : (v w : Term) (A : Ty) → Ordinary A → Answered (orElse (cast A v) (cast A w)) → Answered (cast A (merge v w))
+some-merge v w A o h =
+    by-cases (topLike-dec A) (λ t. rw (cast-top A (merge v w) o t) answered) (λ n. rw (cast-merge A v w o n) h)
 
-cast-some : {v x : Term} {A : Ty} → Cast v A x → IsSome (cast A v)
+pub cast-some : {v x : Term} {A : Ty} → Cast v A x → Answered (cast A v)
 unfolding cast firstPart castInt castArrow castField
-cast-some c-lit = tt
-cast-some {v} {A} (c-top w o t) = rw (cast-top A v o t) tt
-cast-some {v} (c-arrow {A} {B} {C} {D} n b d) =
-    rw (cast-arrow C D v n, is-true (below? C A) (below?-says C A .1 b), is-true (below? B D) (below?-says B D .1 d)) tt
-cast-some (c-rcd {l} {v} {A} n c) = rw (cast-field l A (rcd l v) n, is-true (eqb l l) (eqb-refl l)) (some-within (rcd l) (cast A v) (cast-some c))
-cast-some (c-left {v} {w} {A} u o c) = some-merge v w A o (some-left (cast A v) (cast A w) (cast-some c))
-cast-some (c-right {v} {w} {A} u o c) = some-merge v w A o (some-right (cast A v) (cast A w) (cast-some c))
-cast-some (c-both {v} {A} {B} c d) = some-both (cast A v) (cast B v) (cast-some c) (cast-some d)
+cast-some c-lit = answered
+cast-some {v} {A} (c-top w o t) = rw (cast-top A v o t) answered
+cast-some {v} (c-arrow {C} {D} n b d) = rw (cast-arrow C D v n, below?-true b, below?-true d) answered
+cast-some (c-rcd {l} {v} {A} n c) = rw (cast-field l A (rcd l v) n, eq-eqb l l refl) (some-within (rcd l) (cast-some c))
+cast-some (c-left {v} {w} {A} u o c) = some-merge v w A o (some-left (cast A w) (cast-some c))
+cast-some (c-right {v} {w} {A} u o c) = some-merge v w A o (some-right (cast A v) (cast-some c))
+cast-some (c-both c d) = some-both (cast-some c) (cast-some d)
 
 pub cast-complete : {v x : Term} {A : Ty} → Cast v A x → (y : Term) × (cast A v ≡ some y)
-cast-complete {v} {A} c = (get (cast A v) (cast-some c), sym (some-get (cast-some c)))
+cast-complete c = the-answer (cast-some c)
 
 -- Laws of the tests.
 
--- two tests that pass alike are equal
-T-ext : (a b : Bool) → T a ↔ T b → a ≡ b
-T-ext true b e = sym (is-true b (e .0 tt))
-T-ext false b e = sym (is-false b (not-T b (e .1)))
-
 pub consistent?-sym : {v w : Term} {A B : Ty} → Value v A → Value w B → consistent? v w ≡ consistent? w v
-consistent?-sym {v} {w} a b = T-ext (consistent? v w) (consistent? w v) (swap a b, swap b a)
-  where
-    swap : {x y : Term} {A B : Ty} → Value x A → Value y B → T (consistent? x y) → T (consistent? y x)
-    swap x y t = consistent?-means y x .1 (consistent-sym (consistent?-means x y .0 t))
-
-and-exchange : (a b c d : Bool) → (a && b && (c && d)) ≡ (a && c && (b && d))
-and-exchange false b c d = refl
-and-exchange true true c d = refl
-and-exchange true false c d = sym (and-false c)
+consistent?-sym a b = T-same (consistent?-means a b) (Iff·trans (consistent?-means b a) (consistent-sym, consistent-sym))
 
 pub consistent?-merge-right : {v : Term} {A : Ty} → Value v A → (w u : Term) → consistent? v (merge w u) ≡ (consistent? v w && consistent? v u)
 unfolding consistent? eachPart

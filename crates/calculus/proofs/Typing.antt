@@ -3,7 +3,7 @@ use Prim.Native.Nat.{ℕ, suc, _≤_, _<_}
 use native.Mathlib.Omega.{arith}
 use mathlib.Core.Path.{_≡_, refl, sym, ap, ap₂}
 use mathlib.Core.Logic.{_↔_}
-use mathlib.Core.Bool.{Bool, true, false, _&&_, cond}
+use mathlib.Core.Bool.{_&&_}
 use mathlib.Core.List.{List, [], _∷_, _++_}
 use lib.Dec.{T, eqb, ltb→lt, lt→ltb, eqb→eq}
 use lib.ListN.{length}
@@ -13,6 +13,7 @@ use Rattle.calculus.specs.Syntax.{Value, v-lit, v-unit, v-lam, v-merge, 
 use Rattle.calculus.specs.Decide.{closed?}
 use Rattle.calculus.specs.Typing.{Lookup, here, there, Applies, a-arrow, a-top, Projects, p-field, p-top, Finds, Typed, TypedByList}
 use Rattle.calculus.specs.Typing.{t-unit, t-lit, t-var, t-anno, t-app, t-lam, t-merge, t-mergev, t-fix, t-rcd, t-proj}
+use Rattle.calculus.proofs.Bools.{T-and, by-test}
 use Rattle.calculus.proofs.Disjointness.{list→disjoint, disjoint→list}
 use Rattle.calculus.proofs.TypedReduction.{value-unique}
 use Rattle.calculus.proofs.Consistency.{list→consistent, consistent→list}
@@ -53,17 +54,13 @@ pub lookup-unique : {Γ : List Ty} {n : ℕ} {A B : Ty} → Lookup Γ n A → Lo
 lookup-unique here here = refl
 lookup-unique (there l) (there m) = lookup-unique l m
 
-applies-unique : {A B C D E F : Ty} → Applies A C D → Applies B E F → A ≡ B → D ≡ F
-applies-unique a-arrow a-arrow e = cc
-applies-unique a-arrow a-top e = cc
-applies-unique a-top a-arrow e = cc
-applies-unique a-top a-top e = refl
+applies-unique : {A B C D E : Ty} → Applies A B C → Applies A D E → C ≡ E
+applies-unique a-arrow a-arrow = refl
+applies-unique a-top a-top = refl
 
-projects-unique : {l : ℕ} {A B C D : Ty} → Projects l A C → Projects l B D → A ≡ B → C ≡ D
-projects-unique p-field p-field e = cc
-projects-unique p-field p-top e = cc
-projects-unique p-top p-field e = cc
-projects-unique p-top p-top e = refl
+projects-unique : {l : ℕ} {A B C : Ty} → Projects l A B → Projects l A C → B ≡ C
+projects-unique p-field p-field = refl
+projects-unique p-top p-top = refl
 
 -- 4.2
 pub typed-unique : {Γ : List Ty} {e : Term} {A B : Ty} → Typed Γ e A → Typed Γ e B → A ≡ B
@@ -71,7 +68,7 @@ typed-unique t-unit t-unit = refl
 typed-unique t-lit t-lit = refl
 typed-unique (t-var l) (t-var m) = lookup-unique l m
 typed-unique (t-anno s b) (t-anno t c) = refl
-typed-unique (t-app s a s′ b) (t-app t c t′ d) = applies-unique a c (typed-unique s t)
+typed-unique (t-app s a s′ b) (t-app t c t′ d) = applies-unique (rw (typed-unique s t) at a) c
 typed-unique (t-lam s b) (t-lam t c) = refl
 typed-unique (t-merge s s′ d) (t-merge t t′ e) = ap₂ inter (typed-unique s t) (typed-unique s′ t′)
 typed-unique (t-merge s s′ d) (t-mergev v w t t′ k) = ap₂ inter (typed-value s v) (typed-value s′ w)
@@ -79,15 +76,11 @@ typed-unique (t-mergev v w s s′ k) (t-merge t t′ e) = ap₂ inter (sym (type
 typed-unique (t-mergev v w s s′ k) (t-mergev p q t t′ m) = ap₂ inter (value-unique v p) (value-unique w q)
 typed-unique (t-fix s b) (t-fix t c) = refl
 typed-unique (t-rcd {l} s) (t-rcd t) = ap (field l) (typed-unique s t)
-typed-unique (t-proj s a) (t-proj t c) = projects-unique a c (typed-unique s t)
-
-pub T-both : (a b : Bool) → T (a && b) ↔ (T a × T b)
-T-both true b = (λ t. (tt, t), λ t. t .1)
-T-both false b = (λ t. absurd t, λ t. t .0)
+typed-unique (t-proj s a) (t-proj t c) = projects-unique (rw (typed-unique s t) at a) c
 
 -- two parts of one term
-pub closed-both : (k : ℕ) (e f : Term) → T (closed? k e && closed? k f) ↔ (T (closed? k e) × T (closed? k f))
-closed-both k e f = T-both (closed? k e) (closed? k f)
+closed-both : (k : ℕ) (e f : Term) → T (closed? k e && closed? k f) ↔ (T (closed? k e) × T (closed? k f))
+closed-both k e f = T-and (closed? k e) (closed? k f)
 
 -- closed below k, and below all that is more
 pub closed-more : (j k : ℕ) (e : Term) → j ≤ k → T (closed? j e) → T (closed? k e)
@@ -167,11 +160,8 @@ typed-strengthen Δ Γ (t-proj t p) c = t-proj (typed-strengthen Δ Γ t c) p
 -- nothing is put into a closed term
 pub put-closed : (k : ℕ) (s e : Term) → T (closed? k e) → put k s e ≡ e
 unfolding put closed?
-put-closed k s (var n) c = go (eqb n k) refl
-  where
-    go : (b : Bool) → eqb n k ≡ b → cond b s (var n) ≡ var n
-    go true h = let m : n < k = ltb→lt n k c in let e : n ≡ k = eqb→eq n k (rw h tt) in absurd (omega arith)
-    go false h = refl
+put-closed k s (var n) c =
+    by-test (λ e. e ≡ var n) (eqb n k) (λ t. absurd (omega (arith, eqb→eq n k t, ltb→lt n k c))) (λ f. refl)
 put-closed k s (lit i) c = refl
 put-closed k s unit c = refl
 put-closed k s (anno e A) c = rw (put-closed k s e c)

@@ -5,17 +5,17 @@ use native.Mathlib.Nat.{add-zero, add-assoc}
 use native.Mathlib.Decide.{decLt}
 use native.Mathlib.Omega.{arith}
 use mathlib.Core.Path.{_≡_, refl, sym, _∙_}
-use mathlib.Core.Bool.{Bool, true, false}
+use mathlib.Core.Bool.{true}
 use mathlib.Core.Option.{none, some}
 use mathlib.Core.List.{List, [], _∷_, _++_, append-assoc}
-use lib.Dec.{T, ltb, lt→ltb}
 use lib.ListN.{length, length-append}
 use lib.Seq.{getD-append-add}
-use Rattle.format.specs.Table.{Sort, type-sort, term-sort, Use, unused, plain, refers, Row, rowOf}
+use Rattle.format.specs.Table.{Sort, Use, unused, plain, refers, Row, rowOf}
 use Rattle.format.specs.Cell.{IsBytes, byte, pair, Cell, cellAt, cellBytes}
 use Rattle.format.specs.Tree.{Tree, raw, node, cells, branch, grow, treeAt, refer, lay}
-use Rattle.format.specs.Book.{unnamedOk, referenceOk, sortIs, hasSort, sortOk, everyField, firstBad, rowFault, cellFault}
-use Rattle.format.proofs.Opening.{treeAt-grow}
+use Rattle.format.specs.Book.{hasSort, cellFault}
+use Rattle.format.proofs.Opening.{branch-lower, treeAt-grow}
+use Rattle.format.proofs.Tests.{sortIs-says, FieldOk, cellFault-says}
 
 -- a number below n in a field that refers to nothing
 pub data Number (n : ℕ) : Use → ℕ → Type 0 where
@@ -78,29 +78,6 @@ length-lay m (node k l a b c) =
     let ec = length-lay (m + cells a + cells b) c in
     simp length-append (omega arith)
 
--- One field passes the tests 6 to 8 of cell i.
-pub record Passes (s : List ℕ) (i : ℕ) (u : Use) (x : ℕ) : Type 0 where
-  pub named : unnamedOk u x ≡ true
-  pub lower : referenceOk i u x ≡ true
-  pub sorted : sortOk s u x ≡ true
-
-every : (q : Use → ℕ → Bool) (r : Row) (t : Cell) → q (r .label) (t .label) ≡ true → q (r .a) (t .a) ≡ true
-    → q (r .b) (t .b) ≡ true → q (r .c) (t .c) ≡ true → everyField q r t ≡ true
-every q r t hl ha hb hc = rw (hl, ha, hb, hc)
-
--- a cell of a known kind whose fields pass has no fault
-cell-sound : {s : List ℕ} {i : ℕ} (t : Cell) (r : Row) → cellAt s i ≡ t → rowOf (t .kind) ≡ some r → Passes s i (r .label) (t .label)
-    → Passes s i (r .a) (t .a) → Passes s i (r .b) (t .b) → Passes s i (r .c) (t .c) → cellFault s i ≡ none
-unfolding cellFault rowFault firstBad
-cell-sound {s} {i} t r e f pl pa pb pc =
-    rw (
-      e,
-      f,
-      every unnamedOk r t (pl .named) (pa .named) (pb .named) (pc .named),
-      every (referenceOk i) r t (pl .lower) (pa .lower) (pb .lower) (pc .lower),
-      every (sortOk s) r t (pl .sorted) (pa .sorted) (pb .sorted) (pc .sorted),
-    )
-
 -- No cell from m on and before n has a fault.
 abbrev pub Sound : List ℕ → ℕ → ℕ → Type 0
 Sound s m n = (i : ℕ) → m ≤ i → i < n → cellFault s i ≡ none
@@ -110,30 +87,18 @@ sound-join s m x n f g i l h = elim (decLt i x) [ yes p ↦ f i l p | no p ↦ g
 
 -- What holds of a good tree of use u that stands in s from cell m on; i is any cell behind it.
 pub record Laid (s : List ℕ) (m : ℕ) (u : Use) (t : Tree) : Type 0 where
-  pub passes : (i : ℕ) → m + cells t ≤ i → Passes s i u (refer m t)
+  pub passes : (i : ℕ) → m + cells t ≤ i → FieldOk s i u (refer m t)
   pub opens : (i : ℕ) → m + cells t ≤ i → branch (treeAt s) i u (refer m t) ≡ t
   pub sound : Sound s m (m + cells t)
 
-number-passes : {s : List ℕ} {i n : ℕ} {u : Use} {x : ℕ} → Number n u x → Passes s i u x
-number-passes blank = record { named = refl; lower = refl; sorted = refl }
-number-passes (number h) = record { named = refl; lower = refl; sorted = refl }
+number-passes : (s : List ℕ) (i : ℕ) {n : ℕ} {u : Use} {x : ℕ} → Number n u x → FieldOk s i u x
+number-passes s i blank = refl
+number-passes s i (number h) = tt
 
 number-branch : (g : ℕ → Tree) (i : ℕ) {n : ℕ} {u : Use} {x : ℕ} → Number n u x → branch g i u x ≡ raw x
 unfolding branch
 number-branch g i blank = refl
 number-branch g i (number h) = refl
-
-is-true : (b : Bool) → T b → b ≡ true
-is-true true t = refl
-is-true false t = absurd t
-
-own-sort : (s : Sort) (r : Row) → r .sort ≡ s → sortIs s (some r) ≡ true
-own-sort type-sort r h = rw h
-own-sort term-sort r h = rw h
-
-lower-branch : (g : ℕ → Tree) (i x : ℕ) (s : Sort) → ltb x i ≡ true → branch g i (refers s) x ≡ g x
-unfolding branch
-lower-branch g i x s h = rw (h, branch)
 
 -- the step of `laid`: the three fields are laid down one after the other, and then the cell
 laid-cell : {s : List ℕ} {m k l : ℕ} {a b c : Tree} {so : Sort} {r : Row} → rowOf k ≡ some r → r .sort ≡ so → Number 256 (r .label) l
@@ -147,28 +112,32 @@ unfolding cells refer grow
 laid-cell {s} {m} {k} {l} {a} {b} {c} {so} {r} e f hl la lb lc q =
     let n = refer m (node k l a b c) in
     record {
-      passes = λ i h. record { named = refl; lower = lower′ i h; sorted = rw (q, e) (own-sort so r f) };
-      opens = λ i h. lower-branch (treeAt s) i n so (lower′ i h)
+      passes = λ i h. (omega arith, rw (q, e) (sortIs-says so r .1 f));
+      opens = λ i h. branch-lower (treeAt s) i n so (omega arith)
           ∙ treeAt-grow s n
           ∙ rw (q, e, la .opens n (omega arith), lb .opens n (omega arith), lc .opens n (omega arith));
       sound = sound-join s m (m + cells a) _ (la .sound)
           (sound-join s (m + cells a) (m + cells a + cells b) _ (lb .sound)
           (sound-join s (m + cells a + cells b) n _ (λ i g h. lc .sound i g (omega arith))
-          (λ i g h. rw (last i g h)
-          (cell-sound _ _ q e (number-passes hl) (la .passes n (omega arith)) (lb .passes n (omega arith))
-          (lc .passes n (omega arith))))));
+          (λ i g h. rw (last i g h) (cellFault-says s n .1 (record {
+            row = r;
+            found = rw q e;
+            fields = rw q (record {
+              label = number-passes s n hl;
+              a = la .passes n (omega arith);
+              b = lb .passes n (omega arith);
+              c = lc .passes n (omega arith);
+            });
+          })))));
     }
   where
-    lower′ : (i : ℕ) → m + cells (node k l a b c) ≤ i → ltb (refer m (node k l a b c)) i ≡ true
-    lower′ i h = is-true _ (lt→ltb (refer m (node k l a b c)) i (omega arith))
-
     last : (i : ℕ) → refer m (node k l a b c) ≤ i → i < m + cells (node k l a b c) → i ≡ refer m (node k l a b c)
     last i g h = omega arith
 
 pub laid : {s : List ℕ} {m : ℕ} {u : Use} {t : Tree} → Good u t → Part s m (lay m t) → Laid s m u t
 unfolding cells refer lay
 laid {s} (leaf h) p =
-    record { passes = λ i l. number-passes h; opens = λ i l. number-branch (treeAt s) i h; sound = λ i l g. absurd (omega arith) }
+    record { passes = λ i l. number-passes s i h; opens = λ i l. number-branch (treeAt s) i h; sound = λ i l g. absurd (omega arith) }
 laid {m = m} (cell {a = a} {b = b} {c = c} e f h hl ga gb gc) p =
     let pb = part-right (cells a) (lay m a) _ (length-lay m a) p in
     let pc = part-right (cells b) (lay (m + cells a) b) _ (length-lay (m + cells a) b) pb in
@@ -185,10 +154,10 @@ root-last m (cell e f h hl ga gb gc) = omega arith
 pub root-opens : {s : List ℕ} {m : ℕ} {so : Sort} {t : Tree} → Laid s m (refers so) t → treeAt s (refer m t) ≡ t
 root-opens {s} {m} {so} {t} l =
     let i = m + cells t in
-    sym (lower-branch (treeAt s) i (refer m t) so (l .passes i (omega arith) .lower)) ∙ l .opens i (omega arith)
+    sym (branch-lower (treeAt s) i (refer m t) so (l .passes i (omega arith) .0)) ∙ l .opens i (omega arith)
 
 pub root-sorted : {s : List ℕ} {m : ℕ} {so : Sort} {t : Tree} → Laid s m (refers so) t → hasSort s so (refer m t) ≡ true
-root-sorted {m = m} {t = t} l = l .passes (m + cells t) (omega arith) .sorted
+root-sorted {m = m} {t = t} l = l .passes (m + cells t) (omega arith) .1
 
 -- every element is a byte, by the shape of the list
 pub data Bytes : List ℕ → Type 0 where

@@ -1,35 +1,23 @@
 -- Signed numbers of a width, stored and read back: one law over half the width's power h. Assumes nothing.
 use Prim.Native.Nat.{ℕ, suc, _*_, _-_, _≤_, _<_}
-use mathlib.Core.Path.{_≡_, refl, ap, _∙_}
-use mathlib.Core.Bool.{Bool, true, false}
+use mathlib.Core.Path.{_≡_, refl, ap}
 use native.Mathlib.Omega.{arith}
-use borrow.Author.Tests.{ltb-true, ltb-false, lt-ltb, le-ltb}
-use lib.Dec.{ltb}
+use lib.Dec.{ltb, ltb→lt, nltb→le, not-T}
 use lib.IntN.{ℤ, pos, negsuc}
 use lib.Signed.{mag}
+use Rattle.calculus.proofs.Bools.{by-test}
 use Rattle.format.specs.Cell.{signed, unsigned}
 
--- below half the number is itself, from half on it is negative
-signed-low : (h n : ℕ) → n < h → signed h n ≡ pos n
+-- What is asked of a stored number, by its half: below half it is itself, from half on it is negative.
+by-half : (P : ℤ → Type 0) (h n : ℕ) → (n < h → P (pos n)) → (h ≤ n → P (negsuc (2 * h - suc n))) → P (signed h n)
 unfolding signed
-signed-low h n f = rw lt-ltb
-
-signed-high : (h n : ℕ) → h ≤ n → signed h n ≡ negsuc (2 * h - suc n)
-unfolding signed
-signed-high h n f = rw le-ltb
+by-half P h n low high = by-test P (ltb n h) (λ t. low (ltb→lt n h t)) (λ f. high (nltb→le n h (not-T (ltb n h) f)))
 
 pub signed-unsigned : (h : ℕ) (z : ℤ) → mag z < h → signed h (unsigned h z) ≡ z
 unfolding unsigned
-signed-unsigned h (pos n) f = signed-low h n f
-signed-unsigned h (negsuc n) f = signed-high h (2 * h - suc n) (omega arith) ∙ ap negsuc (omega arith)
-
--- what is asked of a number stored below twice h, by its half
-by-half : (P : ℤ → Type 0) (h n : ℕ) → (n < h → P (pos n)) → (h ≤ n → P (negsuc (2 * h - suc n))) → P (signed h n)
-by-half P h n low high = go (ltb n h) refl
-  where
-    go : (t : Bool) → ltb n h ≡ t → P (signed h n)
-    go true e = let f : n < h = ltb-true n h e in rw (signed-low h n f) (low f)
-    go false e = let f : h ≤ n = ltb-false n h e in rw (signed-high h n f) (high f)
+signed-unsigned h (pos n) f = by-half (λ z. z ≡ pos n) h n (λ g. refl) (λ g. absurd (omega arith))
+signed-unsigned h (negsuc n) f =
+    by-half (λ z. z ≡ negsuc n) h (2 * h - suc n) (λ g. absurd (omega arith)) (λ g. ap negsuc (omega arith))
 
 pub unsigned-signed : (h n : ℕ) → n < 2 * h → unsigned h (signed h n) ≡ n
 unfolding unsigned

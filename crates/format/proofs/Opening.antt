@@ -5,11 +5,16 @@ use mathlib.Core.Bool.{Bool, true, false}
 use mathlib.Core.Option.{Option, none, some}
 use mathlib.Core.List.{List}
 use native.Mathlib.Omega.{arith}
-use borrow.Author.Tests.{ltb-true}
+use borrow.Author.Tests.{ltb-true, lt-ltb}
 use lib.Dec.{ltb}
-use Rattle.format.specs.Table.{Use, unused, plain, refers, Row, rowOf}
+use Rattle.format.specs.Table.{Sort, Use, unused, plain, refers, Row, rowOf}
 use Rattle.format.specs.Cell.{Cell, cellAt}
 use Rattle.format.specs.Tree.{Tree, branch, grow, openWithin, treeAt}
+
+-- a reference to a lower cell opens that cell
+pub branch-lower : (g : ℕ → Tree) (i x : ℕ) (s : Sort) → x < i → branch g i (refers s) x ≡ g x
+unfolding branch
+branch-lower g i x s h = rw (lt-ltb x i h, branch)
 
 -- a branch of cell i opens only cells below i
 branch-same : (g h : ℕ → Tree) (i : ℕ) → ((x : ℕ) → x < i → g x ≡ h x) → (u : Use) (x : ℕ) → branch g i u x ≡ branch h i u x

@@ -3,40 +3,27 @@
 use Prim.Native.Nat.{ℕ, zero, suc, _+_, _*_, _/_, _%_, _≤_, _<_}
 use mathlib.Core.Path.{_≡_, refl, sym, ap, _∙_, subst}
 use mathlib.Core.Logic.{_↔_, Iff·rfl, Iff·trans, Iff·and}
-use mathlib.Core.Bool.{Bool, true, false, not, _&&_, false≢true, and-eq-true-iff}
+use mathlib.Core.Bool.{Bool, true, false, not, false≢true}
 use mathlib.Core.Option.{Option, none, some, Option·some-injective, Option·some-ne-none, Option·none-ne-some}
 use mathlib.Core.List.{List, [], _∷_}
 use native.Mathlib.Omega.{arith}
 use native.Mathlib.Nat.{add-zero, add-suc, suc-add, zero-add}
-use borrow.Author.Tests.{ltb-true, ltb-false, eqb-true, not-true, lt-ltb, le-ltb, eq-eqb}
-use lib.Dec.{ltb, eqb}
+use borrow.Author.Tests.{eqb-true}
+use lib.Dec.{T, ltb, eqb}
 use lib.ListN.{length}
 use Rattle.calculus.specs.Syntax.{Ty, int, top, arrow, inter, field}
 use Rattle.calculus.specs.Syntax.{Term, var, lit, unit, anno, app, lam, merge, fix, rcd, proj, size}
+use Rattle.calculus.proofs.Bools.{true-says, eqb-says, ltb-says, nltb-says, Test, _and_, passing, equal, less, at-most}
 use Rattle.format.specs.Table.{Sort, type-sort, term-sort, Use, unused, plain, refers, Row, table, rowIn, rowOf}
 use Rattle.format.specs.Cell.{IsBytes, byte, pair, Cell, cellAt, half, signed}
 use Rattle.format.specs.Tree.{Tree, raw, node, cells, branch, grow, treeAt}
 use Rattle.format.specs.Terms.{fromType, fromTerm, toTerm, TypeFits, TermFits}
-use Rattle.format.specs.Book.{lengthOk, trailerOk, countOk, unnamedOk, referenceOk, sortOk, sortIs, hasSort, everyField}
+use Rattle.format.specs.Book.{unnamedOk, referenceOk, sortOk, sortIs, hasSort, everyField}
 use Rattle.format.specs.Book.{bad-kind, firstBad, rowFault, cellFault, cellsFinding, rootFinding, cellsForm, formFinding}
 use Rattle.format.specs.Book.{count, rootOf, trailerAt, sizeLimit, WellFormedCells, WellFormed, opened}
 use Rattle.format.proofs.Numbers.{unsigned-signed, signed-fits}
 use Rattle.format.proofs.Trees.{term-cells, term-back}
-use Rattle.format.proofs.Opening.{treeAt-grow}
-
--- ---- Boolean tests as statements
-
-ltb-says : (a b : ℕ) → (ltb a b ≡ true) ↔ (a < b)
-ltb-says a b = (ltb-true a b, lt-ltb a b)
-
-nltb-says : (a b : ℕ) → (not (ltb a b) ≡ true) ↔ (b ≤ a)
-nltb-says a b = (λ e. ltb-false a b (not-true (ltb a b) e), λ h. ap not (le-ltb a b h))
-
-eqb-says : (a b : ℕ) → (eqb a b ≡ true) ↔ (a ≡ b)
-eqb-says a b = (eqb-true a b, eq-eqb a b)
-
-both : {P Q : Type 0} {a b : Bool} → ((a ≡ true) ↔ P) → ((b ≡ true) ↔ Q) → (a && b ≡ true) ↔ (P × Q)
-both {a} {b} p q = Iff·trans (and-eq-true-iff a b) (Iff·and p q)
+use Rattle.format.proofs.Opening.{branch-lower, treeAt-grow}
 
 -- ---- findings: one test after another
 
@@ -44,9 +31,9 @@ both {a} {b} p q = Iff·trans (and-eq-true-iff a b) (Iff·and p q)
 abbrev guard : {X : Type 0} → Bool → X → Option X → Option X
 guard t x m = elim t [ true ↦ m | false ↦ some x ]
 
-first : {X P Q : Type 0} (t : Bool) (x : X) {m : Option X} → ((t ≡ true) ↔ P) → ((m ≡ none) ↔ Q) → (guard t x m ≡ none) ↔ (P × Q)
-first true x p q = (λ e. (p .0 refl, q .0 e), λ h. q .1 (h .1))
-first false x p q = (λ e. absurd (Option·some-ne-none x e), λ h. absurd (false≢true (p .1 (h .0))))
+first : {X P Q : Type 0} (t : Test P) (x : X) {m : Option X} → ((m ≡ none) ↔ Q) → (guard (t .0) x m ≡ none) ↔ (P × Q)
+first (true, p) x q = (λ e. (p .0 tt, q .0 e), λ h. q .1 (h .1))
+first (false, p) x q = (λ e. absurd (Option·some-ne-none x e), λ h. absurd (p .1 (h .0)))
 
 -- a finding, and only then what comes after it
 abbrev after : {X Y : Type 0} → Option X → (X → Y) → Option Y → Option Y
@@ -57,9 +44,9 @@ before none g p q = (λ e. (p .0 refl, q .0 e), λ h. q .1 (h .1))
 before (some x) g p q = (λ e. absurd (Option·some-ne-none (g x) e), λ h. absurd (Option·some-ne-none x (p .1 (h .0))))
 
 -- a test that must fail, and nothing after it
-last : {X P : Type 0} (t : Bool) (x : X) → ((not t ≡ true) ↔ P) → (_≡_ {A = Option X} (elim t [ true ↦ some x | false ↦ none ]) none) ↔ P
-last true x p = (λ e. absurd (Option·some-ne-none x e), λ h. absurd (false≢true (p .1 h)))
-last false x p = (λ e. p .0 refl, λ h. refl)
+last : {X P : Type 0} (t : Bool) (x : X) → T (not t) ↔ P → (_≡_ {A = Option X} (elim t [ true ↦ some x | false ↦ none ]) none) ↔ P
+last true x p = (λ e. absurd (Option·some-ne-none x e), λ h. absurd (p .1 h))
+last false x p = (λ e. p .0 tt, λ h. refl)
 
 cellsFinding-says : (s : List ℕ) (n i : ℕ) → (cellsFinding s n i ≡ none) ↔ ((j : ℕ) → j < n → cellFault s (i + j) ≡ none)
 unfolding cellsFinding
@@ -77,11 +64,9 @@ pub cellsForm-says : (s : List ℕ) → (cellsForm s ≡ none) ↔ WellFormedCel
 unfolding cellsForm
 cellsForm-says s =
     Iff·trans
-    (first (lengthOk s) _ (both (both (nltb-says (length s) 16) (nltb-says 32768 (length s))) (eqb-says (length s % 8) 0))
-    (first (trailerOk s) _
-    (both (both (eqb-says (byte s (trailerAt s)) 0xf0) (eqb-says (byte s (trailerAt s + 1)) 1)) (eqb-says (pair s (trailerAt s + 6)) 0))
-    (first (countOk s) _ (both (eqb-says (pair s (trailerAt s + 2)) (count s)) (ltb-says (rootOf s) (count s)))
-    (cellsFinding-says s (count s) 0)))) (
+    (first (at-most 16 (length s) and at-most (length s) 32768 and equal (length s % 8) 0) _
+    (first (equal (byte s (trailerAt s)) 0xf0 and equal (byte s (trailerAt s + 1)) 1 and equal (pair s (trailerAt s + 6)) 0) _
+    (first (equal (pair s (trailerAt s + 2)) (count s) and less (rootOf s) (count s)) _ (cellsFinding-says s (count s) 0)))) (
       λ h. record {
         long = h .0 .0 .0;
         short = h .0 .0 .1;
@@ -102,7 +87,7 @@ formFinding-says s =
     let n = cells (treeAt s (rootOf s)) in
     Iff·trans
     (before (cellsForm s) _ (cellsForm-says s)
-    (first (hasSort s term-sort (rootOf s)) _ Iff·rfl (last (ltb sizeLimit n) _ (nltb-says sizeLimit n))))
+    (first (passing (hasSort s term-sort (rootOf s))) _ (last (ltb sizeLimit n) _ (nltb-says sizeLimit n))))
     (λ h. record { formed = h .0; term = h .1 .0; small = h .1 .1 }, λ w. (w .formed, (w .term, w .small)))
 
 -- ---- a cell that passes 5 to 8, over kind and field
@@ -120,10 +105,27 @@ each f h = record { label = f _ _ (h .label); a = f _ _ (h .a); b = f _ _ (h .b)
 each-both : {P Q : Use → ℕ → Type 0} {r : Row} {t : Cell} → Each P r t → Each Q r t → Each (λ u x. P u x × Q u x) r t
 each-both h k = record { label = (h .label, k .label); a = (h .a, k .a); b = (h .b, k .b); c = (h .c, k .c) }
 
-everyField-says : (q : Use → ℕ → Bool) (r : Row) (t : Cell) → (everyField q r t ≡ true) ↔ Each (λ u x. q u x ≡ true) r t
-everyField-says q r t =
-    Iff·trans (both (both (both Iff·rfl Iff·rfl) Iff·rfl) Iff·rfl)
-    (λ h. record { label = h .0 .0 .0; a = h .0 .0 .1; b = h .0 .1; c = h .1 }, λ h. (((h .label, h .a), h .b), h .c))
+abbrev every : (q : Use → ℕ → Bool) (r : Row) (t : Cell) → Test (Each (λ u x. T (q u x)) r t)
+every q r t =
+    let ask : (u : Use) (x : ℕ) → Test (T (q u x)) = λ u x. (q u x, Iff·rfl) in (
+      everyField q r t,
+      Iff·trans ((ask (r .label) (t .label) and ask (r .a) (t .a) and ask (r .b) (t .b) and ask (r .c) (t .c)) .1)
+          (λ h. record { label = h .0 .0 .0; a = h .0 .0 .1; b = h .0 .1; c = h .1 }, λ h. (((h .label, h .a), h .b), h .c)),
+    )
+
+-- the question for a sort asks for the row's own
+pub sortIs-says : (o : Sort) (r : Row) → (sortIs o (some r) ≡ true) ↔ (r .sort ≡ o)
+sortIs-says o r = (same o (r .sort) refl, own o)
+  where
+    same : (o u : Sort) → r .sort ≡ u → sortIs o (some r) ≡ true → r .sort ≡ o
+    same type-sort type-sort p e = p
+    same type-sort term-sort p e = absurd (false≢true (rw p at e))
+    same term-sort type-sort p e = absurd (false≢true (rw p at e))
+    same term-sort term-sort p e = p
+
+    own : (o : Sort) → r .sort ≡ o → sortIs o (some r) ≡ true
+    own type-sort p = rw p
+    own term-sort p = rw p
 
 -- one field: what an unused one, a plain one and a reference owe
 abbrev pub FieldOk : List ℕ → ℕ → Use → ℕ → Type 0
@@ -131,19 +133,17 @@ FieldOk s i unused x = x ≡ 0
 FieldOk s i plain x = Unit {0}
 FieldOk s i (refers o) x = (x < i) × (hasSort s o x ≡ true)
 
-field-says : (s : List ℕ) (i : ℕ) (u : Use) (x : ℕ)
-    → ((unnamedOk u x ≡ true) × ((referenceOk i u x ≡ true) × (sortOk s u x ≡ true))) ↔ FieldOk s i u x
-field-says s i unused x = (λ h. eqb-true x 0 (h .0), λ e. (eq-eqb x 0 e, (refl, refl)))
-field-says s i plain x = (λ h. tt, λ h. (refl, (refl, refl)))
-field-says s i (refers o) x = (λ h. (ltb-true x i (h .1 .0), h .1 .1), λ h. (refl, (lt-ltb x i (h .0), h .1)))
+field-says : (s : List ℕ) (i : ℕ) (u : Use) (x : ℕ) → (T (unnamedOk u x) × (T (referenceOk i u x) × T (sortOk s u x))) ↔ FieldOk s i u x
+field-says s i unused x = (λ h. eqb-says x 0 .0 (h .0), λ e. (eqb-says x 0 .1 e, (tt, tt)))
+field-says s i plain x = (λ h. tt, λ h. (tt, (tt, tt)))
+field-says s i (refers o) x =
+    let e = Iff·and (ltb-says x i) (true-says (hasSort s o x)) in (λ h. e .0 (h .1), λ h. (tt, e .1 h))
 
 pub rowFault-says : (s : List ℕ) (i : ℕ) (r : Row) (t : Cell) → (rowFault s i t (some r) ≡ none) ↔ Each (FieldOk s i) r t
 unfolding rowFault firstBad
 rowFault-says s i r t =
     Iff·trans
-    (first (everyField unnamedOk r t) _ (everyField-says unnamedOk r t)
-    (first (everyField (referenceOk i) r t) _ (everyField-says (referenceOk i) r t)
-    (first (everyField (sortOk s) r t) _ (everyField-says (sortOk s) r t) Iff·rfl))) (
+    (first (every unnamedOk r t) _ (first (every (referenceOk i) r t) _ (first (every (sortOk s) r t) _ Iff·rfl))) (
       λ h. each (λ u x. field-says s i u x .0) (each-both (h .0) (each-both (h .1 .0) (h .1 .1 .0))),
       λ h. let k = each (λ u x. field-says s i u x .1) h in
           (each (λ u x p. p .0) k, (each (λ u x p. p .1 .0) k, (each (λ u x p. p .1 .1) k, refl))),
@@ -181,7 +181,7 @@ holds : (s : List ℕ) (i : ℕ) → ((o : Sort) (x : ℕ) → x < i → hasSort
 unfolding branch
 holds s i opens unused x f h = ap raw h
 holds s i opens plain x f h = (x, refl, f)
-holds s i opens (refers o) x f h = rw (lt-ltb x i (h .0), branch) (opens o x (h .0) (h .1))
+holds s i opens (refers o) x f h = rw (branch-lower (treeAt s) i x o (h .0)) (opens o x (h .0) (h .1))
 
 -- a label, by its use
 abbrev Named : Use → ℕ → Type 0
@@ -261,13 +261,6 @@ rows =
     also (λ p. (proj (p .label) (p .a .0), cc, (p .name, p .a .2)))
     also tt
 
--- a row that passes the question for a sort has it
-same-sort : (o u : Sort) (k : ℕ) (l a b c : Use) → sortIs o (some (record { kind = k; sort = u; label = l; a = a; b = b; c = c })) ≡ true → u ≡ o
-same-sort type-sort type-sort k l a b c e = refl
-same-sort type-sort term-sort k l a b c e = absurd (false≢true e)
-same-sort term-sort type-sort k l a b c e = absurd (false≢true e)
-same-sort term-sort term-sort k l a b c e = refl
-
 pair-fits : (s : List ℕ) → IsBytes s → (j : ℕ) → pair s j < 65536
 pair-fits s y j = omega (arith, y j, y (j + 1))
 
@@ -285,7 +278,7 @@ cell-opens s y i k below o e =
     let t = cellAt s i in
     let f = cell-fits s y i in
     let v = view Reads table rows (t .kind) r (k .found) in
-    let q : r .sort ≡ o = same-sort o (r .sort) (r .kind) (r .label) (r .a) (r .b) (r .c) (rw (k .found) at e) in
+    let q : r .sort ≡ o = sortIs-says o r .0 (rw (k .found) at e) in
     rw (treeAt-grow s i, k .found, v .0, ← q)
     (v .1
     (record {
@@ -305,18 +298,18 @@ opens s y w zero i h l = absurd (omega arith)
 opens s y w (suc n) i h l =
     cell-opens s y i (cellFault-says s i .0 (w .sound i l)) (λ o x k e. opens s y w n x (omega arith) (omega arith) o e)
 
-root-opens : (s : List ℕ) → IsBytes s → WellFormed s → (e : Term) × (opened s ≡ e) × (fromTerm e ≡ treeAt s (rootOf s)) × TermFits e
+root-term : (s : List ℕ) → IsBytes s → WellFormed s → (e : Term) × (opened s ≡ e) × (fromTerm e ≡ treeAt s (rootOf s)) × TermFits e
 unfolding opened
-root-opens s y w =
+root-term s y w =
     let r = w .formed .rooted in
     let t = opens s y (w .formed) (count s) (rootOf s) r r term-sort (w .term) in
     (t .0, ap toTerm (sym (t .1)) ∙ term-back (t .0) (t .2), t .1, t .2)
 
 pub opened-tree : (s : List ℕ) → IsBytes s → WellFormed s → fromTerm (opened s) ≡ treeAt s (rootOf s)
-opened-tree s b w = let r = root-opens s b w in rw (r .1) (r .2)
+opened-tree s b w = let r = root-term s b w in rw (r .1) (r .2)
 
 pub opened-small : (s : List ℕ) → IsBytes s → WellFormed s → size (opened s) ≤ sizeLimit
 opened-small s b w = rw (← term-cells (opened s), opened-tree s b w) (w .small)
 
 pub opened-fits : (s : List ℕ) → IsBytes s → WellFormed s → TermFits (opened s)
-opened-fits s b w = let r = root-opens s b w in rw (r .1) (r .3)
+opened-fits s b w = let r = root-term s b w in rw (r .1) (r .3)
