@@ -25,6 +25,7 @@ use Rattle.answers.specs.Answer.{Refusal, bad-buffer, malformed, ill-typ
 use Rattle.answers.specs.Engine.{Engine, workLength, IsWork, IsLimit, zeros}
 use Rattle.answers.specs.Definition.{definition, check, run, judge, afterForm, afterTyping, turnedBack, shown, told, evaluate}
 use Rattle.answers.specs.Demands.{Accepts, Runs, Demand2, Demand3For, Demand3}
+use Rattle.answers.proofs.AllSamples.{in-work}
 use Rattle.answers.proofs.Fits.{reaches-fits}
 use Rattle.answers.proofs.Running.{Ran, ran}
 use Rattle.answers.proofs.Agreement.{lesser-steps, same-result}
@@ -75,11 +76,7 @@ module _ (E : Engine) (d : Demand2 E) (b : List ℕ) (bytes : IsBytes b) (a : Ac
 pub demand3-from-2 : (E : Engine) → Demand2 E → Demand3 E
 demand3-from-2 E d b bytes a = demand3-for E d b bytes a
 
--- The definitions: with a work buffer of 65,536 bytes the rows from 2 on decide.
-pub in-work : (b w : List ℕ) (g : Ty → Result) → IsWork w → judge b w g ≡ afterForm b g (formFinding b)
-unfolding judge
-in-work b w g k = rw (k, judge)
-
+-- The definitions.
 pub outcome : (b w : List ℕ) (g : Ty → Result) (A : Ty) → IsWork w → WellFormed b → Typed [] (opened b) A → judge b w g ≡ g A
 unfolding afterForm afterTyping
 outcome b w g A k f t = in-work b w g k ∙ rw (formFinding-says b .1 f) (rw (infer-says [] (opened b) A .1 t))

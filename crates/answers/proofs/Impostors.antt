@@ -32,7 +32,7 @@ use Rattle.answers.proofs.Reaching.{onward}
 use Rattle.answers.proofs.Running.{Ran, evaluate-value, evaluate-spent}
 use Rattle.answers.proofs.Agreement.{told-alike, lesser-steps, same-result}
 use Rattle.answers.proofs.Demands.{outcome, work-at-hand, refused-accepted, typed-accepts, root-ran, demand2, demand3}
-use Rattle.answers.proofs.Samples.{computing}
+use Rattle.answers.proofs.AllSamples.{computing}
 
 -- how the true run of a book ends
 abbrev pub ending : List ℕ → ℕ → Ended

@@ -1,7 +1,7 @@
+pub mod AllSamples
 pub mod Fits
 pub mod Reaching
 pub mod Running
 pub mod Agreement
 pub mod Demands
-pub mod Samples
 pub mod Impostors

@@ -19,7 +19,7 @@ use Rattle.calculus.proofs.Tests.{value?-says}
 use Rattle.calculus.proofs.Evaluation.{next-says}
 use Rattle.format.specs.Book.{sizeLimit}
 use Rattle.answers.specs.Answer.{Stop, value, spent, room}
-use Rattle.answers.specs.Definition.{Ended, full?, firstStop, evaluate}
+use Rattle.answers.specs.Definition.{Ended, ended, full?, firstStop, evaluate}
 use Rattle.answers.specs.Demands.{StopsBy}
 
 -- how the run of e, with this limit, ended
@@ -29,20 +29,17 @@ pub record Ran (e : Term) (limit : ℕ) (r : Ended) : Type 0 where
   pub small : (n : ℕ) (f : Term) → n ≤ r .steps → Reaches n e f → size f ≤ sizeLimit
   pub why : StopsBy (r .stop) limit (r .steps) (r .term)
 
-abbrev pub at : Stop → ℕ → Term → Ended
-at s n e = record { stop = s; steps = n; term = e }
-
 -- the four ways on, as equations
-pub evaluate-value : (l m n : ℕ) (e : Term) → value? e ≡ true → evaluate l m n e ≡ at value n e
+pub evaluate-value : (l m n : ℕ) (e : Term) → value? e ≡ true → evaluate l m n e ≡ ended value n e
 unfolding evaluate firstStop
 evaluate-value l zero n e h = rw (h, evaluate, firstStop)
 evaluate-value l (suc m) n e h = rw (h, evaluate, firstStop)
 
-pub evaluate-spent : (l n : ℕ) (e : Term) → value? e ≡ false → evaluate l zero n e ≡ at spent n e
+pub evaluate-spent : (l n : ℕ) (e : Term) → value? e ≡ false → evaluate l zero n e ≡ ended spent n e
 unfolding evaluate firstStop
 evaluate-spent l n e h = rw (h, evaluate, firstStop)
 
-evaluate-room : (l m n : ℕ) (e f : Term) → value? e ≡ false → next e ≡ some f → ltb l (size f) ≡ true → evaluate l (suc m) n e ≡ at room n e
+evaluate-room : (l m n : ℕ) (e f : Term) → value? e ≡ false → next e ≡ some f → ltb l (size f) ≡ true → evaluate l (suc m) n e ≡ ended room n e
 unfolding evaluate firstStop full?
 evaluate-room l m n e f h k g = rw (h, k, g, evaluate, firstStop, full?)
 
@@ -78,7 +75,7 @@ module _ {e₀ : Term} {A : Ty} (t : Typed [] e₀ A) where
           inr
           (T-false (value?-says e) (s .0), s .0, (s .1 .0, next-says (s .1 .0) (p .typed .1) .1 (s .1 .1), s .1 .1))
 
-  ended-as : (s : Stop) {n l : ℕ} {e : Term} {r : Ended} → r ≡ at s n e → Reaches n e₀ e → Small n → n ≤ l → StopsBy s l n e → Ran e₀ l r
+  ended-as : (s : Stop) {n l : ℕ} {e : Term} {r : Ended} → r ≡ ended s n e → Reaches n e₀ e → Small n → n ≤ l → StopsBy s l n e → Ran e₀ l r
   ended-as s {l = l} q r h k w = subst⁻¹ (λ (x : Ended). Ran e₀ l x) q (record { taken = k; reached = r; small = h; why = w })
 
   pub ran : (m n : ℕ) (e : Term) → Reaches n e₀ e → Small n → Ran e₀ (n + m) (evaluate sizeLimit m n e)

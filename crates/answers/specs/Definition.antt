@@ -42,7 +42,7 @@ pub record Ended : Type 0 where
   pub steps : ℕ
   pub term : Term
 
-abbrev ended : Stop → ℕ → Term → Ended
+abbrev pub ended : Stop → ℕ → Term → Ended
 ended s n e = record { stop = s; steps = n; term = e }
 
 -- "no room when the successor's size exceeds" the limit l

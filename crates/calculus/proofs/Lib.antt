@@ -1,4 +1,4 @@
-pub mod Facts
+pub mod Assertions
 pub mod Bools
 pub mod Subtyping
 pub mod Disjointness

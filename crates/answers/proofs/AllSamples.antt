@@ -1,4 +1,4 @@
--- All samples marked M hold of the definitions, by one computation. Assumes nothing.
+-- All samples marked M hold of the definitions, by one computation; and closed facts beside them. Assumes nothing.
 use Prim.Native.Nat.{ℕ}
 use mathlib.Core.Path.{_≡_, refl, _∙_}
 use mathlib.Core.List.{List, [], _∷_, map}
@@ -15,19 +15,22 @@ use Rattle.format.specs.Terms.{fromType, fromTerm, plainOf, toType, toTerm}
 use Rattle.format.specs.Book.{sizeLimit, firstBad, rowFault, cellFault, cellsFinding, rootFinding, cellsForm, formFinding, follow, opened, trailer, book}
 use Rattle.answers.specs.Answer.{bad-buffer, spent, room, refused, Result, result}
 use Rattle.answers.specs.Engine.{IsWork, zeros, laid}
-use Rattle.answers.specs.Definition.{definition, turnedBack, afterTyping, afterForm, shown, full?, firstStop, evaluate, told}
+use Rattle.answers.specs.Definition.{definition, turnedBack, afterTyping, afterForm, shown, full?, firstStop, ended, evaluate, told}
 use Rattle.answers.specs.Definition.{judge, check, run}
 use Rattle.answers.specs.Samples as Samples
 use Rattle.answers.specs.Samples.{Call, Sample, called, expected, Holds, Every, samples}
 use Rattle.answers.specs.Samples.{equalNumbers, unequalNumbers, mergedVariable, twiceRead, identityOnMerge, identityUnderTop}
 use Rattle.answers.specs.Samples.{appliedTop, appliedNumber, hiddenField, ownFixpoint}
-use Rattle.answers.proofs.Running.{at}
-use Rattle.answers.proofs.Demands.{in-work}
 
 -- to name it on a line is to unfold every definition that a computation of an answer meets, but for the zero tail
 unfoldable pub computing : ℕ
 unfolding size size-type put topLike? belowWithin below? disjointInt disjointArrow disjointField disjoint? value? closed? decided sameUnder sameInteger ℕ-discrete sameType sameTerm eachPart consistentLit consistentLam consistentRcd consistent? lookup checked applied projected labelled mergeable? merged infer within orElse mergeBoth firstPart castInt castArrow castField cast apply project next table rowIn rowOf cellAt cellBytes signed unsigned cells branch grow openWithin treeAt refer lay fromType fromTerm plainOf toType toTerm firstBad rowFault cellFault cellsFinding rootFinding cellsForm formFinding follow opened trailer book turnedBack afterTyping afterForm shown full? firstStop evaluate told laid
 computing = 0
+
+-- with a work buffer of 65,536 bytes the rows from 2 on decide
+pub in-work : (b w : List ℕ) (g : Ty → Result) → IsWork w → judge b w g ≡ afterForm b g (formFinding b)
+unfolding judge
+in-work b w g k = rw (k, judge)
 
 -- the definitions' answer to a call, with any work buffer of 65,536 bytes
 answered : Sample → Result
@@ -64,17 +67,17 @@ abbrev growing : Term
 growing = fix (var 0) int
 
 -- limit 0: spent, 0
-growing-0 : evaluate 5 0 0 growing ≡ at spent 0 growing
+growing-0 : evaluate 5 0 0 growing ≡ ended spent 0 growing
 unfolding computing
 growing-0 = refl
 
 -- limit 1: spent after 1, "else no room": the third term is not asked for
-growing-1 : evaluate 5 1 0 growing ≡ at spent 1 (anno growing int)
+growing-1 : evaluate 5 1 0 growing ≡ ended spent 1 (anno growing int)
 unfolding computing
 growing-1 = refl
 
 -- limit 2: no room, 1 step
-growing-2 : evaluate 5 2 0 growing ≡ at room 1 (anno growing int)
+growing-2 : evaluate 5 2 0 growing ≡ ended room 1 (anno growing int)
 unfolding computing
 growing-2 = refl
 
