@@ -1,4 +1,6 @@
 -- Laws of tests: what a Bool says by passing, `T b`, and which Bool it is if what it says is so. Assumes nothing.
+-- (The closed facts are named here so that a check reads them before any theorem.)
+use Rattle.calculus.proofs.Assertions
 use Prim.Native.Nat.{ℕ, _≤_, _<_}
 use native.Mathlib.Nat.{not-le-of-lt}
 use mathlib.Core.Path.{_≡_, refl, sym, subst⁻¹}
