@@ -1,0 +1,36 @@
+-- The code's table of kinds is the format's: one test over the 256 kinds, which antt computes, and what it says of each kind.
+-- Assumes nothing.
+use Prim.Native.Nat.{ℕ, zero, suc, _<_}
+use native.Mathlib.Decide.{decLt}
+use native.Mathlib.Omega.{arith}
+use mathlib.Core.Path.{_≡_}
+use mathlib.Core.List.{List, [], _∷_}
+use mathlib.Core.Option.{Option}
+use lib.ListN.{getD}
+use Rattle.format.specs.Table.{Row, rowOf}
+use Rattle.cells.specs.declared.Entry.{Entry}
+use Rattle.cells.specs.declared.Line.{Line}
+use Rattle.cells.specs.Coded.{rowFrom, placeOf}
+
+-- f of the kinds below n
+abbrev run : (ℕ → Option Row) → ℕ → List (Option Row)
+run f zero = []
+run f (suc n) = f n ∷ run f n
+
+at : (f g : ℕ → Option Row) (n : ℕ) → run f n ≡ run g n → (k : ℕ) → k < n → f k ≡ g k
+at f g zero q k h = absurd (omega arith)
+at f g (suc n) q k h = elim (decLt k n) [ yes p ↦ at f g n (cc) k p | no p ↦ let e : k ≡ n = omega arith in rw e cc ]
+
+abbrev entryOf : Line → Entry
+entryOf l = record { sort = l .0; label = l .1; a = l .2; b = l .3; c = l .4 }
+
+abbrev coded : List Line → Line → ℕ → Option Row
+coded xs d k = rowFrom k (entryOf (getD xs (placeOf k) d))
+
+-- the lines xs stand for the rows of all kinds
+abbrev pub Right : List Line → Line → Type 0
+Right xs d = run (coded xs d) 256 ≡ run rowOf 256
+
+pub right-at : (xs : List Line) (d : Line) → Right xs d → (k x : ℕ) → x ≡ placeOf k → k < 256
+    → rowFrom k (entryOf (getD xs x d)) ≡ rowOf k
+right-at xs d q k x e h = rw e (at (coded xs d) rowOf 256 q k h)

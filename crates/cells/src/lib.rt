@@ -1,0 +1,125 @@
+// Cells of eight bytes in a buffer: reading one, writing one; the table of kinds.
+ghost use mathlib.Core.Path.{_≡_};
+ghost use Prim.Native.Nat.{_+_, _*_, _/_, _%_, _≤_, _<_};
+ghost use mathlib.Core.List.{[], _∷_};
+ghost use lib.ListN.{length};
+ghost use lib.Seq.{sets};
+ghost use Rattle.format.specs.Cell.{pair, cellAt, cellBytes};
+ghost use Rattle.format.specs.Table.{rowOf};
+ghost use Rattle.cells.specs.Coded.{asCell, CellFits, placeOf, rowFrom};
+
+// A cell: kind, label and the fields a, b, c.
+pub struct Cell {
+    pub kind: u8,
+    pub label: u8,
+    pub a: usize,
+    pub b: usize,
+    pub c: usize,
+}
+
+pub fn wide(x: u8) -> usize
+    ensures { λ r. ⌜ r ≡ x ⌝ }
+{
+    x as usize
+}
+
+// The field of two bytes at a position, little-endian.
+pub fn read_pair(s: &[u8], at: usize) -> usize
+    requires { ⌜ at + 1 < length (now s) ⌝ }
+    ensures { λ r. ⌜ r ≡ pair (now (s .entry)) at ⌝ }
+{
+    let low = wide(s[at]);
+    let high = wide(s[at + 1]);
+    low + 256 * high
+}
+
+pub fn read_cell(s: &[u8], i: usize) -> Cell
+    requires { ⌜ 8 * i + 8 ≤ length (now s) ⌝ }
+    ensures { λ r. ⌜ asCell r ≡ cellAt (now (s .entry)) i ⌝ }
+{
+    let at = 8 * i;
+    Cell {
+        kind: s[at],
+        label: s[at + 1],
+        a: read_pair(s, at + 2),
+        b: read_pair(s, at + 4),
+        c: read_pair(s, at + 6),
+    }
+}
+
+fn write_pair(s: &mut [u8], at: usize, x: usize)
+    requires { ⌜ (at + 1 < length (now s)) × (x < 65536) ⌝ }
+    ensures { λ _. ⌜ now (s .exit) ≡ sets (now (s .entry)) at (x % 256 ∷ x / 256 ∷ []) ⌝ }
+{
+    s[at] = (x % 256) as u8;
+    s[at + 1] = (x / 256) as u8;
+}
+
+pub fn write_cell(s: &mut [u8], i: usize, t: Cell)
+    requires { ⌜ (8 * i + 8 ≤ length (now s)) × CellFits t ⌝ }
+    ensures { λ _. ⌜ now (s .exit) ≡ sets (now (s .entry)) (8 * i) (cellBytes (asCell t)) ⌝ }
+{
+    let at = 8 * i;
+    s[at] = t.kind;
+    s[at + 1] = t.label;
+    write_pair(s, at + 2, t.a);
+    write_pair(s, at + 4, t.b);
+    write_pair(s, at + 6, t.c);
+}
+
+// A row of the table of kinds. Sort: 2 a type, 3 a term, 0 unknown. Label, a, b and c: 0 unused, 1 plain, 2 a type, 3 a term.
+pub struct Entry {
+    pub sort: u8,
+    pub label: u8,
+    pub a: u8,
+    pub b: u8,
+    pub c: u8,
+}
+
+// A row as a line of the table: sort, label, a, b, c.
+struct Line(u8, u8, u8, u8, u8);
+
+// The unknown kinds, kinds 1 to 5, kinds 16 to 25.
+const TABLE: [Line; 16] = [
+    Line(0, 0, 0, 0, 0),
+    Line(2, 0, 0, 0, 0),
+    Line(2, 0, 0, 0, 0),
+    Line(2, 0, 2, 2, 0),
+    Line(2, 0, 2, 2, 0),
+    Line(2, 1, 2, 0, 0),
+    Line(3, 0, 1, 0, 0),
+    Line(3, 0, 0, 1, 1),
+    Line(3, 0, 0, 0, 0),
+    Line(3, 0, 3, 2, 0),
+    Line(3, 0, 3, 3, 0),
+    Line(3, 0, 3, 2, 2),
+    Line(3, 0, 3, 3, 0),
+    Line(3, 0, 3, 2, 0),
+    Line(3, 1, 3, 0, 0),
+    Line(3, 1, 3, 0, 0),
+];
+
+// The place of a kind in the table.
+fn place(kind: u8) -> usize
+    ensures { λ r. ⌜ (r ≡ placeOf kind) × (r < 16) ⌝ }
+{
+    match kind {
+        1..=5 => wide(kind),
+        16..=25 => wide(kind) - 10,
+        _ => 0,
+    }
+}
+
+// The row of a kind: 1 to 5 types, 16 to 25 terms, all else unknown.
+pub fn entry_of(kind: u8) -> Entry
+    ensures { λ r. ⌜ rowFrom kind r ≡ rowOf kind ⌝ }
+{
+    let line = TABLE[place(kind)];
+    Entry {
+        sort: line.0,
+        label: line.1,
+        a: line.2,
+        b: line.3,
+        c: line.4,
+    }
+}
