@@ -210,12 +210,12 @@ abbrev Reads : Row → Type 0
 Reads r = (p : Parts r) → Opens (r .sort) (node (r .kind) (p .label) (p .ta) (p .tb) (p .tc))
 
 -- something of every row of a list
-abbrev All : (Row → Type 0) → List Row → Type 0
+abbrev pub All : (Row → Type 0) → List Row → Type 0
 All P [] = Unit {0}
 All P (r ∷ rs) = P r × All P rs
 
 infixr 20 _also_
-_also_ : {P Q : Type 0} → P → Q → P × Q
+pub _also_ : {P Q : Type 0} → P → Q → P × Q
 p also q = (p, q)
 
 -- the first element whose test passes
@@ -225,7 +225,7 @@ pick P true q o r f g e = subst P (Option·some-injective q r e) (f refl)
 pick P false q o r f g e = g e
 
 -- what holds of every row holds of the row of a kind
-view : (P : Row → Type 0) (rs : List Row) → All P rs → (k : ℕ) (r : Row) → rowIn rs k ≡ some r → (k ≡ r .kind) × P r
+pub view : (P : Row → Type 0) (rs : List Row) → All P rs → (k : ℕ) (r : Row) → rowIn rs k ≡ some r → (k ≡ r .kind) × P r
 unfolding rowIn
 view P [] h k r e = absurd (Option·none-ne-some r e)
 view P (q ∷ rs) h k r e =
@@ -264,7 +264,7 @@ rows =
 pair-fits : (s : List ℕ) → IsBytes s → (j : ℕ) → pair s j < 65536
 pair-fits s y j = omega (arith, y j, y (j + 1))
 
-cell-fits : (s : List ℕ) → IsBytes s → (i : ℕ)
+pub cell-fits : (s : List ℕ) → IsBytes s → (i : ℕ)
     → (cellAt s i .label < 256) × (cellAt s i .a < 65536) × (cellAt s i .b < 65536) × (cellAt s i .c < 65536)
 unfolding cellAt
 cell-fits s y i = (y (8 * i + 1), pair-fits s y (8 * i + 2), pair-fits s y (8 * i + 4), pair-fits s y (8 * i + 6))
