@@ -1,0 +1,272 @@
+// Rows 2 to 10: the length, the trailer, each cell, the root. The trailer, and the part of cells before it, are handed on as parts of the
+// book to their readers.
+use cells::Cell;
+use cells::Entry;
+use cells::entry_of;
+use cells::read_cell;
+use cells::read_pair;
+use cells::wide;
+use outcome::Refusal;
+ghost use mathlib.Core.Path.{_≡_};
+ghost use Prim.Native.Nat.{_+_, _*_, _≤_, _<_, min};
+ghost use mathlib.Core.Option.{none};
+ghost use lib.ListN.{length};
+ghost use Rattle.format.specs.Tree.{cells, treeAt};
+ghost use Rattle.format.specs.Book.{lengthOk, unnamedOk, referenceOk, sortOk, cellFault};
+ghost use Rattle.cells.specs.Coded.{useOf};
+ghost use Rattle.book.specs.Form.{markOk, countedOk, Named, Within, EveryField, CellCheck, CellsCheck};
+ghost use Rattle.book.specs.Form.{fieldSize, SizesUpTo, Ready, RootCheck, FormCheck};
+
+// A type, as a use of a field or as a sort; a lower number is no reference.
+const TYPE: u8 = 2;
+
+// A term.
+const TERM: u8 = 3;
+
+// The limit of opened sizes; they are counted up to one more.
+const LIMIT: usize = 4095;
+
+const CAP: usize = LIMIT + 1;
+
+pub enum Check {
+    Clear,
+    Bad(Refusal),
+}
+
+pub enum Form {
+    Malformed(Refusal),
+    // the root cell
+    WellFormed(usize),
+}
+
+// 2: the length.
+fn length_ok(b: &[u8]) -> bool
+    ensures { λ r. ⌜ r ≡ lengthOk (now (b .entry)) ⌝ }
+{
+    if b.len() < 16 {
+        return false;
+    }
+    if 32768 < b.len() {
+        return false;
+    }
+    b.len() % 8 == 0
+}
+
+// 3: bytes 0, 1, 6 and 7 of the trailer.
+fn mark_ok(t: &[u8]) -> bool
+    requires { ⌜ length (now t) ≡ 8 ⌝ }
+    ensures { λ r. ⌜ r ≡ markOk (now (t .entry)) ⌝ }
+{
+    if t[0] != 0xf0 {
+        return false;
+    }
+    if t[1] != 1 {
+        return false;
+    }
+    if t[6] != 0 {
+        return false;
+    }
+    t[7] == 0
+}
+
+// 4: the count and the root.
+fn counted_ok(t: &[u8], n: usize) -> bool
+    requires { ⌜ length (now t) ≡ 8 ⌝ }
+    ensures { λ r. ⌜ r ≡ countedOk (now (t .entry)) n ⌝ }
+{
+    if read_pair(t, 2) != n {
+        return false;
+    }
+    read_pair(t, 4) < n
+}
+
+// 6: an unused field is zero.
+fn unnamed_ok(u: u8, x: usize) -> bool
+    ensures { λ r. ⌜ r ≡ unnamedOk (useOf u) x ⌝ }
+{
+    if u == 0 { x == 0 } else { true }
+}
+
+// 7: a reference is lower than its cell.
+fn reference_ok(i: usize, u: u8, x: usize) -> bool
+    ensures { λ r. ⌜ r ≡ referenceOk i (useOf u) x ⌝ }
+{
+    if u < TYPE { true } else { x < i }
+}
+
+// 8: a reference is to a cell of its sort.
+fn sort_ok(s: &[u8], u: u8, x: usize) -> bool
+    requires { ⌜ (2 ≤ u → 8 * x < length (now s)) ⌝ }
+    ensures { λ r. ⌜ r ≡ sortOk (now (s .entry)) (useOf u) x ⌝ }
+{
+    if u < TYPE {
+        return true;
+    }
+    let sort = entry_of(s[8 * x]).sort;
+    if u == TYPE {
+        return sort == TYPE;
+    }
+    TYPE < sort
+}
+
+// 6, of every field.
+fn unnamed_all(e: Entry, t: Cell) -> bool
+    requires { ⌜ Named e t ⌝ }
+    ensures { λ r. ⌜ EveryField unnamedOk t r ⌝ }
+{
+    if !unnamed_ok(e.label, wide(t.label)) {
+        return false;
+    }
+    if !unnamed_ok(e.a, t.a) {
+        return false;
+    }
+    if !unnamed_ok(e.b, t.b) {
+        return false;
+    }
+    unnamed_ok(e.c, t.c)
+}
+
+// 7, of every field; no row has a reference for a label.
+fn reference_all(i: usize, e: Entry, t: Cell) -> bool
+    requires { ⌜ Named e t ⌝ }
+    ensures { λ r. ⌜ EveryField (referenceOk i) t r ⌝ }
+{
+    if !reference_ok(i, e.a, t.a) {
+        return false;
+    }
+    if !reference_ok(i, e.b, t.b) {
+        return false;
+    }
+    reference_ok(i, e.c, t.c)
+}
+
+// 8, of every field.
+fn sort_all(s: &[u8], e: Entry, t: Cell) -> bool
+    requires { ⌜ Named e t ⌝ }
+    requires { ⌜ Within (now s) e t ⌝ }
+    ensures { λ r. ⌜ EveryField (sortOk (now (s .entry))) t r ⌝ }
+{
+    if !sort_ok(s, e.a, t.a) {
+        return false;
+    }
+    if !sort_ok(s, e.b, t.b) {
+        return false;
+    }
+    sort_ok(s, e.c, t.c)
+}
+
+// Rows 5 to 8 of one cell.
+fn check_cell(s: &[u8], i: usize) -> Check
+    requires { ⌜ 8 * i + 8 ≤ length (now s) ⌝ }
+    ensures { λ r. ⌜ CellCheck (now (s .entry)) i r ⌝ }
+{
+    let t = read_cell(s, i);
+    let e = entry_of(t.kind);
+    if e.sort < TYPE {
+        return Check::Bad(Refusal::Kind(i));
+    }
+    if !unnamed_all(e, t) {
+        return Check::Bad(Refusal::Unnamed(i));
+    }
+    if !reference_all(i, e, t) {
+        return Check::Bad(Refusal::Reference(i));
+    }
+    if !sort_all(s, e, t) {
+        return Check::Bad(Refusal::Sort(i));
+    }
+    Check::Clear
+}
+
+// Rows 5 to 8, cells ascending.
+fn check_cells(s: &[u8], n: usize) -> Check
+    requires { ⌜ 8 * n ≤ length (now s) ⌝ }
+    ensures { λ r. ⌜ CellsCheck (now (s .entry)) n r ⌝ }
+{
+    let mut i = 0;
+    while i < n {
+        let found = check_cell(s, i);
+        let Check::Clear = found else {
+            return found;
+        };
+        i += 1;
+    }
+    Check::Clear
+}
+
+// What a field adds to the size of its cell; z has the sizes of the lower cells.
+fn field_size(z: &[usize; CAP], u: u8, x: usize) -> usize
+    requires { ⌜ (2 ≤ u → x < 4096) ⌝ }
+    ensures { λ r. ⌜ r ≡ fieldSize (now (z .entry)) (useOf u) x ⌝ }
+{
+    if u < TYPE {
+        return 0;
+    }
+    z[x]
+}
+
+// The opened size of cell i, capped.
+fn cell_size(s: &[u8], z: &[usize; CAP], i: usize) -> usize
+    requires { ⌜ (8 * i + 8 ≤ length (now s)) × (i < 4096) ⌝ }
+    requires { ⌜ cellFault (now s) i ≡ none ⌝ }
+    requires { ⌜ SizesUpTo (now s) (now z) i ⌝ }
+    ensures { λ r. ⌜ r ≡ min 4096 (cells (treeAt (now (s .entry)) i)) ⌝ }
+{
+    let t = read_cell(s, i);
+    let e = entry_of(t.kind);
+    let size = 1 + field_size(z, e.a, t.a) + field_size(z, e.b, t.b) + field_size(z, e.c, t.c);
+    if size < CAP { size } else { CAP }
+}
+
+// The opened size of the root, capped, from those of the cells up to it.
+fn root_size(s: &[u8], root: usize) -> usize
+    requires { ⌜ Ready (now s) root ⌝ }
+    ensures { λ r. ⌜ r ≡ min 4096 (cells (treeAt (now (s .entry)) root)) ⌝ }
+{
+    let mut z = [0usize; CAP];
+    let mut i = 0;
+    while i <= root {
+        z[i] = cell_size(s, &z, i);
+        i += 1;
+    }
+    z[root]
+}
+
+// Rows 9 and 10.
+fn check_root(s: &[u8], root: usize) -> Check
+    requires { ⌜ Ready (now s) root ⌝ }
+    ensures { λ r. ⌜ RootCheck (now (s .entry)) root r ⌝ }
+{
+    if !sort_ok(s, TERM, root) {
+        return Check::Bad(Refusal::Root(root));
+    }
+    if LIMIT < root_size(s, root) {
+        return Check::Bad(Refusal::Size(root));
+    }
+    Check::Clear
+}
+
+// Rows 2 to 10, in their order.
+pub fn check_form(b: &[u8]) -> Form
+    ensures { λ r. ⌜ FormCheck (now (b .entry)) r ⌝ }
+{
+    if !length_ok(b) {
+        return Form::Malformed(Refusal::Length);
+    }
+    let n = b.len() / 8 - 1;
+    let cells = &b[..8 * n];
+    let trailer = &b[8 * n..];
+    if !mark_ok(trailer) {
+        return Form::Malformed(Refusal::Trailer);
+    }
+    if !counted_ok(trailer, n) {
+        return Form::Malformed(Refusal::Count);
+    }
+    if let Check::Bad(q) = check_cells(cells, n) {
+        return Form::Malformed(q);
+    }
+    let root = read_pair(trailer, 4);
+    if let Check::Bad(q) = check_root(cells, root) {
+        return Form::Malformed(q);
+    }
+    Form::WellFormed(root)
+}

@@ -1,0 +1,36 @@
+-- What a check answers and leaves, for every book and every work buffer. Assumes nothing.
+use Prim.Native.Nat.{ℕ, _≤_, _<_}
+use mathlib.Core.Path.{_≡_}
+use mathlib.Core.Logic.{_↔_}
+use mathlib.Core.List.{List, []}
+use lib.ListN.{length}
+use Rattle.calculus.specs.Syntax.{Ty, size-type, size}
+use Rattle.calculus.specs.Typing.{Typed}
+use Rattle.format.specs.Book.{WellFormed, opened, typeBook, rootOf}
+use Rattle.answers.specs.Answer.{Result, accepted}
+use Rattle.answers.specs.Engine.{IsWork, zeros, workLength, laid}
+use Rattle.answers.specs.Definition.{check, afterTyping, shown}
+use Rattle.calculus.specs.Infer.{infer}
+use Rattle.outcome.specs.Numbers.{answerOf}
+use Rattle.outcome.specs.declared.Outcome.{Outcome}
+
+-- The book b, the work buffer w as lent and v as left, and the answer r.
+pub record Checked (b w v : List ℕ) (r : Outcome) : Type 0 where
+  -- the answer and every byte left are the definition's, refusals with their number and cell among them
+  pub answer : answerOf r ≡ check b w .answer
+  pub left : v ≡ check b w .left
+  -- accepted precisely if the book is well-formed and the rules derive a type for its root
+  pub accepts : IsWork w → ((n : ℕ) × (answerOf r ≡ accepted n)) ↔ (WellFormed b × ((A : Ty) × Typed [] (opened b) A))
+  -- that type is the one laid down, and its size, the one given, does not pass the book's own
+  pub shows : IsWork w → WellFormed b → (A : Ty) → Typed [] (opened b) A →
+      (answerOf r ≡ accepted (size-type A)) × (v ≡ laid (typeBook A)) × (size-type A ≤ size (opened b))
+
+-- A well-formed book and a work buffer of zeros: what typing has to answer.
+pub record Formed (b w : List ℕ) (i : ℕ) : Type 0 where
+  pub form : WellFormed b
+  pub root : i ≡ rootOf b
+  pub cleared : w ≡ zeros workLength
+
+pub record Types (b v : List ℕ) (r : Outcome) : Type 0 where
+  pub answer : answerOf r ≡ afterTyping b shown (infer [] (opened b)) .answer
+  pub left : v ≡ afterTyping b shown (infer [] (opened b)) .left

@@ -1,0 +1,11 @@
+pub mod Choices
+pub mod Parts
+pub mod Forms
+pub mod Heads
+pub mod Below
+pub mod Apart
+pub mod Single
+pub mod Trees
+pub mod TermTrees
+pub mod Agree
+pub mod Halves

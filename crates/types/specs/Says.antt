@@ -1,0 +1,77 @@
+-- What a question about held types or terms asks for, and what its answer says: the test's own, of whatever the cells hold.
+-- Assumes nothing.
+use Prim.Native.Nat.{ℕ, _≤_}
+use mathlib.Core.Path.{_≡_}
+use mathlib.Core.Bool.{Bool, _&&_}
+use mathlib.Core.Logic.{_⊎_}
+use mathlib.Core.List.{List}
+use lib.ListN.{length}
+use Rattle.calculus.specs.Syntax.{Ty, Term, merge}
+use Rattle.calculus.specs.Decide.{value?, closed?}
+use Rattle.format.specs.Cell.{cellAt}
+use Rattle.cells.specs.Held.{HoldsType, HoldsTerm}
+
+-- Two cells hold something, each by H.
+pub record PairAt {X : Type 0} (H : ℕ → X → Type 0) (a b : ℕ) : Type 0 where
+  pub first : X
+  pub second : X
+  pub holds-first : H a first
+  pub holds-second : H b second
+
+-- r is what q says of whatever the two cells hold.
+pub record PairSays {X : Type 0} (H : ℕ → X → Type 0) (a b : ℕ) (q : X → X → Bool) (r : Bool) : Type 0 where
+  pub says : (x y : X) → H a x → H b y → r ≡ q x y
+
+abbrev pub TypesAt : List ℕ → ℕ → ℕ → Type 0
+TypesAt s = PairAt (HoldsType s)
+
+abbrev pub TypesSay : List ℕ → ℕ → ℕ → (Ty → Ty → Bool) → Bool → Type 0
+TypesSay s = PairSays (HoldsType s)
+
+pub record TermAt (s : List ℕ) (i : ℕ) : Type 0 where
+  pub term : Term
+  pub holds : HoldsTerm s i term
+
+pub record TermSays (s : List ℕ) (i : ℕ) (q : Term → Bool) (r : Bool) : Type 0 where
+  pub says : (e : Term) → HoldsTerm s i e → r ≡ q e
+
+abbrev pub TermsAt : List ℕ → ℕ → ℕ → Type 0
+TermsAt s = PairAt (HoldsTerm s)
+
+abbrev pub TermsSay : List ℕ → ℕ → ℕ → (Term → Term → Bool) → Bool → Type 0
+TermsSay s = PairSays (HoldsTerm s)
+
+-- two terms with a type for each, as a merge's halves
+pub record HalvesAt (s : List ℕ) (i j a b : ℕ) : Type 0 where
+  pub long : length s ≤ 65536
+  pub terms : TermsAt s i j
+  pub types : TypesAt s a b
+
+pub record HalvesSay (s : List ℕ) (i j a b : ℕ) (q : Term → Term → Ty → Ty → Bool) (r : Bool) : Type 0 where
+  pub says : (e f : Term) (A B : Ty) → HoldsTerm s i e → HoldsTerm s j f → HoldsType s a A → HoldsType s b B → r ≡ q e f A B
+
+-- two terms of one kind that has parts: 19 to 25
+pub record PartsAt (s : List ℕ) (i j : ℕ) : Type 0 where
+  pub terms : TermsAt s i j
+  pub kinds : cellAt s i .kind ≡ cellAt s j .kind
+  pub parts : 19 ≤ cellAt s i .kind
+
+-- a number, a function or a record: 17, 21, 24
+abbrev pub Plain : ℕ → Type 0
+Plain k = (k ≡ 17) ⊎ ((k ≡ 21) ⊎ (k ≡ 24))
+
+pub record PlainAt (s : List ℕ) (i j : ℕ) : Type 0 where
+  pub terms : TermsAt s i j
+  pub plain : Plain (cellAt s i .kind)
+
+pub record PlainPair (s : List ℕ) (i j : ℕ) : Type 0 where
+  pub first : PlainAt s i j
+  pub plain : Plain (cellAt s j .kind)
+
+-- the halves of a merge, in a buffer of 8,192 cells
+pub record HalvesBelow (s : List ℕ) (i j : ℕ) : Type 0 where
+  pub long : length s ≤ 65536
+  pub terms : TermsAt s i j
+
+abbrev pub closedValues? : Term → Term → Bool
+closedValues? e f = value? (merge e f) && closed? 0 (merge e f)

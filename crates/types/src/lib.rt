@@ -1,0 +1,318 @@
+// Questions about the types and terms that cells hold: subtyping, disjointness, the same tree, value, closed, consistent. Answers only:
+// nothing is written, and no function keeps an array. A type cell's field c says whether the type is top-like, so that each pair of
+// nodes is left at once where either side is.
+use cells::read_cell;
+ghost use Rattle.calculus.specs.Decide.{below?, disjoint?, sameType, sameTerm, value?, closed?, consistent?};
+ghost use Rattle.calculus.specs.Infer.{mergeable?};
+ghost use Rattle.types.specs.Says.{TypesAt, TypesSay, TermAt, TermSays, TermsAt, TermsSay, HalvesAt, HalvesSay};
+ghost use Rattle.types.specs.Says.{closedValues?, PartsAt, PlainAt, PlainPair, HalvesBelow};
+ghost use Prim.Native.Nat.{_+_, _<_};
+
+// The right side is split first, then the left: each pair of nodes is met once.
+pub fn subtype(s: &[u8], a: usize, b: usize) -> bool
+    requires { ⌜ TypesAt (now s) a b ⌝ }
+    ensures { λ r. ⌜ TypesSay (now (s .entry)) a b below? r ⌝ }
+{
+    let y = read_cell(s, b);
+    if y.c == 1 {
+        return true;
+    }
+    let x = read_cell(s, a);
+    if x.c == 1 {
+        return false;
+    }
+    if y.kind == 4 {
+        if subtype(s, a, y.a) {
+            return subtype(s, a, y.b);
+        }
+        return false;
+    }
+    if x.kind == 4 {
+        if subtype(s, x.a, b) {
+            return true;
+        }
+        return subtype(s, x.b, b);
+    }
+    if x.kind != y.kind {
+        return false;
+    }
+    if x.kind == 3 {
+        if subtype(s, y.a, x.a) {
+            return subtype(s, x.b, y.b);
+        }
+        return false;
+    }
+    if x.kind == 5 {
+        if x.label == y.label {
+            return subtype(s, x.a, y.a);
+        }
+        return false;
+    }
+    true
+}
+
+pub fn disjoint(s: &[u8], a: usize, b: usize) -> bool
+    requires { ⌜ TypesAt (now s) a b ⌝ }
+    ensures { λ r. ⌜ TypesSay (now (s .entry)) a b disjoint? r ⌝ }
+{
+    let x = read_cell(s, a);
+    if x.c == 1 {
+        return true;
+    }
+    let y = read_cell(s, b);
+    if y.c == 1 {
+        return true;
+    }
+    if x.kind == 4 {
+        if disjoint(s, x.a, b) {
+            return disjoint(s, x.b, b);
+        }
+        return false;
+    }
+    if y.kind == 4 {
+        if disjoint(s, a, y.a) {
+            return disjoint(s, a, y.b);
+        }
+        return false;
+    }
+    if x.kind != y.kind {
+        return true;
+    }
+    if x.kind == 3 {
+        return disjoint(s, x.b, y.b);
+    }
+    if x.kind == 5 {
+        if x.label == y.label {
+            return disjoint(s, x.a, y.a);
+        }
+        return true;
+    }
+    false
+}
+
+// Whether two cells hold the same tree. A cell holds the same tree as itself.
+pub fn same_type(s: &[u8], a: usize, b: usize) -> bool
+    requires { ⌜ TypesAt (now s) a b ⌝ }
+    ensures { λ r. ⌜ TypesSay (now (s .entry)) a b sameType r ⌝ }
+{
+    if a == b {
+        return true;
+    }
+    let x = read_cell(s, a);
+    let y = read_cell(s, b);
+    if x.kind != y.kind {
+        return false;
+    }
+    if x.kind < 3 {
+        return true;
+    }
+    if x.kind == 5 {
+        if x.label == y.label {
+            return same_type(s, x.a, y.a);
+        }
+        return false;
+    }
+    if same_type(s, x.a, y.a) {
+        return same_type(s, x.b, y.b);
+    }
+    false
+}
+
+pub fn value(s: &[u8], i: usize) -> bool
+    requires { ⌜ TermAt (now s) i ⌝ }
+    ensures { λ r. ⌜ TermSays (now (s .entry)) i value? r ⌝ }
+{
+    let x = read_cell(s, i);
+    if x.kind == 22 {
+        if value(s, x.a) {
+            return value(s, x.b);
+        }
+        return false;
+    }
+    if x.kind == 24 {
+        return value(s, x.a);
+    }
+    if x.kind == 17 {
+        return true;
+    }
+    if x.kind == 18 {
+        return true;
+    }
+    x.kind == 21
+}
+
+// Whether no variable of the term at i skips k binders or more.
+pub fn closed(s: &[u8], i: usize, k: usize) -> bool
+    requires { ⌜ TermAt (now s) i × (k + i < 131072) ⌝ }
+    ensures { λ r. ⌜ TermSays (now (s .entry)) i (closed? k) r ⌝ }
+{
+    let x = read_cell(s, i);
+    let kind = x.kind;
+    match kind {
+        16 => x.a < k,
+        17 | 18 => true,
+        21 | 23 => closed(s, x.a, k + 1),
+        20 | 22 => {
+            if closed(s, x.a, k) {
+                closed(s, x.b, k)
+            } else {
+                false
+            }
+        }
+        _ => closed(s, x.a, k),
+    }
+}
+
+// Whether two cells hold the same tree of a term.
+pub fn same_term(s: &[u8], i: usize, j: usize) -> bool
+    requires { ⌜ TermsAt (now s) i j ⌝ }
+    ensures { λ r. ⌜ TermsSay (now (s .entry)) i j sameTerm r ⌝ }
+{
+    if i == j {
+        return true;
+    }
+    let x = read_cell(s, i);
+    let y = read_cell(s, j);
+    if x.kind != y.kind {
+        return false;
+    }
+    if x.kind == 16 {
+        return x.a == y.a;
+    }
+    if x.kind == 17 {
+        if x.b == y.b {
+            return x.c == y.c;
+        }
+        return false;
+    }
+    if x.kind == 18 {
+        return true;
+    }
+    same_parts(s, i, j)
+}
+
+// The same of two cells of one kind that has parts.
+fn same_parts(s: &[u8], i: usize, j: usize) -> bool
+    requires { ⌜ PartsAt (now s) i j ⌝ }
+    ensures { λ r. ⌜ TermsSay (now (s .entry)) i j sameTerm r ⌝ }
+{
+    let x = read_cell(s, i);
+    let y = read_cell(s, j);
+    if same_term(s, x.a, y.a) {
+        let kind = x.kind;
+        match kind {
+            19 | 23 => same_type(s, x.b, y.b),
+            20 | 22 => same_term(s, x.b, y.b),
+            21 => {
+                if same_type(s, x.b, y.b) {
+                    same_type(s, x.c, y.c)
+                } else {
+                    false
+                }
+            }
+            _ => x.label == y.label,
+        }
+    } else {
+        false
+    }
+}
+
+// The left side is split first, then the right.
+pub fn consistent(s: &[u8], i: usize, j: usize) -> bool
+    requires { ⌜ TermsAt (now s) i j ⌝ }
+    ensures { λ r. ⌜ TermsSay (now (s .entry)) i j consistent? r ⌝ }
+{
+    let x = read_cell(s, i);
+    let kind = x.kind;
+    match kind {
+        18 => true,
+        22 => {
+            if consistent(s, x.a, j) {
+                consistent(s, x.b, j)
+            } else {
+                false
+            }
+        }
+        17 | 21 | 24 => consistent_each(s, i, j),
+        _ => false,
+    }
+}
+
+// A number, a function or a record against each part of the term at j.
+fn consistent_each(s: &[u8], i: usize, j: usize) -> bool
+    requires { ⌜ PlainAt (now s) i j ⌝ }
+    ensures { λ r. ⌜ TermsSay (now (s .entry)) i j consistent? r ⌝ }
+{
+    let y = read_cell(s, j);
+    let kind = y.kind;
+    match kind {
+        18 => true,
+        22 => {
+            if consistent_each(s, i, y.a) {
+                consistent_each(s, i, y.b)
+            } else {
+                false
+            }
+        }
+        17 | 21 | 24 => consistent_pair(s, i, j),
+        _ => false,
+    }
+}
+
+// Two terms, each a number, a function or a record. Disjointness is asked only where two functions differ.
+fn consistent_pair(s: &[u8], i: usize, j: usize) -> bool
+    requires { ⌜ PlainPair (now s) i j ⌝ }
+    ensures { λ r. ⌜ TermsSay (now (s .entry)) i j consistent? r ⌝ }
+{
+    let x = read_cell(s, i);
+    let y = read_cell(s, j);
+    if x.kind != y.kind {
+        return true;
+    }
+    if x.kind == 17 {
+        if x.b == y.b {
+            return x.c == y.c;
+        }
+        return false;
+    }
+    if x.kind == 24 {
+        if x.label == y.label {
+            return consistent(s, x.a, y.a);
+        }
+        return true;
+    }
+    if same_type(s, x.b, y.b) {
+        if same_term(s, x.a, y.a) {
+            return true;
+        }
+    }
+    disjoint(s, x.c, y.c)
+}
+
+fn closed_values(s: &[u8], i: usize, j: usize) -> bool
+    requires { ⌜ HalvesBelow (now s) i j ⌝ }
+    ensures { λ r. ⌜ TermsSay (now (s .entry)) i j closedValues? r ⌝ }
+{
+    if value(s, i) {
+        if value(s, j) {
+            if closed(s, i, 0) {
+                return closed(s, j, 0);
+            }
+        }
+    }
+    false
+}
+
+// Whether the halves i and j of a merge, of the types at a and b, may stand together.
+pub fn mergeable(s: &[u8], i: usize, j: usize, a: usize, b: usize) -> bool
+    requires { ⌜ HalvesAt (now s) i j a b ⌝ }
+    ensures { λ r. ⌜ HalvesSay (now (s .entry)) i j a b mergeable? r ⌝ }
+{
+    if disjoint(s, a, b) {
+        return true;
+    }
+    if closed_values(s, i, j) {
+        return consistent(s, i, j);
+    }
+    false
+}

@@ -1,0 +1,10 @@
+pub mod Ways
+pub mod Answers
+pub mod Parts
+pub mod Lefts
+pub mod Checking
+pub mod Applications
+pub mod Functions
+pub mod Merges
+pub mod Records
+pub mod Leaves

@@ -1,0 +1,239 @@
+-- The parts of a term in a buffer, by the fields of its cell as it was read; contexts and types in cells; and that a part is ready.
+-- Assumes nothing.
+use Prim.Native.Nat.{ℕ, zero, suc, _+_, _≤_, _<_}
+use native.Mathlib.Omega.{arith}
+use mathlib.Core.Path.{_≡_, _∙_, ap}
+use mathlib.Core.Bool.{Bool, true, false, cond}
+use mathlib.Core.List.{List, _∷_}
+use Rattle.calculus.specs.Syntax.{Ty, int, top, arrow, inter, field, size-type}
+use Rattle.calculus.specs.Syntax.{Term, var, lit, unit, anno, app, lam, merge, fix, rcd, proj, size}
+use Rattle.calculus.specs.Infer.{infer}
+use Rattle.calculus.specs.Decide.{topLike?}
+use Rattle.format.specs.Cell.{Cell, cellAt}
+use Rattle.cells.specs.Held.{mark, HoldsType, h-int, h-top, h-arrow, h-inter, h-field, HoldsTerm, Same}
+use Rattle.cells.proofs.Held.{TermAndType, TwoTerms, FunctionAt, OneTerm, term-kinds, top-at, arrow-at, field-at, same-term, same-context}
+use Rattle.typing.specs.declared.Found.{Found}
+use Rattle.typing.specs.declared.Found.the-variants.{Typed}
+use Rattle.typing.specs.Finding.{Ready, ReadyAt, Finds, Binds}
+use Rattle.typing.proofs.Ways.{Leads, leads-a, leads-b}
+use Rattle.typing.proofs.Answers.{finding, IsFound, typed}
+
+pub size-type-one : (A : Ty) → 1 ≤ size-type A
+unfolding size-type
+size-type-one int = omega arith
+size-type-one top = omega arith
+size-type-one (arrow A B) = omega arith
+size-type-one (inter A B) = omega arith
+size-type-one (field l A) = omega arith
+
+pub size-one : (e : Term) → 1 ≤ size e
+unfolding size
+size-one (var n) = omega arith
+size-one (lit i) = omega arith
+size-one unit = omega arith
+size-one (anno e A) = omega arith
+size-one (app e f) = omega arith
+size-one (lam e A B) = omega arith
+size-one (merge e f) = omega arith
+size-one (fix e A) = omega arith
+size-one (rcd l e) = omega arith
+size-one (proj l e) = omega arith
+
+pub mark-one : (A : Ty) → mark A ≤ 1
+mark-one A = go (topLike? A)
+  where
+    go : (b : Bool) → cond b 1 0 ≤ 1
+    go true = omega arith
+    go false = omega arith
+
+-- the kind of a type's cell
+abbrev pub kindOf : Ty → ℕ
+kindOf int = 1
+kindOf top = 2
+kindOf (arrow A B) = 3
+kindOf (inter A B) = 4
+kindOf (field l A) = 5
+
+pub type-kind : {s : List ℕ} {i : ℕ} {A : Ty} → HoldsType s i A → cellAt s i .kind ≡ kindOf A
+type-kind (h-int p c) = ap (λ (x : Cell). x .kind) (p .is)
+type-kind (h-top p c) = ap (λ (x : Cell). x .kind) (p .is)
+type-kind (h-arrow p c u v x y) = ap (λ (x : Cell). x .kind) (p .is)
+type-kind (h-inter p c u v x y) = ap (λ (x : Cell). x .kind) (p .is)
+type-kind (h-field p c u x) = ap (λ (x : Cell). x .kind) (p .is)
+
+-- field f of cell i is the lower cell j, which holds the term e
+pub record Part (s : List ℕ) (i f j : ℕ) (e : Term) : Type 0 where
+  pub leads : Leads s i f j
+  pub holds : HoldsTerm s j e
+
+-- an application or a merge
+pub record Two (s : List ℕ) (i : ℕ) (y : Cell) (f : Term → Term → Term) (e : Term) : Type 0 where
+  pub first : Term
+  pub second : Term
+  pub is : e ≡ f first second
+  pub left : Part s i 0 (y .a) first
+  pub right : Part s i 1 (y .b) second
+
+pub two : {s : List ℕ} {i : ℕ} {y : Cell} {f : Term → Term → Term} {e : Term} → y ≡ cellAt s i → TwoTerms s i f e → Two s i y f e
+two p t =
+    rw p
+    (record {
+      first = t .first;
+      second = t .second;
+      is = t .is;
+      left = record { leads = leads-a (t .first-lower); holds = t .holds-first };
+      right = record { leads = leads-b (t .second-lower); holds = t .holds-second };
+    })
+
+-- an annotation or a fixpoint
+pub record Noted (s : List ℕ) (i : ℕ) (y : Cell) (f : Term → Ty → Term) (e : Term) : Type 0 where
+  pub term : Term
+  pub type : Ty
+  pub is : e ≡ f term type
+  pub left : Part s i 0 (y .a) term
+  pub lower : y .b < i
+  pub holds : HoldsType s (y .b) type
+
+pub noted : {s : List ℕ} {i : ℕ} {y : Cell} {f : Term → Ty → Term} {e : Term} → y ≡ cellAt s i → TermAndType s i f e → Noted s i y f e
+noted p t =
+    rw p
+    (record {
+      term = t .term;
+      type = t .type;
+      is = t .is;
+      left = record { leads = leads-a (t .term-lower); holds = t .holds-term };
+      lower = t .type-lower;
+      holds = t .holds-type;
+    })
+
+pub record Function (s : List ℕ) (i : ℕ) (y : Cell) (e : Term) : Type 0 where
+  pub body : Term
+  pub input : Ty
+  pub output : Ty
+  pub is : e ≡ lam body input output
+  pub left : Part s i 0 (y .a) body
+  pub input-lower : y .b < i
+  pub output-lower : y .c < i
+  pub holds-input : HoldsType s (y .b) input
+  pub holds-output : HoldsType s (y .c) output
+
+pub function : {s : List ℕ} {i : ℕ} {y : Cell} {e : Term} → y ≡ cellAt s i → FunctionAt s i e → Function s i y e
+function p t =
+    rw p
+    (record {
+      body = t .body;
+      input = t .input;
+      output = t .output;
+      is = t .is;
+      left = record { leads = leads-a (t .body-lower); holds = t .holds-body };
+      input-lower = t .input-lower;
+      output-lower = t .output-lower;
+      holds-input = t .holds-input;
+      holds-output = t .holds-output;
+    })
+
+-- a record or a field read
+pub record One (s : List ℕ) (i : ℕ) (y : Cell) (f : ℕ → Term → Term) (e : Term) : Type 0 where
+  pub term : Term
+  pub is : e ≡ f (y .label) term
+  pub left : Part s i 0 (y .a) term
+
+pub one : {s : List ℕ} {i : ℕ} {y : Cell} {f : ℕ → Term → Term} {e : Term} → y ≡ cellAt s i → OneTerm s i f e → One s i y f e
+one p t = rw p (record { term = t .term; is = t .is; left = record { leads = leads-a (t .lower); holds = t .holds } })
+
+-- a function type
+pub record Arrow (s : List ℕ) (i : ℕ) (y : Cell) (A : Ty) : Type 0 where
+  pub input : Ty
+  pub output : Ty
+  pub is : A ≡ arrow input output
+  pub input-lower : y .a < i
+  pub output-lower : y .b < i
+  pub holds-input : HoldsType s (y .a) input
+  pub holds-output : HoldsType s (y .b) output
+
+pub arrow-of : {s : List ℕ} {i : ℕ} {y : Cell} {A : Ty} → y ≡ cellAt s i → y .kind ≡ 3 → HoldsType s i A → Arrow s i y A
+arrow-of p k h =
+    let t = arrow-at h (rw p at k) in
+    rw p
+    (record {
+      input = t .first;
+      output = t .second;
+      is = t .is;
+      input-lower = t .first-lower;
+      output-lower = t .second-lower;
+      holds-input = t .holds-first;
+      holds-output = t .holds-second;
+    })
+
+-- a record type
+pub record Labelled (s : List ℕ) (i : ℕ) (y : Cell) (A : Ty) : Type 0 where
+  pub content : Ty
+  pub is : A ≡ field (y .label) content
+  pub lower : y .a < i
+  pub holds : HoldsType s (y .a) content
+
+pub labelled-of : {s : List ℕ} {i : ℕ} {y : Cell} {A : Ty} → y ≡ cellAt s i → y .kind ≡ 5 → HoldsType s i A → Labelled s i y A
+labelled-of p k h =
+    let t = field-at h (rw p at k) in
+    rw p (record { content = t .content; is = t .is; lower = t .lower; holds = t .holds })
+
+pub top-of : {s : List ℕ} {i : ℕ} {y : Cell} {A : Ty} → y ≡ cellAt s i → y .kind ≡ 2 → HoldsType s i A → A ≡ top
+top-of p k h = top-at h (rw p at k)
+
+-- A part is ready in the buffer as it is later, with m cells used.
+pub ready-part : {s u : List ℕ} {n m c i f j : ℕ} {e : Term} → Ready s n c i → Part s i f j e → Same s u n → n ≤ m → m + size e ≤ 8192 → Ready u m c j
+ready-part {e = e} r p q l k =
+    record {
+      long = q .long ∙ r .long;
+      context = r .context;
+      holds-context = same-context q (r .context-below) (r .holds-context);
+      context-below = omega (arith, r .context-below);
+      term = e;
+      holds-term = same-term q (omega (arith, p .leads .lower, r .term-below)) (p .holds);
+      term-below = omega (arith, p .leads .lower, r .term-below);
+      room = k;
+    }
+
+-- The body of a function or a fixpoint is ready under it.
+pub ready-body : {s t : List ℕ} {n a c i f j : ℕ} {A : Ty} {e : Term} → Ready s n c i → Part s i f j e →
+    Binds s t n a c → HoldsType s a A → n + 1 + size e ≤ 8192 → Ready t (n + 1) n j
+ready-body {A = A} {e = e} r p w h k =
+    record {
+      long = w .same .long ∙ r .long;
+      context = A ∷ r .context;
+      holds-context = w .holds A (r .context) h (r .holds-context);
+      context-below = omega arith;
+      term = e;
+      holds-term = same-term (w .same) (omega (arith, p .leads .lower, r .term-below)) (p .holds);
+      term-below = omega (arith, p .leads .lower, r .term-below);
+      room = k;
+    }
+
+-- What was found at a cell that was ready.
+pub found : {s u : List ℕ} {n c i x k : ℕ} {r : Found} → (p : Ready s n c i) → Finds s u n c i r → r ≡ Typed x k →
+    IsFound s u n (size (p .term)) x k (infer (p .context) (p .term))
+found p f e = typed (finding f (p .holds-context) (p .holds-term)) e
+
+-- There is room for a cell.
+pub room-one : {s : List ℕ} {n c i : ℕ} → Ready s n c i → n < 8192
+room-one p = omega (arith, p .room, size-one (p .term))
+
+-- The kind that was read, of a cell that is ready.
+pub at-kind : {s : List ℕ} {n c i k : ℕ} {y : Cell} → Ready s n c i → y ≡ cellAt s i → y .kind ≡ k → ReadyAt s n c i k
+at-kind p o e = record { ready = p; kind = rw o at e }
+
+-- k is none of the n numbers from m on
+abbrev pub NoneOf : ℕ → ℕ → ℕ → Type 0
+NoneOf k m zero = Unit {0}
+NoneOf k m (suc n) = NoneOf k m n × ¬ (k ≡ m + n)
+
+none-of : (k m n : ℕ) → m ≤ k → NoneOf k m n → m + n ≤ k
+none-of k m zero h r = omega arith
+none-of k m (suc n) h r = let b = none-of k m n h (r .0) in omega (arith, r .1)
+
+-- A term of none of the other kinds is a field read.
+pub at-last : {s : List ℕ} {n c i : ℕ} {y : Cell} → Ready s n c i → y ≡ cellAt s i → NoneOf (y .kind) 16 9 → ReadyAt s n c i 25
+at-last {y = y} p o r =
+    let b : (16 ≤ y .kind) × (y .kind ≤ 25) = rw o (term-kinds (p .holds-term)) in
+    let l : 25 ≤ y .kind = none-of (y .kind) 16 9 (b .0) r in
+    at-kind p o (omega arith)

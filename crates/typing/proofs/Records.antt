@@ -1,0 +1,117 @@
+-- Records and field reads. Assumes nothing.
+use Prim.Native.Nat.{ℕ, _+_, _≤_, _<_}
+use native.Mathlib.Omega.{arith}
+use mathlib.Core.Path.{_≡_, refl, sym, _∙_, ap}
+use mathlib.Core.List.{List}
+use lib.ListN.{length}
+use borrow.Author.Tests.{eq-eqb, ne-eqb}
+use Rattle.calculus.specs.Syntax.{Ty, int, top, arrow, inter, field, rcd, size}
+use Rattle.calculus.specs.Infer as Infer
+use Rattle.calculus.specs.Infer.{labelled, projected, infer}
+use Rattle.calculus.specs.Decide.{topLike?}
+use Rattle.format.specs.Cell.{Cell, cellAt}
+use Rattle.format.specs.Book.{follow}
+use Rattle.outcome.specs.declared.Refusal.the-variants.{Projection}
+use Rattle.cells.specs.Held.{HoldsType, h-field}
+use Rattle.cells.proofs.Held.{same-type, same-trans, type-mark, Written, rcd-at, proj-at}
+use Rattle.typing.specs.declared.Found.{Found}
+use Rattle.typing.specs.declared.Found.the-variants.{Typed, Refused}
+use Rattle.typing.specs.Finding.{Answered, ReadyAt, Finds}
+use Rattle.typing.proofs.Answers.{finding, IsFound, typed}
+use Rattle.typing.proofs.Parts.{mark-one, type-kind, One, one, labelled-of, top-of}
+
+-- ---- a record
+
+module _ {s : List ℕ} {n c i : ℕ} {y : Cell} (p : ReadyAt s n c i 24) (o : y ≡ cellAt s i) where
+  own : One s i y rcd (p .ready .term)
+  own = one o (rcd-at (p .ready .holds-term) (p .kind))
+
+  own-room : n + (1 + size (own .term)) ≤ 8192
+  unfolding size
+  own-room = rw (own .is) at (p .ready .room)
+
+  module _ {u : List ℕ} {r : Found} {x k : ℕ} (f : Finds s u n c (y .a) r) (e : r ≡ Typed x k) where
+    content-found : IsFound s u n (size (own .term)) x k (infer (p .ready .context) (own .term))
+    content-found = typed (finding f (p .ready .holds-context) (own .left .holds)) e
+
+    -- the fields of the record type's cell fit
+    pub rcd-writes : {g : Cell} → g ≡ cellAt u x → (x < k) × (g .c ≤ 1) × (k < 8192) × (length u ≡ 65536)
+    rcd-writes j =
+        let z = content-found in
+        (z .below, rw (j, type-mark (z .holds)) (mark-one (z .type)), omega (arith, own-room, z .less), z .same .long ∙ p .ready .long)
+
+    pub rcd-found : {v : List ℕ} {g : Cell} → g ≡ cellAt u x → Written u v k (record { kind = 5; label = y .label; a = x; b = 0; c = g .c }) →
+        Finds s v n c i (Typed k (k + 1))
+    unfolding infer labelled size topLike?
+    rcd-found j w =
+        record {
+          says = λ Γ d g h.
+              let v = one o (rcd-at h (p .kind)) in
+              let z = typed (finding f g (v .left .holds)) e in
+              rw (v .is, z .is) (
+                k,
+                k + 1,
+                refl,
+                omega (arith, z .more),
+                omega (arith, z .less),
+                same-trans (z .same) (w .same) (z .more),
+                omega arith,
+                h-field (w .there) (ap (λ (x : Cell). x .c) j ∙ type-mark (z .holds)) (z .below) (same-type (w .same) (z .below) (z .holds)),
+              );
+        }
+
+-- ---- a field read
+
+module _ {s : List ℕ} {n c i : ℕ} {y : Cell} (p : ReadyAt s n c i 25) (o : y ≡ cellAt s i) where
+  module _ {u : List ℕ} {r : Found} {x k : ℕ} {g : Cell} (f : Finds s u n c (y .a) r) (e : r ≡ Typed x k) (t : g ≡ cellAt u x) where
+    pub proj-top : g .kind ≡ 2 → Finds s u n c i (Typed x k)
+    unfolding infer projected size
+    proj-top j =
+        record {
+          says = λ Γ d a h.
+              let v = one o (proj-at h (p .kind)) in
+              let z = typed (finding f a (v .left .holds)) e in
+              let w : z .type ≡ top = top-of t j (z .holds) in
+              rw (v .is, z .is, w) (x, k, refl, z .more, omega (arith, z .less), z .same, z .below, rw w at (z .holds));
+        }
+
+    pub proj-found : g .kind ≡ 5 → g .label ≡ y .label → Finds s u n c i (Typed (g .a) k)
+    unfolding infer projected size
+    proj-found j b =
+        record {
+          says = λ Γ d a h.
+              let v = one o (proj-at h (p .kind)) in
+              let z = typed (finding f a (v .left .holds)) e in
+              let w = labelled-of t j (z .holds) in
+              rw (v .is, z .is, w .is, eq-eqb (y .label) (g .label) (sym b))
+              (g .a, k, refl, z .more, omega (arith, z .less), z .same, omega (arith, w .lower, z .below), w .holds);
+        }
+
+    pub proj-other : g .kind ≡ 5 → ¬ (g .label ≡ y .label) → Finds s u n c i (Refused (Projection i))
+    unfolding infer projected follow
+    proj-other j b =
+        record {
+          says = λ Γ d a h.
+              let v = one o (proj-at h (p .kind)) in
+              let z = typed (finding f a (v .left .holds)) e in
+              let w = labelled-of t j (z .holds) in
+              rw (v .is, z .is, w .is, ne-eqb (y .label) (g .label) (λ l. b (sym l))) (Projection i, refl, refl);
+        }
+
+    -- neither Top nor a record type
+    pub proj-else : ¬ (g .kind ≡ 2) → ¬ (g .kind ≡ 5) → Finds s u n c i (Refused (Projection i))
+    unfolding infer projected follow
+    proj-else a b =
+        record {
+          says = λ Γ d l h.
+              let v = one o (proj-at h (p .kind)) in
+              let z = typed (finding f l (v .left .holds)) e in
+              rw (v .is, z .is) (go _ _ (z .type) (z .holds));
+        }
+      where
+        go : (m l : ℕ) (A : Ty) → HoldsType u x A → Answered s u n m i (Refused (Projection i)) (projected l (Infer.found A))
+        go m l int h = (Projection i, refl, refl)
+        go m l top h = absurd (a (ap (λ (z : Cell). z .kind) t ∙ type-kind h))
+        go m l (arrow A B) h = (Projection i, refl, refl)
+        go m l (inter A B) h = (Projection i, refl, refl)
+        go m l (field k A) h = absurd (b (ap (λ (z : Cell). z .kind) t ∙ type-kind h))

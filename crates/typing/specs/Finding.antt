@@ -1,0 +1,105 @@
+-- Finding and checking over a buffer: what a call needs, and what it answers and leaves. The buffer's first n cells stay as they were;
+-- types found are cells, never copies. Of the cells above, and of the buffer after a refusal, nothing is decided but what stands here.
+-- Assumes nothing.
+use Prim.Native.Nat.{ℕ, _+_, _≤_, _<_}
+use mathlib.Core.Path.{_≡_}
+use mathlib.Core.Bool.{cond}
+use mathlib.Core.Option.{Option, none, some}
+use mathlib.Core.List.{List, [], _∷_}
+use lib.ListN.{length, getElem?}
+use Rattle.calculus.specs.Syntax.{Ty, inter, Term, size}
+use Rattle.calculus.specs.Infer as Infer
+use Rattle.calculus.specs.Infer.{mismatch, infer}
+use Rattle.calculus.specs.Decide.{below?}
+use Rattle.format.specs.Cell.{cellAt}
+use Rattle.format.specs.Book.{follow}
+use Rattle.answers.specs.Answer.{refused, ill-typed}
+use Rattle.outcome.specs.Numbers.{refusalAnswer}
+use Rattle.outcome.specs.declared.Refusal.{Refusal}
+use Rattle.cells.specs.Held.{HoldsType, HoldsTerm, HoldsContext, Same}
+use Rattle.types.specs.Says.{TypesAt}
+use Rattle.typing.specs.declared.Found.{Found}
+use Rattle.typing.specs.declared.Found.the-variants.{Typed, Refused}
+use Rattle.typing.specs.declared.Bound.{Bound}
+use Rattle.typing.specs.declared.Bound.the-variants.{At, Free}
+
+-- A buffer of 8,192 cells, of which n are used: a context, a term, and room for a cell for each cell of the term.
+pub record Ready (s : List ℕ) (n c i : ℕ) : Type 0 where
+  pub long : length s ≡ 65536
+  pub context : List Ty
+  pub holds-context : HoldsContext s c context
+  pub context-below : c < n
+  pub term : Term
+  pub holds-term : HoldsTerm s i term
+  pub term-below : i < n
+  pub room : n + size term ≤ 8192
+
+-- The same, at a term of kind k.
+pub record ReadyAt (s : List ℕ) (n c i k : ℕ) : Type 0 where
+  pub ready : Ready s n c i
+  pub kind : cellAt s i .kind ≡ k
+
+-- What is answered for a found type or a refusal: a cell that holds the type, at most m cells added; or the refusal, at the cell that
+-- the way leads to.
+abbrev pub Answered : (s t : List ℕ) (n m i : ℕ) → Found → Infer.Found → Type 0
+Answered s t n m i r (Infer.found A) =
+    (c : ℕ) × (k : ℕ) × (r ≡ Typed c k) × (n ≤ k) × (k ≤ n + m) × Same s t n × (c < k) × HoldsType t c A
+Answered s t n m i r (Infer.refused w p) = (q : Refusal) × (r ≡ Refused q) × (refusalAnswer q ≡ refused (ill-typed w) (follow s i p))
+
+pub record Finds (s t : List ℕ) (n c i : ℕ) (r : Found) : Type 0 where
+  pub says : (Γ : List Ty) (e : Term) → HoldsContext s c Γ → HoldsTerm s i e → Answered s t n (size e) i r (infer Γ e)
+
+-- Checking: also a wanted type.
+pub record ReadyFor (s : List ℕ) (n c i w : ℕ) : Type 0 where
+  pub ready : Ready s n c i
+  pub wanted : Ty
+  pub holds-wanted : HoldsType s w wanted
+  pub wanted-below : w < n
+
+-- The term itself is checked: a mismatch names it.
+abbrev pub checkedHere : Infer.Found → Ty → Infer.Found
+checkedHere (Infer.found C) A = cond (below? C A) (Infer.found A) (Infer.refused mismatch [])
+checkedHere (Infer.refused r p) A = Infer.refused r p
+
+pub record Checks (s t : List ℕ) (n c i w : ℕ) (r : Found) : Type 0 where
+  pub says : (Γ : List Ty) (e : Term) (A : Ty) → HoldsContext s c Γ → HoldsTerm s i e → HoldsType s w A →
+      Answered s t n (size e) i r (checkedHere (infer Γ e) A)
+
+-- Looking a variable up: the cell of its binder's type, or none.
+pub record ContextAt (s : List ℕ) (c : ℕ) : Type 0 where
+  pub long : length s ≡ 65536
+  pub context : List Ty
+  pub holds : HoldsContext s c context
+
+abbrev pub BoundBy : (s : List ℕ) (c : ℕ) → Bound → Option Ty → Type 0
+BoundBy s c r none = r ≡ Free
+BoundBy s c r (some A) = (t : ℕ) × (r ≡ At t) × (t < c) × HoldsType s t A
+
+pub record Looks (s : List ℕ) (c k : ℕ) (r : Bound) : Type 0 where
+  pub says : (Γ : List Ty) → HoldsContext s c Γ → BoundBy s c r (getElem? Γ k)
+
+-- A type and a context below n, and room for a cell.
+pub record BinderBelow (s : List ℕ) (n a c : ℕ) : Type 0 where
+  pub long : length s ≡ 65536
+  pub type-below : a < n
+  pub context-below : c < n
+  pub room : n < 8192
+
+-- One binder more, in cell n.
+pub record Binds (s t : List ℕ) (n a c : ℕ) : Type 0 where
+  pub same : Same s t n
+  pub holds : (A : Ty) (Γ : List Ty) → HoldsType s a A → HoldsContext s c Γ → HoldsContext t n (A ∷ Γ)
+
+-- Two types below n, and room for a cell.
+pub record TypesBelow (s : List ℕ) (n a b : ℕ) : Type 0 where
+  pub long : length s ≡ 65536
+  pub types : TypesAt s a b
+  pub first-below : a < n
+  pub second-below : b < n
+  pub room : n < 8192
+
+-- The intersection, in cell n.
+pub record AddsInter (s t : List ℕ) (n a b : ℕ) (r : Found) : Type 0 where
+  pub answers : r ≡ Typed n (n + 1)
+  pub same : Same s t n
+  pub holds : (A B : Ty) → HoldsType s a A → HoldsType s b B → HoldsType t n (inter A B)

@@ -1,0 +1,290 @@
+// Finding a type and checking against one, over a buffer that holds a book's cells and, above them, the type and context cells that
+// typing adds. A found type is a cell number, never a copy. The term's cell number falls from call to call, checking before finding.
+use cells::Cell;
+use cells::read_cell;
+use cells::write_cell;
+use outcome::Refusal;
+use types::mergeable;
+use types::subtype;
+ghost use Rattle.typing.specs.Finding.{Ready, ReadyAt, Finds, ReadyFor, Checks, ContextAt, Looks};
+ghost use Rattle.typing.specs.Finding.{BinderBelow, Binds, TypesBelow, AddsInter};
+
+// A cell that holds the type, and the count of cells used; or why there is none.
+pub enum Found {
+    Typed(usize, usize),
+    Refused(Refusal),
+}
+
+// The cell of a binder's type.
+pub enum Bound {
+    At(usize),
+    Free,
+}
+
+// The type of the variable that skips k binders of the context at c.
+fn lookup(s: &[u8], c: usize, k: usize) -> Bound
+    requires { ⌜ ContextAt (now s) c ⌝ }
+    ensures { λ r. ⌜ Looks (now (s .entry)) c k r ⌝ }
+{
+    if c == 0 {
+        return Bound::Free;
+    }
+    let t = read_cell(s, c);
+    if k == 0 {
+        return Bound::At(t.a);
+    }
+    lookup(s, t.b, k - 1)
+}
+
+fn find_var(s: &mut [u8], n: usize, c: usize, i: usize) -> Found
+    requires { ⌜ ReadyAt (now s) n c i 16 ⌝ }
+    ensures { λ r. ⌜ Finds (now (s .entry)) (now (s .exit)) n c i r ⌝ }
+{
+    let t = read_cell(s, i);
+    let Bound::At(a) = lookup(s, c, t.a) else {
+        return Found::Refused(Refusal::Unbound(i));
+    };
+    Found::Typed(a, n)
+}
+
+fn find_lit(s: &mut [u8], n: usize, c: usize, i: usize) -> Found
+    requires { ⌜ ReadyAt (now s) n c i 17 ⌝ }
+    ensures { λ r. ⌜ Finds (now (s .entry)) (now (s .exit)) n c i r ⌝ }
+{
+    write_cell(
+        s,
+        n,
+        Cell {
+            kind: 1,
+            label: 0,
+            a: 0,
+            b: 0,
+            c: 0,
+        },
+    );
+    Found::Typed(n, n + 1)
+}
+
+fn find_unit(s: &mut [u8], n: usize, c: usize, i: usize) -> Found
+    requires { ⌜ ReadyAt (now s) n c i 18 ⌝ }
+    ensures { λ r. ⌜ Finds (now (s .entry)) (now (s .exit)) n c i r ⌝ }
+{
+    write_cell(
+        s,
+        n,
+        Cell {
+            kind: 2,
+            label: 0,
+            a: 0,
+            b: 0,
+            c: 1,
+        },
+    );
+    Found::Typed(n, n + 1)
+}
+
+fn find_anno(s: &mut [u8], n: usize, c: usize, i: usize) -> Found
+    requires { ⌜ ReadyAt (now s) n c i 19 ⌝ }
+    ensures { λ r. ⌜ Finds (now (s .entry)) (now (s .exit)) n c i r ⌝ }
+{
+    let t = read_cell(s, i);
+    check(s, n, c, t.a, t.b)
+}
+
+// 12 is tested before the right side is walked.
+fn find_app(s: &mut [u8], n: usize, c: usize, i: usize) -> Found
+    requires { ⌜ ReadyAt (now s) n c i 20 ⌝ }
+    ensures { λ r. ⌜ Finds (now (s .entry)) (now (s .exit)) n c i r ⌝ }
+{
+    let t = read_cell(s, i);
+    let left = find(s, n, c, t.a);
+    let Found::Typed(f, m) = left else {
+        return left;
+    };
+    let g = read_cell(s, f);
+    if g.kind == 2 {
+        return check(s, m, c, t.b, f);
+    }
+    if g.kind != 3 {
+        return Found::Refused(Refusal::Application(i));
+    }
+    let right = check(s, m, c, t.b, g.a);
+    let Found::Typed(_, k) = right else {
+        return right;
+    };
+    Found::Typed(g.b, k)
+}
+
+// The context c with one binder more, of the type at a.
+fn bind(s: &mut [u8], n: usize, a: usize, c: usize)
+    requires { ⌜ BinderBelow (now s) n a c ⌝ }
+    ensures { λ _. ⌜ Binds (now (s .entry)) (now (s .exit)) n a c ⌝ }
+{
+    write_cell(
+        s,
+        n,
+        Cell {
+            kind: 0,
+            label: 0,
+            a,
+            b: c,
+            c: 0,
+        },
+    );
+}
+
+fn find_lam(s: &mut [u8], n: usize, c: usize, i: usize) -> Found
+    requires { ⌜ ReadyAt (now s) n c i 21 ⌝ }
+    ensures { λ r. ⌜ Finds (now (s .entry)) (now (s .exit)) n c i r ⌝ }
+{
+    let t = read_cell(s, i);
+    bind(s, n, t.b, c);
+    let body = check(s, n + 1, n, t.a, t.c);
+    let Found::Typed(_, m) = body else {
+        return body;
+    };
+    let output = read_cell(s, t.c);
+    write_cell(
+        s,
+        m,
+        Cell {
+            kind: 3,
+            label: 0,
+            a: t.b,
+            b: t.c,
+            c: output.c,
+        },
+    );
+    Found::Typed(m, m + 1)
+}
+
+// The intersection of two types, in a cell of its own.
+fn add_inter(s: &mut [u8], n: usize, a: usize, b: usize) -> Found
+    requires { ⌜ TypesBelow (now s) n a b ⌝ }
+    ensures { λ r. ⌜ AddsInter (now (s .entry)) (now (s .exit)) n a b r ⌝ }
+{
+    let x = read_cell(s, a);
+    let y = read_cell(s, b);
+    write_cell(
+        s,
+        n,
+        Cell {
+            kind: 4,
+            label: 0,
+            a,
+            b,
+            c: x.c * y.c,
+        },
+    );
+    Found::Typed(n, n + 1)
+}
+
+fn find_merge(s: &mut [u8], n: usize, c: usize, i: usize) -> Found
+    requires { ⌜ ReadyAt (now s) n c i 22 ⌝ }
+    ensures { λ r. ⌜ Finds (now (s .entry)) (now (s .exit)) n c i r ⌝ }
+{
+    let t = read_cell(s, i);
+    let left = find(s, n, c, t.a);
+    let Found::Typed(a, m) = left else {
+        return left;
+    };
+    let right = find(s, m, c, t.b);
+    let Found::Typed(b, k) = right else {
+        return right;
+    };
+    if mergeable(s, t.a, t.b, a, b) {
+        add_inter(s, k, a, b)
+    } else {
+        Found::Refused(Refusal::Merge(i))
+    }
+}
+
+fn find_fix(s: &mut [u8], n: usize, c: usize, i: usize) -> Found
+    requires { ⌜ ReadyAt (now s) n c i 23 ⌝ }
+    ensures { λ r. ⌜ Finds (now (s .entry)) (now (s .exit)) n c i r ⌝ }
+{
+    let t = read_cell(s, i);
+    bind(s, n, t.b, c);
+    check(s, n + 1, n, t.a, t.b)
+}
+
+fn find_rcd(s: &mut [u8], n: usize, c: usize, i: usize) -> Found
+    requires { ⌜ ReadyAt (now s) n c i 24 ⌝ }
+    ensures { λ r. ⌜ Finds (now (s .entry)) (now (s .exit)) n c i r ⌝ }
+{
+    let t = read_cell(s, i);
+    let inside = find(s, n, c, t.a);
+    let Found::Typed(a, m) = inside else {
+        return inside;
+    };
+    let content = read_cell(s, a);
+    write_cell(
+        s,
+        m,
+        Cell {
+            kind: 5,
+            label: t.label,
+            a,
+            b: 0,
+            c: content.c,
+        },
+    );
+    Found::Typed(m, m + 1)
+}
+
+fn find_proj(s: &mut [u8], n: usize, c: usize, i: usize) -> Found
+    requires { ⌜ ReadyAt (now s) n c i 25 ⌝ }
+    ensures { λ r. ⌜ Finds (now (s .entry)) (now (s .exit)) n c i r ⌝ }
+{
+    let t = read_cell(s, i);
+    let inside = find(s, n, c, t.a);
+    let Found::Typed(a, m) = inside else {
+        return inside;
+    };
+    let g = read_cell(s, a);
+    if g.kind == 2 {
+        return Found::Typed(a, m);
+    }
+    if g.kind == 5 {
+        if g.label == t.label {
+            return Found::Typed(g.a, m);
+        }
+    }
+    Found::Refused(Refusal::Projection(i))
+}
+
+pub fn find(s: &mut [u8], n: usize, c: usize, i: usize) -> Found
+    requires { ⌜ Ready (now s) n c i ⌝ }
+    ensures { λ r. ⌜ Finds (now (s .entry)) (now (s .exit)) n c i r ⌝ }
+{
+    let t = read_cell(s, i);
+    let kind = t.kind;
+    match kind {
+        16 => find_var(s, n, c, i),
+        17 => find_lit(s, n, c, i),
+        18 => find_unit(s, n, c, i),
+        19 => find_anno(s, n, c, i),
+        20 => find_app(s, n, c, i),
+        21 => find_lam(s, n, c, i),
+        22 => find_merge(s, n, c, i),
+        23 => find_fix(s, n, c, i),
+        24 => find_rcd(s, n, c, i),
+        _ => find_proj(s, n, c, i),
+    }
+}
+
+// "Checking: find a type; it must be below the wanted one."
+fn check(s: &mut [u8], n: usize, c: usize, i: usize, w: usize) -> Found
+    requires { ⌜ ReadyFor (now s) n c i w ⌝ }
+    ensures { λ r. ⌜ Checks (now (s .entry)) (now (s .exit)) n c i w r ⌝ }
+{
+    let found = find(s, n, c, i);
+    let Found::Typed(t, m) = found else {
+        return found;
+    };
+    if subtype(s, t, w) {
+        Found::Typed(w, m)
+    } else {
+        Found::Refused(Refusal::Mismatch(i))
+    }
+}
