@@ -1,11 +1,13 @@
 // The numbers that are shown of a refusal: its row of document 01's table, and its cell.
 use outcome::Refusal;
 ghost use mathlib.Core.Path.{_≡_};
+ghost use Prim.Native.Nat.{_<_};
 ghost use Rattle.outcome.specs.Numbers.{refusalAnswer};
 ghost use Rattle.report.specs.Numbers.{rowOf, cellOf};
 
 pub fn row(r: Refusal) -> usize
     ensures { λ n. ⌜ n ≡ rowOf (refusalAnswer r) ⌝ }
+    ensures { λ n. ⌜ n < 16 ⌝ }
 {
     match r {
         Refusal::Buffer => 1,

@@ -1,6 +1,6 @@
 -- Consistency of two held terms, by the kinds of their cells: what it asks of the parts, and what it answers outright.
 -- Assumes nothing.
-use Prim.Native.Nat.{ℕ, _+_, _*_, _≤_, _<_}
+use Prim.Native.Nat.{ℕ, _+_, _<_}
 use mathlib.Core.Path.{_≡_, refl, sym, ap, ap₂, _∙_}
 use mathlib.Core.Logic.{_↔_, _⊎_, inl, inr, ⊎-elim}
 use mathlib.Core.Bool.{Bool, true, false, not, _&&_, _||_, and-false}
@@ -12,10 +12,10 @@ use borrow.Author.Tests.{eq-eqb, ne-eqb}
 use Rattle.calculus.specs.Syntax.{Ty, Term, var, lit, unit, anno, app, lam, merge, fix, rcd, proj}
 use Rattle.calculus.specs.Decide.{sameType, sameTerm, disjoint?, decided, sameInteger, eachPart, consistentLit, consistentLam, consistentRcd, consistent?}
 use Rattle.calculus.proofs.Bools.{decided-says}
-use Rattle.format.specs.Cell.{IsBytes, Cell, cellAt, half, signed, unsigned}
-use Rattle.cells.specs.Held.{HoldsType, HoldsTerm, h-var, h-lit, h-unit, h-anno, h-app, h-lam, h-merge, h-fix, h-rcd, h-proj}
+use Rattle.format.specs.Cell.{IsBytes, Cell, cellAt}
+use Rattle.cells.specs.Held.{HoldsTerm, h-var, h-lit, h-unit, h-anno, h-app, h-lam, h-merge, h-fix, h-rcd, h-proj}
 use Rattle.cells.proofs.Held.{lit-at, unit-at, lam-at, merge-at, rcd-at}
-use Rattle.types.specs.Says.{PairAt, PairSays, TypesAt, TypesSay, TermsAt, TermsSay, Plain, PlainAt, PlainPair}
+use Rattle.types.specs.Says.{TypesAt, TypesSay, TermsAt, TermsSay, Plain, PlainAt, PlainPair}
 use Rattle.types.proofs.Parts.{Passes, Splits, Whenever}
 use Rattle.types.proofs.Forms.{Terms, kind-first, kind-second}
 use Rattle.types.proofs.TermTrees.{termKind, numberOf, number-halves, number-other, kinds-differ, is-number}

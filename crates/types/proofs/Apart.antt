@@ -2,12 +2,11 @@
 -- Assumes nothing.
 use Prim.Native.Nat.{ℕ, _+_}
 use mathlib.Core.Path.{_≡_, refl, sym, ap, _∙_}
-use mathlib.Core.Bool.{Bool, true, false, not, _&&_, _||_}
+use mathlib.Core.Bool.{true, false, _&&_}
 use mathlib.Core.List.{List}
 use native.Mathlib.Omega.{arith}
-use lib.Dec.{eqb}
 use borrow.Author.Tests.{eq-eqb, ne-eqb}
-use Rattle.calculus.specs.Syntax.{Ty, int, arrow, inter, field}
+use Rattle.calculus.specs.Syntax.{Ty}
 use Rattle.calculus.specs.Decide.{disjoint?, disjointInt}
 use Rattle.calculus.proofs.Decisions.{disjoint?-topLike-left, disjoint?-topLike-right, disjoint?-heads, disjoint?-inter-left, disjoint?-inter-right, disjoint?-arrow, disjoint?-field}
 use Rattle.format.specs.Cell.{Cell, cellAt}

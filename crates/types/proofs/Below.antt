@@ -1,18 +1,16 @@
 -- Subtyping of two held types, by the kinds of their cells: what it asks of the parts, and what it answers outright. Assumes nothing.
 use Prim.Native.Nat.{ℕ, _+_}
 use mathlib.Core.Path.{_≡_, refl, sym, ap, _∙_}
-use mathlib.Core.Bool.{Bool, true, false, _&&_, _||_}
+use mathlib.Core.Bool.{true, false, _&&_, _||_}
 use mathlib.Core.List.{List}
 use native.Mathlib.Omega.{arith}
-use lib.Dec.{eqb}
 use borrow.Author.Tests.{eq-eqb, ne-eqb}
-use Rattle.calculus.specs.Syntax.{Ty, int, top, arrow, inter, field, size-type}
-use Rattle.calculus.specs.Subtyping.{Ordinary}
+use Rattle.calculus.specs.Syntax.{Ty, size-type}
 use Rattle.calculus.specs.Decide.{topLike?, below?, belowWithin}
 use Rattle.calculus.proofs.Decisions.{below?-topLike, below?-from-topLike, below?-inter-right, below?-inter-left, below?-arrow, below?-field, below?-heads}
 use Rattle.format.specs.Cell.{Cell, cellAt}
 use Rattle.cells.specs.Held.{HoldsType}
-use Rattle.cells.proofs.Held.{arrow-at, field-at}
+use Rattle.cells.proofs.Held.{arrow-at}
 use Rattle.types.proofs.Parts.{Passes, Splits}
 use Rattle.types.proofs.Forms.{Types, right-inter, left-inter, contents, labels, kind-first, kind-second}
 use Rattle.types.proofs.Heads.{top-like, not-top-like, head-at, head-ordinary, first-head, second-head, heads-differ, two-numbers}

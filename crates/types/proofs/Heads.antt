@@ -6,13 +6,13 @@ use mathlib.Core.Bool.{Bool, true, false, cond}
 use mathlib.Core.List.{List}
 use native.Mathlib.Omega.{arith}
 use lib.Dec.{T}
-use Rattle.calculus.specs.Syntax.{Ty, int, top, arrow, inter, field}
+use Rattle.calculus.specs.Syntax.{Ty, int}
 use Rattle.calculus.specs.Disjointness.{Head, number, function, record-type, HasHead}
 use Rattle.calculus.specs.Subtyping.{Ordinary}
 use Rattle.calculus.specs.Disjointness as D
 use Rattle.calculus.specs.Decide.{topLike?}
 use Rattle.format.specs.Cell.{Cell, cellAt}
-use Rattle.cells.specs.Held.{HoldsType, h-int, h-top, h-arrow, h-inter, h-field, mark}
+use Rattle.cells.specs.Held.{HoldsType, h-int, h-top, h-arrow, h-inter, h-field}
 use Rattle.cells.proofs.Held.{type-mark}
 use Rattle.types.proofs.Forms.{Types}
 

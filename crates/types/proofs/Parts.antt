@@ -32,14 +32,14 @@ Whenever {X} H a b P = (x y : X) → H a x → H b y → P x y
 pub and-both : {p q r s t : Bool} → t ≡ (q && s) → p ≡ q → p ≡ true → r ≡ s → r ≡ t
 and-both {q} {s} e f g h = h ∙ sym (e ∙ rw (sym f ∙ g) refl)
 
-pub and-none : {p q t : Bool} (s : Bool) → t ≡ (q && s) → p ≡ q → p ≡ false → false ≡ t
-and-none s e f g = sym (e ∙ rw (sym f ∙ g) refl)
+pub and-none : {p q t : Bool} (s : Bool) → t ≡ (q && s) → p ≡ q → p ≡ false → p ≡ t
+and-none s e f g = g ∙ sym (e ∙ rw (sym f ∙ g) refl)
 
 pub or-both : {p q r s t : Bool} → t ≡ (q || s) → p ≡ q → p ≡ false → r ≡ s → r ≡ t
 or-both e f g h = h ∙ sym (e ∙ rw (sym f ∙ g) refl)
 
-pub or-some : {p q t : Bool} (s : Bool) → t ≡ (q || s) → p ≡ q → p ≡ true → true ≡ t
-or-some s e f g = sym (e ∙ rw (sym f ∙ g) refl)
+pub or-some : {p q t : Bool} (s : Bool) → t ≡ (q || s) → p ≡ q → p ≡ true → p ≡ t
+or-some s e f g = g ∙ sym (e ∙ rw (sym f ∙ g) refl)
 
 -- a measure below n is below t, which n is
 pub less-at : {m n t : ℕ} → m < n → n ≡ t → m < t
@@ -49,6 +49,10 @@ module _ {X : Type 0} {H : ℕ → X → Type 0} {q : X → X → Bool} {a b : �
   -- the answer is known outright
   pub outright : {r : Bool} → Whenever H a b (λ x y. r ≡ q x y) → PairSays H a b q r
   outright f = record { says = f }
+
+  -- the same, by a test
+  pub flagged : {r u : Bool} → r ≡ u → Whenever H a b (λ x y. u ≡ q x y) → PairSays H a b q r
+  flagged e f = record { says = λ x y h k. e ∙ f x y h k }
 
   module _ {n c d : ℕ} {r : Bool} where
     pub passed : Whenever H a b (Passes H q n c d) → PairSays H c d q r → PairSays H a b q r
@@ -63,7 +67,7 @@ module _ {X : Type 0} {H : ℕ → X → Type 0} {q : X → X → Bool} {a b : �
           (v .says _ _ (z .second .holds-first) (z .second .holds-second));
     }
 
-    pub none : Whenever H a b (Divides H q K g _&&_ n c d e f) → PairSays H c d q p → p ≡ false → PairSays H a b q false
+    pub none : Whenever H a b (Divides H q K g _&&_ n c d e f) → PairSays H c d q p → p ≡ false → PairSays H a b q p
     none w u t = record {
       says = λ x y h k. let z = w x y h k in and-none _ (z .is) (u .says _ _ (z .first .holds-first) (z .first .holds-second)) t;
     }
@@ -76,7 +80,7 @@ module _ {X : Type 0} {H : ℕ → X → Type 0} {q : X → X → Bool} {a b : �
           (v .says _ _ (z .second .holds-first) (z .second .holds-second));
     }
 
-    pub some : Whenever H a b (Divides H q K g _||_ n c d e f) → PairSays H c d q p → p ≡ true → PairSays H a b q true
+    pub some : Whenever H a b (Divides H q K g _||_ n c d e f) → PairSays H c d q p → p ≡ true → PairSays H a b q p
     some w u t = record {
       says = λ x y h k. let z = w x y h k in or-some _ (z .is) (u .says _ _ (z .first .holds-first) (z .first .holds-second)) t;
     }

@@ -1,5 +1,5 @@
 -- Two questions about one held term, whether it is a value and whether it is closed, by the kind of its cell. Assumes nothing.
-use Prim.Native.Nat.{ℕ, suc, _+_, _≤_, _<_}
+use Prim.Native.Nat.{ℕ, _+_, _≤_, _<_}
 use mathlib.Core.Path.{_≡_, refl, sym, ap, _∙_}
 use mathlib.Core.Logic.{_⊎_, inl, inr, ⊎-elim}
 use mathlib.Core.Bool.{Bool, true, false, _&&_}
@@ -7,7 +7,7 @@ use mathlib.Core.List.{List}
 use native.Mathlib.Omega.{arith}
 use native.Mathlib.Numerals.{add-one}
 use lib.Dec.{eqb, ltb}
-use Rattle.calculus.specs.Syntax.{Term, var, lit, unit, anno, app, lam, merge, fix, rcd, proj}
+use Rattle.calculus.specs.Syntax.{Term}
 use Rattle.calculus.specs.Decide.{value?, closed?}
 use Rattle.format.specs.Cell.{Cell, cellAt}
 use Rattle.cells.specs.Held.{IsCell, HoldsTerm, h-var, h-lit, h-unit, h-anno, h-app, h-lam, h-merge, h-fix, h-rcd, h-proj}
@@ -33,6 +33,9 @@ module _ {s : List ℕ} {q : Term → Bool} {i : ℕ} where
   pub one-outright : {r : Bool} → ((e : Term) → HoldsTerm s i e → r ≡ q e) → TermSays s i q r
   one-outright f = record { says = f }
 
+  pub one-flagged : {r u : Bool} → r ≡ u → ((e : Term) → HoldsTerm s i e → u ≡ q e) → TermSays s i q r
+  one-flagged e f = record { says = λ t h. e ∙ f t h }
+
   pub one-passed : {p : Term → Bool} {a : ℕ} {r : Bool} → ((e : Term) → HoldsTerm s i e → OnePasses s q p i a e) → TermSays s a p r → TermSays s i q r
   one-passed f u = record { says = λ e h. let v = f e h in u .says _ (v .part .holds) ∙ sym (v .is) }
 
@@ -40,7 +43,7 @@ module _ {s : List ℕ} {q : Term → Bool} {i : ℕ} where
     pub one-both : {r : Bool} → ((e : Term) → HoldsTerm s i e → OneSplits s q i a b e) → TermSays s a q p → p ≡ true → TermSays s b q r → TermSays s i q r
     one-both f u t v = record { says = λ e h. let w = f e h in and-both (w .is) (u .says _ (w .first .holds)) t (v .says _ (w .second .holds)) }
 
-    pub one-none : ((e : Term) → HoldsTerm s i e → OneSplits s q i a b e) → TermSays s a q p → p ≡ false → TermSays s i q false
+    pub one-none : ((e : Term) → HoldsTerm s i e → OneSplits s q i a b e) → TermSays s a q p → p ≡ false → TermSays s i q p
     one-none f u t = record { says = λ e h. let w = f e h in and-none _ (w .is) (u .says _ (w .first .holds)) t }
 
 kind-is : {s : List ℕ} {i k l a b c : ℕ} {x : Cell} → x ≡ cellAt s i → IsCell s i k l a b c → x .kind ≡ k

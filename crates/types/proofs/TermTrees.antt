@@ -16,7 +16,7 @@ use Rattle.format.specs.Cell.{IsBytes, Cell, cellAt, half, signed, unsigned}
 use Rattle.format.proofs.Numbers.{unsigned-signed}
 use Rattle.cells.specs.Held.{HoldsType, HoldsTerm, h-var, h-lit, h-unit, h-anno, h-app, h-lam, h-merge, h-fix, h-rcd, h-proj}
 use Rattle.cells.proofs.Held.{TermAndType, TwoTerms, OneTerm, var-at, lit-at, unit-at, anno-at, app-at, lam-at, merge-at, fix-at, rcd-at, proj-at, term-kinds, term-one}
-use Rattle.types.specs.Says.{PairSays, TypesAt, TypesSay, TermsAt, TermsSay, PartsAt}
+use Rattle.types.specs.Says.{TypesAt, TypesSay, TermsAt, TermsSay, PartsAt}
 use Rattle.types.proofs.Choices.{test-same, tests-split, same-two, compares-types, compares-terms, compares-labels, one-of-two, either-of}
 use Rattle.types.proofs.Parts.{Divides, Splits, Whenever, and-both, and-none}
 use Rattle.types.proofs.Forms.{Terms, kind-first, kind-second}
@@ -253,7 +253,7 @@ module _ {s : List ℕ} {i j n a b : ℕ} {p : Bool} where
 
   pub head-none : Whenever (HoldsTerm s) i j (AnyHeaded s n a b) → TermsSay s a b sameTerm p → p ≡ false → TermsSay s i j sameTerm false
   head-none w u t = record {
-    says = λ e f h k. let v = w e f h k .headed in and-none _ (v .is) (u .says _ _ (v .part .holds-first) (v .part .holds-second)) t;
+    says = λ e f h k. let v = w e f h k .headed in sym t ∙ and-none _ (v .is) (u .says _ _ (v .part .holds-first) (v .part .holds-second)) t;
   }
 
 module _ {s : List ℕ} {i j n : ℕ} {x y : Cell} {p q : Bool} (w : Whenever (HoldsTerm s) i j (Functions s n x y))
@@ -266,7 +266,7 @@ module _ {s : List ℕ} {i j n : ℕ} {x y : Cell} {p q : Bool} (w : Whenever (H
         (and-both refl (v .says _ _ (l .inputs .holds-first) (l .inputs .holds-second)) o (z .says _ _ (l .outputs .holds-first) (l .outputs .holds-second)));
   }
 
-  pub functions-none : q ≡ false → TermsSay s i j sameTerm false
+  pub functions-none : q ≡ false → TermsSay s i j sameTerm q
   functions-none o = record {
     says = λ e f h k.
         let l = w e f h k in

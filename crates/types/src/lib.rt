@@ -22,31 +22,19 @@ pub fn subtype(s: &[u8], a: usize, b: usize) -> bool
         return false;
     }
     if y.kind == 4 {
-        if subtype(s, a, y.a) {
-            return subtype(s, a, y.b);
-        }
-        return false;
+        return subtype(s, a, y.a) && subtype(s, a, y.b);
     }
     if x.kind == 4 {
-        if subtype(s, x.a, b) {
-            return true;
-        }
-        return subtype(s, x.b, b);
+        return subtype(s, x.a, b) || subtype(s, x.b, b);
     }
     if x.kind != y.kind {
         return false;
     }
     if x.kind == 3 {
-        if subtype(s, y.a, x.a) {
-            return subtype(s, x.b, y.b);
-        }
-        return false;
+        return subtype(s, y.a, x.a) && subtype(s, x.b, y.b);
     }
     if x.kind == 5 {
-        if x.label == y.label {
-            return subtype(s, x.a, y.a);
-        }
-        return false;
+        return x.label == y.label && subtype(s, x.a, y.a);
     }
     true
 }
@@ -64,16 +52,10 @@ pub fn disjoint(s: &[u8], a: usize, b: usize) -> bool
         return true;
     }
     if x.kind == 4 {
-        if disjoint(s, x.a, b) {
-            return disjoint(s, x.b, b);
-        }
-        return false;
+        return disjoint(s, x.a, b) && disjoint(s, x.b, b);
     }
     if y.kind == 4 {
-        if disjoint(s, a, y.a) {
-            return disjoint(s, a, y.b);
-        }
-        return false;
+        return disjoint(s, a, y.a) && disjoint(s, a, y.b);
     }
     if x.kind != y.kind {
         return true;
@@ -82,10 +64,7 @@ pub fn disjoint(s: &[u8], a: usize, b: usize) -> bool
         return disjoint(s, x.b, y.b);
     }
     if x.kind == 5 {
-        if x.label == y.label {
-            return disjoint(s, x.a, y.a);
-        }
-        return true;
+        return x.label != y.label || disjoint(s, x.a, y.a);
     }
     false
 }
@@ -107,15 +86,9 @@ pub fn same_type(s: &[u8], a: usize, b: usize) -> bool
         return true;
     }
     if x.kind == 5 {
-        if x.label == y.label {
-            return same_type(s, x.a, y.a);
-        }
-        return false;
+        return x.label == y.label && same_type(s, x.a, y.a);
     }
-    if same_type(s, x.a, y.a) {
-        return same_type(s, x.b, y.b);
-    }
-    false
+    same_type(s, x.a, y.a) && same_type(s, x.b, y.b)
 }
 
 pub fn value(s: &[u8], i: usize) -> bool
@@ -124,21 +97,12 @@ pub fn value(s: &[u8], i: usize) -> bool
 {
     let x = read_cell(s, i);
     if x.kind == 22 {
-        if value(s, x.a) {
-            return value(s, x.b);
-        }
-        return false;
+        return value(s, x.a) && value(s, x.b);
     }
     if x.kind == 24 {
         return value(s, x.a);
     }
-    if x.kind == 17 {
-        return true;
-    }
-    if x.kind == 18 {
-        return true;
-    }
-    x.kind == 21
+    x.kind == 17 || (x.kind == 18 || x.kind == 21)
 }
 
 // Whether no variable of the term at i skips k binders or more.
@@ -152,13 +116,7 @@ pub fn closed(s: &[u8], i: usize, k: usize) -> bool
         16 => x.a < k,
         17 | 18 => true,
         21 | 23 => closed(s, x.a, k + 1),
-        20 | 22 => {
-            if closed(s, x.a, k) {
-                closed(s, x.b, k)
-            } else {
-                false
-            }
-        }
+        20 | 22 => closed(s, x.a, k) && closed(s, x.b, k),
         _ => closed(s, x.a, k),
     }
 }
@@ -180,10 +138,7 @@ pub fn same_term(s: &[u8], i: usize, j: usize) -> bool
         return x.a == y.a;
     }
     if x.kind == 17 {
-        if x.b == y.b {
-            return x.c == y.c;
-        }
-        return false;
+        return x.b == y.b && x.c == y.c;
     }
     if x.kind == 18 {
         return true;
@@ -198,22 +153,15 @@ fn same_parts(s: &[u8], i: usize, j: usize) -> bool
 {
     let x = read_cell(s, i);
     let y = read_cell(s, j);
-    if same_term(s, x.a, y.a) {
-        let kind = x.kind;
-        match kind {
-            19 | 23 => same_type(s, x.b, y.b),
-            20 | 22 => same_term(s, x.b, y.b),
-            21 => {
-                if same_type(s, x.b, y.b) {
-                    same_type(s, x.c, y.c)
-                } else {
-                    false
-                }
-            }
-            _ => x.label == y.label,
-        }
-    } else {
-        false
+    if !same_term(s, x.a, y.a) {
+        return false;
+    }
+    let kind = x.kind;
+    match kind {
+        19 | 23 => same_type(s, x.b, y.b),
+        20 | 22 => same_term(s, x.b, y.b),
+        21 => same_type(s, x.b, y.b) && same_type(s, x.c, y.c),
+        _ => x.label == y.label,
     }
 }
 
@@ -226,13 +174,7 @@ pub fn consistent(s: &[u8], i: usize, j: usize) -> bool
     let kind = x.kind;
     match kind {
         18 => true,
-        22 => {
-            if consistent(s, x.a, j) {
-                consistent(s, x.b, j)
-            } else {
-                false
-            }
-        }
+        22 => consistent(s, x.a, j) && consistent(s, x.b, j),
         17 | 21 | 24 => consistent_each(s, i, j),
         _ => false,
     }
@@ -247,13 +189,7 @@ fn consistent_each(s: &[u8], i: usize, j: usize) -> bool
     let kind = y.kind;
     match kind {
         18 => true,
-        22 => {
-            if consistent_each(s, i, y.a) {
-                consistent_each(s, i, y.b)
-            } else {
-                false
-            }
-        }
+        22 => consistent_each(s, i, y.a) && consistent_each(s, i, y.b),
         17 | 21 | 24 => consistent_pair(s, i, j),
         _ => false,
     }
@@ -270,21 +206,13 @@ fn consistent_pair(s: &[u8], i: usize, j: usize) -> bool
         return true;
     }
     if x.kind == 17 {
-        if x.b == y.b {
-            return x.c == y.c;
-        }
-        return false;
+        return x.b == y.b && x.c == y.c;
     }
     if x.kind == 24 {
-        if x.label == y.label {
-            return consistent(s, x.a, y.a);
-        }
-        return true;
+        return x.label != y.label || consistent(s, x.a, y.a);
     }
-    if same_type(s, x.b, y.b) {
-        if same_term(s, x.a, y.a) {
-            return true;
-        }
+    if same_type(s, x.b, y.b) && same_term(s, x.a, y.a) {
+        return true;
     }
     disjoint(s, x.c, y.c)
 }
@@ -293,14 +221,7 @@ fn closed_values(s: &[u8], i: usize, j: usize) -> bool
     requires { ⌜ HalvesBelow (now s) i j ⌝ }
     ensures { λ r. ⌜ TermsSay (now (s .entry)) i j closedValues? r ⌝ }
 {
-    if value(s, i) {
-        if value(s, j) {
-            if closed(s, i, 0) {
-                return closed(s, j, 0);
-            }
-        }
-    }
-    false
+    value(s, i) && (value(s, j) && (closed(s, i, 0) && closed(s, j, 0)))
 }
 
 // Whether the halves i and j of a merge, of the types at a and b, may stand together.
@@ -308,11 +229,5 @@ pub fn mergeable(s: &[u8], i: usize, j: usize, a: usize, b: usize) -> bool
     requires { ⌜ HalvesAt (now s) i j a b ⌝ }
     ensures { λ r. ⌜ HalvesSay (now (s .entry)) i j a b mergeable? r ⌝ }
 {
-    if disjoint(s, a, b) {
-        return true;
-    }
-    if closed_values(s, i, j) {
-        return consistent(s, i, j);
-    }
-    false
+    disjoint(s, a, b) || (closed_values(s, i, j) && consistent(s, i, j))
 }

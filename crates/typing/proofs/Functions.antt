@@ -1,20 +1,21 @@
--- Functions and fixpoints: a cell of the context is written, and the body checked under it. Assumes nothing.
+-- Functions and fixpoints: the context takes one binder more, and the body is checked under it. Assumes nothing.
 use Prim.Native.Nat.{ℕ, _+_, _*_, _≤_, _<_}
 use native.Mathlib.Omega.{arith}
 use mathlib.Core.Path.{_≡_, refl, _∙_, ap}
 use mathlib.Core.List.{List, _∷_}
 use lib.ListN.{length}
-use Rattle.calculus.specs.Syntax.{arrow, fix, size, size-type}
+use Rattle.calculus.specs.Syntax.{Ty, arrow, Term, fix, size, size-type}
+use Rattle.calculus.specs.Infer as Infer
 use Rattle.calculus.specs.Infer.{infer}
 use Rattle.calculus.specs.Decide.{topLike?}
 use Rattle.format.specs.Cell.{Cell, cellAt}
 use Rattle.outcome.specs.declared.Refusal.{Refusal}
-use Rattle.cells.specs.Held.{HoldsType, h-arrow, Same}
-use Rattle.cells.proofs.Held.{same-type, same-term, same-trans, type-within, type-mark, Written, lam-at, fix-at}
+use Rattle.cells.specs.Held.{HoldsType, h-arrow, HoldsTerm, HoldsContext, Same}
+use Rattle.cells.proofs.Held.{same-type, same-term, same-trans, type-within, type-mark, lam-at, fix-at}
 use Rattle.typing.specs.declared.Found.{Found}
 use Rattle.typing.specs.declared.Found.the-variants.{Typed, Refused}
-use Rattle.typing.specs.Finding.{ReadyAt, Finds, ReadyFor, checkedHere, Checks, BinderBelow, Binds}
-use Rattle.typing.proofs.Answers.{checking, IsFound, typed, turned, handed, checked-carried}
+use Rattle.typing.specs.Finding.{ReadyAt, Finds, ReadyFor, checkedHere, Checks, RoomFor, Adds, BinderBelow, Binds}
+use Rattle.typing.proofs.Answers.{Answer, checking, typed, turned, handed, carried, checked-carried}
 use Rattle.typing.proofs.Parts.{size-type-one, mark-one, Function, function, Noted, noted, ready-body}
 use Rattle.typing.proofs.Checking.{carried-on}
 
@@ -37,92 +38,121 @@ module _ {s : List ℕ} {n c i : ℕ} {y : Cell} (p : ReadyAt s n c i 21) (o : y
         room = omega (arith, own-room);
       }
 
-  module _ {t : List ℕ} (w : Binds s t n (y .b) c) where
-    pub lam-asks : (y .a < i) × ReadyFor t (n + 1) n (y .a) (y .c)
+  module _ {t : List ℕ} {m : ℕ} (w : Binds s t n (y .b) c m) where
+    pub lam-asks : (y .a < i) × ReadyFor t m n (y .a) (y .c)
     lam-asks =
         let r = own-room in
-        let l = size-type-one (own .input) in (
+        let l = size-type-one (own .input) in
+        let b : y .c < n = omega (arith, own .output-lower, p .ready .term-below) in (
           own .left .leads .lower,
           record {
             ready = ready-body (p .ready) (own .left) w (own .holds-input) (omega arith);
             wanted = own .output;
-            holds-wanted = same-type (w .same) (omega (arith, own .output-lower, p .ready .term-below)) (own .holds-output);
-            wanted-below = omega (arith, own .output-lower, p .ready .term-below);
+            holds-wanted = same-type (w .same) b (own .holds-output);
+            wanted-below = omega (arith, w .counts);
           },
         )
 
-    module _ {u : List ℕ} {r : Found} (f : Checks t u (n + 1) n (y .a) (y .c) r) where
-      pub lam-refused : {q : Refusal} → r ≡ Refused q → Finds s u n c i r
+    module _ {u : List ℕ} {r : Found} (f : Checks t u m n (y .a) (y .c) r) where
+      -- the body's answer, of whatever context and function the cells hold
+      record Body (Γ : List Ty) (d : Term) : Type 0 where
+        view : Function s i y d
+        input-below : y .b < n
+        output-below : y .c < n
+        answer : Answer t u m (size (view .body)) (y .a) r (checkedHere (infer (view .input ∷ Γ) (view .body)) (view .output))
+        is : infer Γ d ≡ carried 0 (arrow (view .input) (view .output)) (checkedHere (infer (view .input ∷ Γ) (view .body)) (view .output))
+
+      body : {Γ : List Ty} {d : Term} → HoldsContext s c Γ → HoldsTerm s i d → Body Γ d
       unfolding infer
+      body {Γ} g h =
+          let v = function o (lam-at h (p .kind)) in
+          let b = p .ready .term-below in
+          let l : y .c < n = omega (arith, v .output-lower) in
+          record {
+            view = v;
+            input-below = omega (arith, v .input-lower);
+            output-below = l;
+            answer =
+                checking f (w .holds (v .input) Γ (v .holds-input) g) (same-term (w .same) (omega (arith, v .left .leads .lower)) (v .left .holds))
+                (same-type (w .same) l (v .holds-output));
+            is = ap (infer Γ) (v .is) ∙ checked-carried 0 (infer (v .input ∷ Γ) (v .body)) (v .output) (arrow (v .input) (v .output));
+          }
+
+      pub lam-refused : {q : Refusal} → r ≡ Refused q → Finds s u n c i r
       lam-refused e =
           record {
             says = λ Γ d g h.
-                let v = function o (lam-at h (p .kind)) in
-                let b = p .ready .term-below in
-                let m = same-term (w .same) (omega (arith, v .left .leads .lower)) (v .left .holds) in
-                let k = same-type (w .same) (omega (arith, v .output-lower)) (v .holds-output) in
-                let z = turned (checking f (w .holds (v .input) Γ (v .holds-input) g) m k) e in
-                rw (v .is, checked-carried 0 (infer (v .input ∷ Γ) (v .body)) (v .output) (arrow (v .input) (v .output)), z .is)
-                (handed (v .left .leads) b (w .same) e z);
+                let v = body g h in
+                let z = turned (v .answer) e in
+                rw (v .is, z .is) (handed (v .view .left .leads) (p .ready .term-below) (w .same) e z);
           }
 
       module _ {x k : ℕ} (e : r ≡ Typed x k) where
-        -- the body passed: what is known of the buffer then
-        body-found : IsFound t u (n + 1) (size (own .body)) x k (checkedHere (infer (own .input ∷ p .ready .context) (own .body)) (own .output))
-        body-found =
-            typed
-            (checking f (w .holds (own .input) (p .ready .context) (own .holds-input) (p .ready .holds-context))
-            (same-term (w .same) (omega (arith, own .left .leads .lower, p .ready .term-below)) (own .left .holds))
-            (same-type (w .same) (omega (arith, own .output-lower, p .ready .term-below)) (own .holds-output)))
-            e
+        -- the body passed
+        record Passed (Γ : List Ty) (d : Term) : Type 0 where
+          of : Body Γ d
+          is : infer Γ d ≡ Infer.found (arrow (of .view .input) (of .view .output))
+          more : n + 1 ≤ k
+          less : k ≤ n + 1 + size (of .view .body)
+          same : Same s u n
+          input : HoldsType u (y .b) (of .view .input)
+          output : HoldsType u (y .c) (of .view .output)
 
-        same-after : Same s u n
-        same-after = same-trans (w .same) (body-found .same) (omega arith)
+        passed : {Γ : List Ty} {d : Term} → HoldsContext s c Γ → HoldsTerm s i d → Passed Γ d
+        passed g h =
+            let v = body g h in
+            let z = typed (v .answer) e in
+            let S : Same s u n = same-trans (w .same) (z .same) (omega (arith, w .counts)) in
+            record {
+              of = v;
+              is = v .is ∙ ap (carried 0 (arrow (v .view .input) (v .view .output))) (z .is);
+              more = omega (arith, w .counts, z .more);
+              less = omega (arith, w .counts, z .less);
+              same = S;
+              input = same-type S (v .input-below) (v .view .holds-input);
+              output = same-type S (v .output-below) (v .view .holds-output);
+            }
 
-        output-after : HoldsType u (y .c) (own .output)
-        output-after = same-type same-after (omega (arith, own .output-lower, p .ready .term-below)) (own .holds-output)
+        own-passed : Passed (p .ready .context) (p .ready .term)
+        own-passed = passed (p .ready .holds-context) (p .ready .holds-term)
 
         pub lam-within : 8 * y .c + 8 ≤ length u
-        lam-within = type-within output-after
+        lam-within = type-within (own-passed .output)
 
-        -- the fields of the function type's cell fit
-        pub lam-writes : {g : Cell} → g ≡ cellAt u (y .c) → (y .b < k) × (y .c < k) × (g .c ≤ 1) × (k < 8192) × (length u ≡ 65536)
-        lam-writes j =
-            let b = p .ready .term-below in
-            let l = body-found .more in (
-              omega (arith, own .input-lower),
-              omega (arith, own .output-lower),
-              rw (j, type-mark output-after) (mark-one (own .output)),
-              omega (arith, own-room, body-found .less, size-type-one (own .input), size-type-one (own .output)),
-              same-after .long ∙ p .ready .long,
-            )
-
-        pub lam-found : {v : List ℕ} {g : Cell} → g ≡ cellAt u (y .c) →
-            Written u v k (record { kind = 3; label = 0; a = y .b; b = y .c; c = g .c }) → Finds s v n c i (Typed k (k + 1))
-        unfolding infer size topLike?
-        lam-found {v} {g} j a =
+        pub lam-room : {g : Cell} → g ≡ cellAt u (y .c) → RoomFor u k (y .b) (y .c) (g .c)
+        unfolding size
+        lam-room j =
+            let z = own-passed in
+            let v = z .of .view in
+            let l = ap size (v .is) in
+            let r : k < 8192 = omega (arith, p .ready .room, z .less, size-type-one (v .input), size-type-one (v .output)) in
             record {
-              says = λ Γ d l h.
-                  let z = function o (lam-at h (p .kind)) in
-                  let b = p .ready .term-below in
-                  let m = same-term (w .same) (omega (arith, z .left .leads .lower)) (z .left .holds) in
-                  let q = same-type (w .same) (omega (arith, z .output-lower)) (z .holds-output) in
-                  let y′ = typed (checking f (w .holds (z .input) Γ (z .holds-input) l) m q) e in
-                  let more = y′ .more in
-                  let input = z .input-lower in
-                  let output = z .output-lower in
-                  let S : Same s v n = same-trans same-after (a .same) (omega arith) in
-                  let out = same-type same-after (omega arith) (z .holds-output) in
-                  rw (z .is, checked-carried 0 (infer (z .input ∷ Γ) (z .body)) (z .output) (arrow (z .input) (z .output)), y′ .is) (
+              long = z .same .long ∙ p .ready .long;
+              room = r;
+              a-fits = omega (arith, z .of .input-below, z .more);
+              b-fits = omega (arith, z .of .output-below, z .more);
+              c-fits = rw (j, type-mark (z .output)) (omega (arith, mark-one (v .output)));
+            }
+
+        pub lam-found : {v : List ℕ} {g : Cell} {l : ℕ} → g ≡ cellAt u (y .c) → Adds u v k 3 0 (y .b) (y .c) (g .c) l → Finds s v n c i (Typed k l)
+        unfolding size topLike?
+        lam-found {l = l} j a =
+            record {
+              says = λ Γ d g h.
+                  let z = passed g h in
+                  let v = z .of .view in
+                  let q = ap size (v .is) in
+                  let b : y .b < k = omega (arith, z .of .input-below, z .more) in
+                  let o : y .c < k = omega (arith, z .of .output-below, z .more) in
+                  rw (z .is) (
                     k,
-                    k + 1,
+                    l,
                     refl,
-                    omega arith,
-                    omega (arith, y′ .less, size-type-one (z .input), size-type-one (z .output)),
-                    S,
-                    omega arith,
-                    h-arrow (a .there) (ap (λ (x : Cell). x .c) j ∙ type-mark out) (omega arith) (omega arith)
-                        (same-type S (omega arith) (z .holds-input)) (same-type S (omega arith) (z .holds-output)),
+                    omega (arith, z .more, a .counts),
+                    omega (arith, z .less, a .counts, size-type-one (v .input), size-type-one (v .output)),
+                    same-trans (z .same) (a .same) (omega (arith, z .more)),
+                    omega (arith, a .counts),
+                    h-arrow (a .there) (ap (λ (x : Cell). x .c) j ∙ type-mark (z .output)) b o (same-type (a .same) b (z .input)) (same-type (a .same) o (z .output)),
                   );
             }
 
@@ -145,8 +175,8 @@ module _ {s : List ℕ} {n c i : ℕ} {y : Cell} (p : ReadyAt s n c i 23) (o : y
         room = omega (arith, fix-room);
       }
 
-  module _ {t : List ℕ} (w : Binds s t n (y .b) c) where
-    pub fix-asks : (y .a < i) × ReadyFor t (n + 1) n (y .a) (y .b)
+  module _ {t : List ℕ} {m : ℕ} (w : Binds s t n (y .b) c m) where
+    pub fix-asks : (y .a < i) × ReadyFor t m n (y .a) (y .b)
     fix-asks =
         let r = fix-room in
         let l = size-type-one (fix-own .type) in (
@@ -155,20 +185,20 @@ module _ {s : List ℕ} {n c i : ℕ} {y : Cell} (p : ReadyAt s n c i 23) (o : y
             ready = ready-body (p .ready) (fix-own .left) w (fix-own .holds) (omega arith);
             wanted = fix-own .type;
             holds-wanted = same-type (w .same) (fix-binds .type-below) (fix-own .holds);
-            wanted-below = omega (arith, fix-binds .type-below);
+            wanted-below = omega (arith, fix-binds .type-below, w .counts);
           },
         )
 
-    pub fix-finds : {u : List ℕ} {r : Found} → Checks t u (n + 1) n (y .a) (y .b) r → Finds s u n c i r
+    pub fix-finds : {u : List ℕ} {r : Found} → Checks t u m n (y .a) (y .b) r → Finds s u n c i r
     unfolding infer size
     fix-finds f =
         record {
           says = λ Γ d g h.
               let v = noted o (fix-at h (p .kind)) in
               let b = p .ready .term-below in
-              let m = same-term (w .same) (omega (arith, v .left .leads .lower)) (v .left .holds) in
+              let l = same-term (w .same) (omega (arith, v .left .leads .lower)) (v .left .holds) in
               rw (v .is, checked-carried 0 (infer (v .type ∷ Γ) (v .term)) (v .type) (v .type))
-              (carried-on (infer (v .type ∷ Γ) (v .term)) (v .type) (size (fix (v .term) (v .type))) (v .left .leads) b (w .same) (omega arith)
-              (omega (arith, size-type-one (v .type)))
-              (checking f (w .holds (v .type) Γ (v .holds) g) m (same-type (w .same) (fix-binds .type-below) (v .holds))));
+              (carried-on (infer (v .type ∷ Γ) (v .term)) (v .type) (size (fix (v .term) (v .type))) (v .left .leads) b (w .same)
+              (omega (arith, w .counts)) (omega (arith, w .counts, size-type-one (v .type)))
+              (checking f (w .holds (v .type) Γ (v .holds) g) l (same-type (w .same) (fix-binds .type-below) (v .holds))));
         }

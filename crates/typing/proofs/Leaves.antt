@@ -7,19 +7,20 @@ use mathlib.Core.Bool.{Bool, true, false, _&&_, cond}
 use mathlib.Core.Option.{Option, none, some}
 use mathlib.Core.List.{List, [], _∷_}
 use lib.ListN.{length, getElem?}
+use lib.Seq.{sets}
 use Rattle.calculus.specs.Syntax.{Ty, inter, Term, var, size}
 use Rattle.calculus.specs.Infer as Infer
 use Rattle.calculus.specs.Infer.{infer}
 use Rattle.calculus.specs.Decide.{topLike?}
-use Rattle.format.specs.Cell.{Cell, cellAt}
+use Rattle.format.specs.Cell.{Cell, cellAt, cellBytes}
 use Rattle.format.specs.Book.{follow}
 use Rattle.outcome.specs.declared.Refusal.the-variants.{Unbound}
 use Rattle.cells.specs.Held.{mark, HoldsType, h-int, h-top, h-inter, HoldsTerm, HoldsContext, h-empty, h-bind}
-use Rattle.cells.proofs.Held.{same-type, same-context, same-refl, type-mark, Written, var-at, lit-at, unit-at}
+use Rattle.cells.proofs.Held.{same-type, same-context, same-refl, type-mark, written, var-at, lit-at, unit-at}
 use Rattle.typing.specs.declared.Found.the-variants.{Typed, Refused}
 use Rattle.typing.specs.declared.Bound.{Bound}
 use Rattle.typing.specs.declared.Bound.the-variants.{At, Free}
-use Rattle.typing.specs.Finding.{Answered, ReadyAt, Finds, BoundBy, ContextAt, Looks, BinderBelow, Binds, TypesBelow, AddsInter}
+use Rattle.typing.specs.Finding.{Answered, ReadyAt, Finds, BoundBy, ContextAt, Looks, RoomFor, Adds, BinderBelow, Binds, TypesBelow, AddsInter}
 use Rattle.typing.proofs.Parts.{mark-one}
 
 -- ---- contexts
@@ -47,10 +48,19 @@ bind-at o h-empty z = absurd (z refl)
 bind-at o (h-bind {A = A} {Γ = Γ} p a b h g) z =
     rw (o, p .is) (record { type = A; rest = Γ; is = refl; type-lower = a; rest-lower = b; holds-type = h; holds-rest = g })
 
+-- ---- a cell more
+
+pub adds : {s t : List ℕ} {n a b c : ℕ} (k l : ℕ) → RoomFor s n a b c → t ≡ sets s (8 * n) (cellBytes (record { kind = k; label = l; a = a; b = b; c = c })) →
+    Adds s t n k l a b c (n + 1)
+adds k l p e =
+    let w = written _ (omega (arith, p .long, p .room)) e in
+    record { counts = refl; same = w .same; there = w .there }
+
 -- the cell of a binder, above all cells
-pub binds : {s t : List ℕ} {n a c : ℕ} → BinderBelow s n a c → Written s t n (record { kind = 0; label = 0; a = a; b = c; c = 0 }) → Binds s t n a c
+pub binds : {s t : List ℕ} {n a c r : ℕ} → BinderBelow s n a c → Adds s t n 0 0 a c 0 r → Binds s t n a c r
 binds p w =
     record {
+      counts = w .counts;
       same = w .same;
       holds = λ A Γ h g. h-bind (w .there) (p .type-below) (p .context-below) (same-type (w .same) (p .type-below) h) (same-context (w .same) (p .context-below) g);
     }
@@ -120,16 +130,16 @@ module _ {s : List ℕ} {n c i : ℕ} {y : Cell} (p : ReadyAt s n c i 16) (o : y
 
 -- ---- a number and the top value: a cell of their type
 
-module _ {s t : List ℕ} {n c i : ℕ} where
-  pub lit-found : ReadyAt s n c i 17 → Written s t n (record { kind = 1; label = 0; a = 0; b = 0; c = 0 }) → Finds s t n c i (Typed n (n + 1))
+module _ {s t : List ℕ} {n c i r : ℕ} where
+  pub lit-found : ReadyAt s n c i 17 → Adds s t n 1 0 0 0 0 r → Finds s t n c i (Typed n r)
   unfolding infer size topLike?
   lit-found p w =
-      record { says = λ Γ d g h. rw (lit-at h (p .kind)) (n, n + 1, refl, omega arith, omega arith, w .same, omega arith, h-int (w .there) refl) }
+      record { says = λ Γ d g h. rw (lit-at h (p .kind)) (n, r, refl, omega (arith, w .counts), omega (arith, w .counts), w .same, omega (arith, w .counts), h-int (w .there) refl) }
 
-  pub unit-found : ReadyAt s n c i 18 → Written s t n (record { kind = 2; label = 0; a = 0; b = 0; c = 1 }) → Finds s t n c i (Typed n (n + 1))
+  pub unit-found : ReadyAt s n c i 18 → Adds s t n 2 0 0 0 1 r → Finds s t n c i (Typed n r)
   unfolding infer size topLike?
   unit-found p w =
-      record { says = λ Γ d g h. rw (unit-at h (p .kind)) (n, n + 1, refl, omega arith, omega arith, w .same, omega arith, h-top (w .there) refl) }
+      record { says = λ Γ d g h. rw (unit-at h (p .kind)) (n, r, refl, omega (arith, w .counts), omega (arith, w .counts), w .same, omega (arith, w .counts), h-top (w .there) refl) }
 
 -- ---- the cell of an intersection
 
@@ -150,10 +160,10 @@ module _ {s : List ℕ} {n a b : ℕ} {x y : Cell} (p : TypesBelow s n a b) (o :
   pub inter-mark : x .c * y .c ≤ 1
   inter-mark = rw (mark-of (p .types .holds-first) (p .types .holds-second)) (mark-one (inter (p .types .first) (p .types .second)))
 
-  pub inter-adds : {t : List ℕ} → Written s t n (record { kind = 4; label = 0; a = a; b = b; c = x .c * y .c }) → AddsInter s t n a b (Typed n (n + 1))
+  pub inter-adds : {t : List ℕ} {r : ℕ} → Adds s t n 4 0 a b (x .c * y .c) r → AddsInter s t n a b (Typed n r)
   inter-adds w =
       record {
-        answers = refl;
+        answers = rw (w .counts);
         same = w .same;
         holds = λ A B g h.
             h-inter (w .there) (mark-of g h) (p .first-below) (p .second-below) (same-type (w .same) (p .first-below) g) (same-type (w .same) (p .second-below) h);

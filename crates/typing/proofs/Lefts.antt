@@ -1,21 +1,21 @@
 -- Application, merge, record and field read find the type of the part at field a first, and hand its refusal on. Assumes nothing.
 use Prim.Native.Nat.{ℕ, _+_, _*_, _≤_, _<_}
 use native.Mathlib.Omega.{arith}
-use mathlib.Core.Path.{_≡_, _∙_, ap}
+use mathlib.Core.Path.{_≡_, refl, _∙_, ap}
 use mathlib.Core.List.{List, _∷_}
 use lib.ListN.{length}
-use Rattle.calculus.specs.Syntax.{Ty, Term, size}
+use Rattle.calculus.specs.Syntax.{Ty, Term, app, merge, size}
 use Rattle.calculus.specs.Infer as Infer
 use Rattle.calculus.specs.Infer.{Reason, applied, merged, labelled, projected, infer}
 use Rattle.format.specs.Cell.{Cell, cellAt}
 use Rattle.outcome.specs.declared.Refusal.{Refusal}
-use Rattle.cells.specs.Held.{HoldsTerm}
-use Rattle.cells.proofs.Held.{same-refl, type-within, app-at, merge-at, rcd-at, proj-at}
+use Rattle.cells.specs.Held.{HoldsTerm, HoldsContext}
+use Rattle.cells.proofs.Held.{TwoTerms, same-term, same-context, same-refl, type-within, app-at, merge-at, rcd-at, proj-at}
 use Rattle.typing.specs.declared.Found.{Found}
 use Rattle.typing.specs.declared.Found.the-variants.{Typed, Refused}
 use Rattle.typing.specs.Finding.{Ready, ReadyAt, Finds}
-use Rattle.typing.proofs.Answers.{finding, typed, turned, handed}
-use Rattle.typing.proofs.Parts.{Part, two, one, ready-part}
+use Rattle.typing.proofs.Answers.{finding, IsFound, typed, turned, handed}
+use Rattle.typing.proofs.Parts.{Part, Two, two, one, ready-part}
 
 -- The term e at cell i, whose part at field a is cell j.
 pub record Left (s : List ℕ) (i j : ℕ) (e : Term) : Type 0 where
@@ -99,3 +99,51 @@ module _ {s : List ℕ} {n c i k : ℕ} {y : Cell} (b : Begins k) (p : ReadyAt s
     left-within e =
         let v = lefts b p o .of (p .ready .holds-term) in
         type-within (typed (finding f (p .ready .holds-context) (v .part .holds)) e .holds)
+
+-- ---- two sides: the left's type is found, and the right side comes next
+
+-- a kind of two terms
+pub data Sides : ℕ → (Term → Term → Term) → Type 0 where
+  app-sides : Sides 20 app
+  merge-sides : Sides 22 merge
+
+sides-at : {s : List ℕ} {i k : ℕ} {f : Term → Term → Term} {e : Term} → Sides k f → HoldsTerm s i e → cellAt s i .kind ≡ k → TwoTerms s i f e
+sides-at app-sides h k = app-at h k
+sides-at merge-sides h k = merge-at h k
+
+sides-size : {k : ℕ} {f : Term → Term → Term} → Sides k f → (a b : Term) → size (f a b) ≡ 1 + size a + size b
+unfolding size
+sides-size app-sides a b = refl
+sides-size merge-sides a b = refl
+
+module _ {s u : List ℕ} {n c i k x m : ℕ} {y : Cell} {r : Found} {f : Term → Term → Term} (d : Sides k f) (p : ReadyAt s n c i k) (o : y ≡ cellAt s i)
+    (q : Finds s u n c (y .a) r) (e : r ≡ Typed x m) where
+  -- of whatever context and term the cells hold
+  pub record Known (Γ : List Ty) (t : Term) : Type 0 where
+    pub sides : Two s i y f t
+    pub sizes : size t ≡ 1 + size (sides .first) + size (sides .second)
+    pub left : IsFound s u n (size (sides .first)) x m (infer Γ (sides .first))
+    pub context : HoldsContext u c Γ
+    pub right : HoldsTerm u (y .b) (sides .second)
+
+  pub known : {Γ : List Ty} {t : Term} → HoldsContext s c Γ → HoldsTerm s i t → Known Γ t
+  known g h =
+      let v = two o (sides-at d h (p .kind)) in
+      let z = typed (finding q g (v .left .holds)) e in
+      record {
+        sides = v;
+        sizes = ap size (v .is) ∙ sides-size d (v .first) (v .second);
+        left = z;
+        context = same-context (z .same) (p .ready .context-below) g;
+        right = same-term (z .same) (omega (arith, v .right .leads .lower, p .ready .term-below)) (v .right .holds);
+      }
+
+  pub own : Known (p .ready .context) (p .ready .term)
+  own = known (p .ready .holds-context) (p .ready .holds-term)
+
+  pub right-asks : (y .b < i) × Ready u m c (y .b)
+  right-asks =
+      let z = own in (
+        z .sides .right .leads .lower,
+        ready-part (p .ready) (z .sides .right) (z .left .same) (z .left .more) (omega (arith, p .ready .room, z .sizes, z .left .less)),
+      )

@@ -195,18 +195,18 @@ ready-part {e = e} r p q l k =
     }
 
 -- The body of a function or a fixpoint is ready under it.
-pub ready-body : {s t : List ℕ} {n a c i f j : ℕ} {A : Ty} {e : Term} → Ready s n c i → Part s i f j e →
-    Binds s t n a c → HoldsType s a A → n + 1 + size e ≤ 8192 → Ready t (n + 1) n j
+pub ready-body : {s t : List ℕ} {n m a c i f j : ℕ} {A : Ty} {e : Term} → Ready s n c i → Part s i f j e →
+    Binds s t n a c m → HoldsType s a A → n + 1 + size e ≤ 8192 → Ready t m n j
 ready-body {A = A} {e = e} r p w h k =
     record {
       long = w .same .long ∙ r .long;
       context = A ∷ r .context;
       holds-context = w .holds A (r .context) h (r .holds-context);
-      context-below = omega arith;
+      context-below = omega (arith, w .counts);
       term = e;
       holds-term = same-term (w .same) (omega (arith, p .leads .lower, r .term-below)) (p .holds);
-      term-below = omega (arith, p .leads .lower, r .term-below);
-      room = k;
+      term-below = omega (arith, w .counts, p .leads .lower, r .term-below);
+      room = omega (arith, w .counts);
     }
 
 -- What was found at a cell that was ready.

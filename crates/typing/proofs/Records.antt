@@ -3,7 +3,6 @@ use Prim.Native.Nat.{ℕ, _+_, _≤_, _<_}
 use native.Mathlib.Omega.{arith}
 use mathlib.Core.Path.{_≡_, refl, sym, _∙_, ap}
 use mathlib.Core.List.{List}
-use lib.ListN.{length}
 use borrow.Author.Tests.{eq-eqb, ne-eqb}
 use Rattle.calculus.specs.Syntax.{Ty, int, top, arrow, inter, field, rcd, size}
 use Rattle.calculus.specs.Infer as Infer
@@ -13,10 +12,10 @@ use Rattle.format.specs.Cell.{Cell, cellAt}
 use Rattle.format.specs.Book.{follow}
 use Rattle.outcome.specs.declared.Refusal.the-variants.{Projection}
 use Rattle.cells.specs.Held.{HoldsType, h-field}
-use Rattle.cells.proofs.Held.{same-type, same-trans, type-mark, Written, rcd-at, proj-at}
+use Rattle.cells.proofs.Held.{same-type, same-trans, type-mark, rcd-at, proj-at}
 use Rattle.typing.specs.declared.Found.{Found}
 use Rattle.typing.specs.declared.Found.the-variants.{Typed, Refused}
-use Rattle.typing.specs.Finding.{Answered, ReadyAt, Finds}
+use Rattle.typing.specs.Finding.{Answered, ReadyAt, Finds, RoomFor, Adds}
 use Rattle.typing.proofs.Answers.{finding, IsFound, typed}
 use Rattle.typing.proofs.Parts.{mark-one, type-kind, One, one, labelled-of, top-of}
 
@@ -34,28 +33,33 @@ module _ {s : List ℕ} {n c i : ℕ} {y : Cell} (p : ReadyAt s n c i 24) (o : y
     content-found : IsFound s u n (size (own .term)) x k (infer (p .ready .context) (own .term))
     content-found = typed (finding f (p .ready .holds-context) (own .left .holds)) e
 
-    -- the fields of the record type's cell fit
-    pub rcd-writes : {g : Cell} → g ≡ cellAt u x → (x < k) × (g .c ≤ 1) × (k < 8192) × (length u ≡ 65536)
-    rcd-writes j =
+    pub rcd-room : {g : Cell} → g ≡ cellAt u x → RoomFor u k x 0 (g .c)
+    rcd-room j =
         let z = content-found in
-        (z .below, rw (j, type-mark (z .holds)) (mark-one (z .type)), omega (arith, own-room, z .less), z .same .long ∙ p .ready .long)
+        let r : k < 8192 = omega (arith, own-room, z .less) in
+        record {
+          long = z .same .long ∙ p .ready .long;
+          room = r;
+          a-fits = omega (arith, z .below);
+          b-fits = omega arith;
+          c-fits = rw (j, type-mark (z .holds)) (omega (arith, mark-one (z .type)));
+        }
 
-    pub rcd-found : {v : List ℕ} {g : Cell} → g ≡ cellAt u x → Written u v k (record { kind = 5; label = y .label; a = x; b = 0; c = g .c }) →
-        Finds s v n c i (Typed k (k + 1))
+    pub rcd-found : {v : List ℕ} {g : Cell} {m : ℕ} → g ≡ cellAt u x → Adds u v k 5 (y .label) x 0 (g .c) m → Finds s v n c i (Typed k m)
     unfolding infer labelled size topLike?
-    rcd-found j w =
+    rcd-found {m = m} j w =
         record {
           says = λ Γ d g h.
               let v = one o (rcd-at h (p .kind)) in
               let z = typed (finding f g (v .left .holds)) e in
               rw (v .is, z .is) (
                 k,
-                k + 1,
+                m,
                 refl,
-                omega (arith, z .more),
-                omega (arith, z .less),
+                omega (arith, z .more, w .counts),
+                omega (arith, z .less, w .counts),
                 same-trans (z .same) (w .same) (z .more),
-                omega arith,
+                omega (arith, w .counts),
                 h-field (w .there) (ap (λ (x : Cell). x .c) j ∙ type-mark (z .holds)) (z .below) (same-type (w .same) (z .below) (z .holds)),
               );
         }

@@ -16,7 +16,7 @@ use Rattle.format.specs.Book.{follow}
 use Rattle.answers.specs.Answer.{refused, ill-typed}
 use Rattle.outcome.specs.Numbers.{refusalAnswer}
 use Rattle.outcome.specs.declared.Refusal.{Refusal}
-use Rattle.cells.specs.Held.{HoldsType, HoldsTerm, HoldsContext, Same}
+use Rattle.cells.specs.Held.{IsCell, HoldsType, HoldsTerm, HoldsContext, Same}
 use Rattle.types.specs.Says.{TypesAt}
 use Rattle.typing.specs.declared.Found.{Found}
 use Rattle.typing.specs.declared.Found.the-variants.{Typed, Refused}
@@ -78,6 +78,20 @@ BoundBy s c r (some A) = (t : ℕ) × (r ≡ At t) × (t < c) × HoldsType s t A
 pub record Looks (s : List ℕ) (c k : ℕ) (r : Bound) : Type 0 where
   pub says : (Γ : List Ty) → HoldsContext s c Γ → BoundBy s c r (getElem? Γ k)
 
+-- Room for a cell of these fields.
+pub record RoomFor (s : List ℕ) (n a b c : ℕ) : Type 0 where
+  pub long : length s ≡ 65536
+  pub room : n < 8192
+  pub a-fits : a < 65536
+  pub b-fits : b < 65536
+  pub c-fits : c < 65536
+
+-- The cell, at n; r cells are used then.
+pub record Adds (s t : List ℕ) (n k l a b c r : ℕ) : Type 0 where
+  pub counts : r ≡ n + 1
+  pub same : Same s t n
+  pub there : IsCell t n k l a b c
+
 -- A type and a context below n, and room for a cell.
 pub record BinderBelow (s : List ℕ) (n a c : ℕ) : Type 0 where
   pub long : length s ≡ 65536
@@ -85,8 +99,9 @@ pub record BinderBelow (s : List ℕ) (n a c : ℕ) : Type 0 where
   pub context-below : c < n
   pub room : n < 8192
 
--- One binder more, in cell n.
-pub record Binds (s t : List ℕ) (n a c : ℕ) : Type 0 where
+-- One binder more, in cell n; r cells are used then.
+pub record Binds (s t : List ℕ) (n a c r : ℕ) : Type 0 where
+  pub counts : r ≡ n + 1
   pub same : Same s t n
   pub holds : (A : Ty) (Γ : List Ty) → HoldsType s a A → HoldsContext s c Γ → HoldsContext t n (A ∷ Γ)
 

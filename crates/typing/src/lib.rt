@@ -7,7 +7,7 @@ use outcome::Refusal;
 use types::mergeable;
 use types::subtype;
 ghost use Rattle.typing.specs.Finding.{Ready, ReadyAt, Finds, ReadyFor, Checks, ContextAt, Looks};
-ghost use Rattle.typing.specs.Finding.{BinderBelow, Binds, TypesBelow, AddsInter};
+ghost use Rattle.typing.specs.Finding.{RoomFor, Adds, BinderBelow, Binds, TypesBelow, AddsInter};
 
 // A cell that holds the type, and the count of cells used; or why there is none.
 pub enum Found {
@@ -47,40 +47,37 @@ fn find_var(s: &mut [u8], n: usize, c: usize, i: usize) -> Found
     Found::Typed(a, n)
 }
 
-fn find_lit(s: &mut [u8], n: usize, c: usize, i: usize) -> Found
-    requires { ⌜ ReadyAt (now s) n c i 17 ⌝ }
-    ensures { λ r. ⌜ Finds (now (s .entry)) (now (s .exit)) n c i r ⌝ }
+// A cell more, at n; the count of cells used then.
+fn add(s: &mut [u8], n: usize, kind: u8, label: u8, a: usize, b: usize, c: usize) -> usize
+    requires { ⌜ RoomFor (now s) n a b c ⌝ }
+    ensures { λ r. ⌜ Adds (now (s .entry)) (now (s .exit)) n kind label a b c r ⌝ }
 {
     write_cell(
         s,
         n,
         Cell {
-            kind: 1,
-            label: 0,
-            a: 0,
-            b: 0,
-            c: 0,
+            kind,
+            label,
+            a,
+            b,
+            c,
         },
     );
-    Found::Typed(n, n + 1)
+    n + 1
+}
+
+fn find_lit(s: &mut [u8], n: usize, c: usize, i: usize) -> Found
+    requires { ⌜ ReadyAt (now s) n c i 17 ⌝ }
+    ensures { λ r. ⌜ Finds (now (s .entry)) (now (s .exit)) n c i r ⌝ }
+{
+    Found::Typed(n, add(s, n, 1, 0, 0, 0, 0))
 }
 
 fn find_unit(s: &mut [u8], n: usize, c: usize, i: usize) -> Found
     requires { ⌜ ReadyAt (now s) n c i 18 ⌝ }
     ensures { λ r. ⌜ Finds (now (s .entry)) (now (s .exit)) n c i r ⌝ }
 {
-    write_cell(
-        s,
-        n,
-        Cell {
-            kind: 2,
-            label: 0,
-            a: 0,
-            b: 0,
-            c: 1,
-        },
-    );
-    Found::Typed(n, n + 1)
+    Found::Typed(n, add(s, n, 2, 0, 0, 0, 1))
 }
 
 fn find_anno(s: &mut [u8], n: usize, c: usize, i: usize) -> Found
@@ -116,21 +113,11 @@ fn find_app(s: &mut [u8], n: usize, c: usize, i: usize) -> Found
 }
 
 // The context c with one binder more, of the type at a.
-fn bind(s: &mut [u8], n: usize, a: usize, c: usize)
+fn bind(s: &mut [u8], n: usize, a: usize, c: usize) -> usize
     requires { ⌜ BinderBelow (now s) n a c ⌝ }
-    ensures { λ _. ⌜ Binds (now (s .entry)) (now (s .exit)) n a c ⌝ }
+    ensures { λ r. ⌜ Binds (now (s .entry)) (now (s .exit)) n a c r ⌝ }
 {
-    write_cell(
-        s,
-        n,
-        Cell {
-            kind: 0,
-            label: 0,
-            a,
-            b: c,
-            c: 0,
-        },
-    );
+    add(s, n, 0, 0, a, c, 0)
 }
 
 fn find_lam(s: &mut [u8], n: usize, c: usize, i: usize) -> Found
@@ -138,24 +125,13 @@ fn find_lam(s: &mut [u8], n: usize, c: usize, i: usize) -> Found
     ensures { λ r. ⌜ Finds (now (s .entry)) (now (s .exit)) n c i r ⌝ }
 {
     let t = read_cell(s, i);
-    bind(s, n, t.b, c);
-    let body = check(s, n + 1, n, t.a, t.c);
-    let Found::Typed(_, m) = body else {
+    let m = bind(s, n, t.b, c);
+    let body = check(s, m, n, t.a, t.c);
+    let Found::Typed(_, k) = body else {
         return body;
     };
     let output = read_cell(s, t.c);
-    write_cell(
-        s,
-        m,
-        Cell {
-            kind: 3,
-            label: 0,
-            a: t.b,
-            b: t.c,
-            c: output.c,
-        },
-    );
-    Found::Typed(m, m + 1)
+    Found::Typed(k, add(s, k, 3, 0, t.b, t.c, output.c))
 }
 
 // The intersection of two types, in a cell of its own.
@@ -165,18 +141,7 @@ fn add_inter(s: &mut [u8], n: usize, a: usize, b: usize) -> Found
 {
     let x = read_cell(s, a);
     let y = read_cell(s, b);
-    write_cell(
-        s,
-        n,
-        Cell {
-            kind: 4,
-            label: 0,
-            a,
-            b,
-            c: x.c * y.c,
-        },
-    );
-    Found::Typed(n, n + 1)
+    Found::Typed(n, add(s, n, 4, 0, a, b, x.c * y.c))
 }
 
 fn find_merge(s: &mut [u8], n: usize, c: usize, i: usize) -> Found
@@ -204,8 +169,8 @@ fn find_fix(s: &mut [u8], n: usize, c: usize, i: usize) -> Found
     ensures { λ r. ⌜ Finds (now (s .entry)) (now (s .exit)) n c i r ⌝ }
 {
     let t = read_cell(s, i);
-    bind(s, n, t.b, c);
-    check(s, n + 1, n, t.a, t.b)
+    let m = bind(s, n, t.b, c);
+    check(s, m, n, t.a, t.b)
 }
 
 fn find_rcd(s: &mut [u8], n: usize, c: usize, i: usize) -> Found
@@ -218,18 +183,7 @@ fn find_rcd(s: &mut [u8], n: usize, c: usize, i: usize) -> Found
         return inside;
     };
     let content = read_cell(s, a);
-    write_cell(
-        s,
-        m,
-        Cell {
-            kind: 5,
-            label: t.label,
-            a,
-            b: 0,
-            c: content.c,
-        },
-    );
-    Found::Typed(m, m + 1)
+    Found::Typed(m, add(s, m, 5, t.label, a, 0, content.c))
 }
 
 fn find_proj(s: &mut [u8], n: usize, c: usize, i: usize) -> Found
@@ -241,13 +195,13 @@ fn find_proj(s: &mut [u8], n: usize, c: usize, i: usize) -> Found
     let Found::Typed(a, m) = inside else {
         return inside;
     };
-    let g = read_cell(s, a);
-    if g.kind == 2 {
+    let content = read_cell(s, a);
+    if content.kind == 2 {
         return Found::Typed(a, m);
     }
-    if g.kind == 5 {
-        if g.label == t.label {
-            return Found::Typed(g.a, m);
+    if content.kind == 5 {
+        if content.label == t.label {
+            return Found::Typed(content.a, m);
         }
     }
     Found::Refused(Refusal::Projection(i))

@@ -1,26 +1,31 @@
+-- `types::consistent`, `types::consistent_each` and `types::consistent_pair` meet their contracts. The measures are four times the sum
+-- of the two cells, with 2, 1 and 0 added. Assumes nothing.
+use Prim.Native.Nat.{ℕ, _+_, _*_, _<_}
+use mathlib.Core.Path.{ap}
+use mathlib.Core.Bool.{not}
 use mathlib.Core.Logic.{inl, inr, ⊎-elim}
 use native.Mathlib.Omega.{arith}
+use borrow.Author.Tests.{ne-eqb}
+use borrow.Fn.Kinds.{In}
+use borrow.Fn.PlainCycle.{Measures, is, falls, and}
 use Rattle.cells.proofs.Held.{term-within}
-use Rattle.types.proofs.Parts.{outright, passed, both, none}
+use Rattle.cells.proofs.read_cell.Reads as read-cell-reads
+use Rattle.types.proofs.Parts.{outright, flagged, passed, both, none}
 use Rattle.types.proofs.Forms.{read, read-at}
 use Rattle.types.proofs.Agree.{left-unit, left-none, left-halves, plain-left, each-unit, each-none, each-half, plain-pair}
 use Rattle.types.proofs.Agree.{pair-kinds, numbers, other-numbers, records, other-records, functions, agree-same, agree-apart}
-use Prim.Native.Nat.{ℕ, _+_, _*_, _<_}
-use borrow.Fn.Kinds.{In}
-use borrow.Fn.PlainCycle.{Measures, is, falls, and}
 use Rattle.types.proofs.consistent.Reads as consistent
 use Rattle.types.proofs.consistent.Kinds as consistent-kinds
-use Rattle.types.proofs.+consistent+consistent_each+consistent_pair.Lts-consistent as consistent-lts
 use Rattle.types.proofs.consistent_each.Reads as consistent-each
 use Rattle.types.proofs.consistent_each.Kinds as consistent-each-kinds
-use Rattle.types.proofs.+consistent+consistent_each+consistent_pair.Lts-consistent_each as consistent-each-lts
 use Rattle.types.proofs.consistent_pair.Reads as consistent-pair
 use Rattle.types.proofs.consistent_pair.Kinds as consistent-pair-kinds
-use Rattle.types.proofs.+consistent+consistent_each+consistent_pair.Lts-consistent_pair as consistent-pair-lts
-use Rattle.cells.proofs.read_cell.Reads as read-cell-reads
 use Rattle.types.proofs.disjoint.Reads as disjoint-reads
 use Rattle.types.proofs.same_term.Reads as same-term-reads
 use Rattle.types.proofs.same_type.Reads as same-type-reads
+use Rattle.types.proofs.+consistent+consistent_each+consistent_pair.Lts-consistent as consistent-lts
+use Rattle.types.proofs.+consistent+consistent_each+consistent_pair.Lts-consistent_each as consistent-each-lts
+use Rattle.types.proofs.+consistent+consistent_each+consistent_pair.Lts-consistent_pair as consistent-pair-lts
 use Rattle.types.proofs.+consistent+consistent_each+consistent_pair.{statement}
 use Rattle.types.proofs.+consistent+consistent_each+consistent_pair.Tie.{close}
 
@@ -82,168 +87,187 @@ consistent-each-calls t = (read-cell-reads.Asked, read-cell-reads.Learnt, consis
 abbrev consistent-pair-calls : ℕ → consistent-pair-lts.Claims
 consistent-pair-calls t = (read-cell-reads.Asked, read-cell-reads.Learnt, consistent-below t, consistent.Post, same-type-reads.Asked, same-type-reads.Learnt, same-term-reads.Asked, same-term-reads.Learnt, disjoint-reads.Asked, disjoint-reads.Learnt)
 
--- src/lib.rt:225:9
+-- consistent
 consistent-read-cell-requires : (t : ℕ) → consistent-lts.Need-read-cell-requires (consistent-calls t) (consistent-at t) consistent.Post
 consistent-read-cell-requires t c κs =
     term-within (c .before .pre .1 .holds-first)
 
--- src/lib.rt:230:16
 consistent-consistent-requires : (t : ℕ) → consistent-lts.Need-consistent-requires (consistent-calls t) (consistent-at t) consistent.Post
 consistent-consistent-requires t c κs =
-    let p = left-halves (c .before .read-cell .ensures) (c .before .before .before .pre .1 .holds-first) (c .before .before .before .pre .1 .holds-second) (c .match .keys2) in
-    (omega (arith, p .first-less, c .before .before .before .pre .0), p .first)
+    let pre = c .before .before .before .pre in
+    let p = left-halves (c .before .read-cell .ensures) (pre .1 .holds-first) (pre .1 .holds-second) (c .match .keys2) in
+    (omega (arith, p .first-less, pre .0), p .first)
 
--- src/lib.rt:231:17
 consistent-consistent-requires-2 : (t : ℕ) → consistent-lts.Need-consistent-requires-2 (consistent-calls t) (consistent-at t) consistent.Post
 consistent-consistent-requires-2 t c κs =
-    let p = left-halves (c .before .before .before .read-cell .ensures) (c .before .before .before .before .before .pre .1 .holds-first) (c .before .before .before .before .before .pre .1 .holds-second) (c .before .before .match .keys2) in
-    (omega (arith, p .second-less, c .before .before .before .before .before .pre .0), p .second)
+    let pre = c .before .before .before .before .before .pre in
+    let p = left-halves (c .before .before .before .read-cell .ensures) (pre .1 .holds-first) (pre .1 .holds-second) (c .before .before .match .keys2) in
+    (omega (arith, p .second-less, pre .0), p .second)
 
--- src/lib.rt:236:25
 consistent-consistent-each-requires : (t : ℕ) → consistent-lts.Need-consistent-each-requires (consistent-calls t) (consistent-at t) consistent.Post
 consistent-consistent-each-requires t c κs =
-    (omega (arith, c .before .before .before .pre .0), plain-left (c .before .read-cell .ensures) (c .before .before .before .pre .1) (c .match .keys3))
+    let pre = c .before .before .before .pre in
+    (omega (arith, pre .0), plain-left (c .before .read-cell .ensures) (pre .1) (c .match .keys3))
 
--- src/lib.rt:221:1
 consistent-returns : (t : ℕ) → consistent-lts.Need-returns (consistent-calls t) (consistent-at t) consistent.Post
 consistent-returns t c =
     outright (λ e f h k. left-unit (c .before .read-cell .ensures) h f (c .match .keys1))
 
--- src/lib.rt:221:1
 consistent-returns-2 : (t : ℕ) → consistent-lts.Need-returns-2 (consistent-calls t) (consistent-at t) consistent.Post
 consistent-returns-2 t c =
     both (λ e f h k. left-halves (c .before .before .before .before .read-cell .ensures) h k (c .before .before .before .match .keys2)) (c .before .before .consistent .ensures) (c .before .if1 .taken) (c .consistent2 .ensures)
 
--- src/lib.rt:221:1
 consistent-returns-3 : (t : ℕ) → consistent-lts.Need-returns-3 (consistent-calls t) (consistent-at t) consistent.Post
 consistent-returns-3 t c =
     none (λ e f h k. left-halves (c .before .before .before .read-cell .ensures) h k (c .before .before .match .keys2)) (c .before .consistent .ensures) (c .if1 .left)
 
--- src/lib.rt:221:1
 consistent-returns-4 : (t : ℕ) → consistent-lts.Need-returns-4 (consistent-calls t) (consistent-at t) consistent.Post
 consistent-returns-4 t c =
     c .consistent-each .ensures
 
--- src/lib.rt:221:1
 consistent-returns-5 : (t : ℕ) → consistent-lts.Need-returns-5 (consistent-calls t) (consistent-at t) consistent.Post
 consistent-returns-5 t c =
     outright (λ e f h k. left-none (c .before .read-cell .ensures) h f (c .match .rest .0 .0 .1) (c .match .rest .0 .1) (c .match .rest .1))
 
--- src/lib.rt:246:9
+-- consistent_each
 consistent-each-read-cell-requires : (t : ℕ) → consistent-each-lts.Need-read-cell-requires (consistent-each-calls t) (consistent-each-at t) consistent-each.Post
 consistent-each-read-cell-requires t c κs =
     term-within (c .before .pre .1 .terms .holds-second)
 
--- src/lib.rt:251:16
 consistent-each-consistent-each-requires :
     (t : ℕ) → consistent-each-lts.Need-consistent-each-requires (consistent-each-calls t) (consistent-each-at t) consistent-each.Post
 consistent-each-consistent-each-requires t c κs =
-    let p = each-half (c .before .read-cell .ensures) (c .before .before .before .pre .1 .plain) (c .before .before .before .pre .1 .terms .holds-first) (c .before .before .before .pre .1 .terms .holds-second) (c .match .keys2) in
-    (omega (arith, p .first-less, c .before .before .before .pre .0), record { terms = p .first; plain = c .before .before .before .pre .1 .plain })
+    let pre = c .before .before .before .pre in
+    let p = each-half (c .before .read-cell .ensures) (pre .1 .plain) (pre .1 .terms .holds-first) (pre .1 .terms .holds-second) (c .match .keys2) in
+    (omega (arith, p .first-less, pre .0), record { terms = p .first; plain = pre .1 .plain })
 
--- src/lib.rt:252:17
 consistent-each-consistent-each-requires-2 :
     (t : ℕ) → consistent-each-lts.Need-consistent-each-requires-2 (consistent-each-calls t) (consistent-each-at t) consistent-each.Post
 consistent-each-consistent-each-requires-2 t c κs =
-    let p = each-half (c .before .before .before .read-cell .ensures) (c .before .before .before .before .before .pre .1 .plain) (c .before .before .before .before .before .pre .1 .terms .holds-first) (c .before .before .before .before .before .pre .1 .terms .holds-second) (c .before .before .match .keys2) in
-    (omega (arith, p .second-less, c .before .before .before .before .before .pre .0), record { terms = p .second; plain = c .before .before .before .before .before .pre .1 .plain })
+    let pre = c .before .before .before .before .before .pre in
+    let p = each-half (c .before .before .before .read-cell .ensures) (pre .1 .plain) (pre .1 .terms .holds-first) (pre .1 .terms .holds-second) (c .before .before .match .keys2) in
+    (omega (arith, p .second-less, pre .0), record { terms = p .second; plain = pre .1 .plain })
 
--- src/lib.rt:257:25
 consistent-each-consistent-pair-requires :
     (t : ℕ) → consistent-each-lts.Need-consistent-pair-requires (consistent-each-calls t) (consistent-each-at t) consistent-each.Post
 consistent-each-consistent-pair-requires t c κs =
-    (omega (arith, c .before .before .before .pre .0), plain-pair (c .before .read-cell .ensures) (c .before .before .before .pre .1) (c .match .keys3))
+    let pre = c .before .before .before .pre in
+    (omega (arith, pre .0), plain-pair (c .before .read-cell .ensures) (pre .1) (c .match .keys3))
 
--- src/lib.rt:242:1
 consistent-each-returns : (t : ℕ) → consistent-each-lts.Need-returns (consistent-each-calls t) (consistent-each-at t) consistent-each.Post
 consistent-each-returns t c =
     outright (λ e f h k. each-unit (c .before .read-cell .ensures) (c .before .before .before .pre .1 .plain) h k (c .match .keys1))
 
--- src/lib.rt:242:1
 consistent-each-returns-2 : (t : ℕ) → consistent-each-lts.Need-returns-2 (consistent-each-calls t) (consistent-each-at t) consistent-each.Post
 consistent-each-returns-2 t c =
     both (λ e f h k. each-half (c .before .before .before .before .read-cell .ensures) (c .before .before .before .before .before .before .pre .1 .plain) h k (c .before .before .before .match .keys2)) (c .before .before .consistent-each .ensures) (c .before .if1 .taken) (c .consistent-each2 .ensures)
 
--- src/lib.rt:242:1
 consistent-each-returns-3 : (t : ℕ) → consistent-each-lts.Need-returns-3 (consistent-each-calls t) (consistent-each-at t) consistent-each.Post
 consistent-each-returns-3 t c =
     none (λ e f h k. each-half (c .before .before .before .read-cell .ensures) (c .before .before .before .before .before .pre .1 .plain) h k (c .before .before .match .keys2)) (c .before .consistent-each .ensures) (c .if1 .left)
 
--- src/lib.rt:242:1
 consistent-each-returns-4 : (t : ℕ) → consistent-each-lts.Need-returns-4 (consistent-each-calls t) (consistent-each-at t) consistent-each.Post
 consistent-each-returns-4 t c =
     c .consistent-pair .ensures
 
--- src/lib.rt:242:1
 consistent-each-returns-5 : (t : ℕ) → consistent-each-lts.Need-returns-5 (consistent-each-calls t) (consistent-each-at t) consistent-each.Post
 consistent-each-returns-5 t c =
     outright (λ e f h k. each-none (c .before .read-cell .ensures) (c .before .before .before .pre .1 .plain) h k (c .match .rest .0 .0 .1) (c .match .rest .0 .1) (c .match .rest .1))
 
--- src/lib.rt:267:9
+-- consistent_pair
 consistent-pair-read-cell-requires : (t : ℕ) → consistent-pair-lts.Need-read-cell-requires (consistent-pair-calls t) (consistent-pair-at t) consistent-pair.Post
 consistent-pair-read-cell-requires t c κs =
     term-within (c .before .pre .1 .first .terms .holds-first)
 
--- src/lib.rt:268:9
 consistent-pair-read-cell-requires-2 : (t : ℕ) → consistent-pair-lts.Need-read-cell-requires-2 (consistent-pair-calls t) (consistent-pair-at t) consistent-pair.Post
 consistent-pair-read-cell-requires-2 t c κs =
     term-within (c .before .before .pre .1 .first .terms .holds-second)
 
--- src/lib.rt:270:9
 consistent-pair-returns : (t : ℕ) → consistent-pair-lts.Need-returns (consistent-pair-calls t) (consistent-pair-at t) consistent-pair.Post
 consistent-pair-returns t c =
-    outright (λ e f h k. pair-kinds (read (c .before .before .before .before .read-cell .ensures) (c .before .before .before .read-cell2 .ensures) h k) (c .before .before .before .before .before .before .pre .1 .first .plain) (c .before .before .before .before .before .before .pre .1 .plain) (c .if1 .taken))
+    let at = c .before .before .before in
+    let pre = at .before .before .before .pre in
+    let x = at .before .read-cell .ensures in
+    let y = at .read-cell2 .ensures in
+    outright (λ e f h k. pair-kinds (read x y h k) (pre .1 .first .plain) (pre .1 .plain) (c .if1 .taken))
 
--- src/lib.rt:274:13
+-- two numbers
 consistent-pair-returns-2 : (t : ℕ) → consistent-pair-lts.Need-returns-2 (consistent-pair-calls t) (consistent-pair-at t) consistent-pair.Post
 consistent-pair-returns-2 t c =
-    outright (λ e f h k. numbers (read (c .before .before .before .before .before .before .before .before .before .before .before .read-cell .ensures) (c .before .before .before .before .before .before .before .before .before .before .read-cell2 .ensures) h k) (c .before .before .before .before .before .before .before .if1 .left) (λ n. c .before .before .before .before .before .before .before .before .before .before .before .before .shared-slice-known .given n .fits) (c .before .before .before .before .before .if2 .taken) (c .before .before .if3 .taken))
+    let at = c .before .before .before .before .before .before .before .before .before .before in
+    let x = at .before .read-cell .ensures in
+    let y = at .read-cell2 .ensures in
+    outright (λ e f h k. numbers (read x y h k) (c .before .before .before .before .before .before .before .if1 .left) (λ n. at .before .before .shared-slice-known .given n .fits) (c .before .before .before .before .before .if2 .taken) (c .before .before .if3 .taken))
 
--- src/lib.rt:276:9
 consistent-pair-returns-3 : (t : ℕ) → consistent-pair-lts.Need-returns-3 (consistent-pair-calls t) (consistent-pair-at t) consistent-pair.Post
 consistent-pair-returns-3 t c =
-    outright (λ e f h k. other-numbers (read (c .before .before .before .before .before .before .before .before .before .read-cell .ensures) (c .before .before .before .before .before .before .before .before .read-cell2 .ensures) h k) (c .before .before .before .before .before .if1 .left) (λ n. c .before .before .before .before .before .before .before .before .before .before .shared-slice-known .given n .fits) (c .before .before .before .if2 .taken) (c .if3 .left))
+    let at = c .before .before .before .before .before .before .before .before in
+    let x = at .before .read-cell .ensures in
+    let y = at .read-cell2 .ensures in
+    flagged (ne-eqb _ _ (c .if3 .left)) (λ e f h k. other-numbers (read x y h k) (c .before .before .before .before .before .if1 .left) (λ n. at .before .before .shared-slice-known .given n .fits) (c .before .before .before .if2 .taken) (c .if3 .left))
 
--- src/lib.rt:280:13
+-- two records
 consistent-pair-consistent-requires : (t : ℕ) → consistent-pair-lts.Need-consistent-requires (consistent-pair-calls t) (consistent-pair-at t) consistent-pair.Post
 consistent-pair-consistent-requires t c κs =
-    let p = records (read-at (c .before .before .before .before .before .before .before .before .before .before .before .read-cell .ensures) (c .before .before .before .before .before .before .before .before .before .before .read-cell2 .ensures) (c .before .before .before .before .before .before .before .before .before .before .before .before .before .pre .1 .first .terms)) (c .before .before .before .before .before .before .before .if1 .left) (c .before .before .before .if4 .taken) (c .if5 .taken) in
-    (omega (arith, p .less, c .before .before .before .before .before .before .before .before .before .before .before .before .before .pre .0), p .part)
+    let at = c .before .before .before .before .before .before .before .before .before .before in
+    let pre = at .before .before .before .pre in
+    let x = at .before .read-cell .ensures in
+    let y = at .read-cell2 .ensures in
+    let p = records (read-at x y (pre .1 .first .terms)) (c .before .before .before .before .before .before .before .if1 .left) (c .before .before .before .if4 .taken) (c .if5 .left) in
+    (omega (arith, p .less, pre .0), p .part)
 
--- src/lib.rt:280:13
 consistent-pair-returns-4 : (t : ℕ) → consistent-pair-lts.Need-returns-4 (consistent-pair-calls t) (consistent-pair-at t) consistent-pair.Post
 consistent-pair-returns-4 t c =
-    passed (λ e f h k. records (read (c .before .before .before .before .before .before .before .before .before .before .before .before .read-cell .ensures) (c .before .before .before .before .before .before .before .before .before .before .before .read-cell2 .ensures) h k) (c .before .before .before .before .before .before .before .before .if1 .left) (c .before .before .before .before .if4 .taken) (c .before .if5 .taken)) (c .consistent .ensures)
+    let at = c .before .before .before .before .before .before .before .before .before .before in
+    let x = at .before .read-cell .ensures in
+    let y = at .read-cell2 .ensures in
+    flagged (ap not (ne-eqb _ _ (c .if5 .taken))) (λ e f h k. other-records (read x y h k) (c .before .before .before .before .before .before .before .if1 .left) (c .before .before .before .if4 .taken) (c .if5 .taken))
 
--- src/lib.rt:282:9
 consistent-pair-returns-5 : (t : ℕ) → consistent-pair-lts.Need-returns-5 (consistent-pair-calls t) (consistent-pair-at t) consistent-pair.Post
 consistent-pair-returns-5 t c =
-    outright (λ e f h k. other-records (read (c .before .before .before .before .before .before .before .before .before .before .before .read-cell .ensures) (c .before .before .before .before .before .before .before .before .before .before .read-cell2 .ensures) h k) (c .before .before .before .before .before .before .before .if1 .left) (c .before .before .before .if4 .taken) (c .if5 .left))
+    let at = c .before .before .before .before .before .before .before .before .before .before .before in
+    let x = at .before .read-cell .ensures in
+    let y = at .read-cell2 .ensures in
+    passed (λ e f h k. records (read x y h k) (c .before .before .before .before .before .before .before .before .if1 .left) (c .before .before .before .before .if4 .taken) (c .before .if5 .left)) (c .consistent .ensures)
 
--- src/lib.rt:284:8
+-- two functions
 consistent-pair-same-type-requires : (t : ℕ) → consistent-pair-lts.Need-same-type-requires (consistent-pair-calls t) (consistent-pair-at t) consistent-pair.Post
 consistent-pair-same-type-requires t c κs =
-    functions (read-at (c .before .before .before .before .before .before .before .before .read-cell .ensures) (c .before .before .before .before .before .before .before .read-cell2 .ensures) (c .before .before .before .before .before .before .before .before .before .before .pre .1 .first .terms)) (c .before .before .before .before .if1 .left) (c .before .before .before .before .before .before .before .before .before .before .pre .1 .first .plain) (c .before .before .if2 .left) (c .if4 .left) .inputs
+    let at = c .before .before .before .before .before .before .before in
+    let pre = at .before .before .before .pre in
+    let x = at .before .read-cell .ensures in
+    let y = at .read-cell2 .ensures in
+    functions (read-at x y (pre .1 .first .terms)) (c .before .before .before .before .if1 .left) (pre .1 .first .plain) (c .before .before .if2 .left) (c .if4 .left) .inputs
 
--- src/lib.rt:285:12
 consistent-pair-same-term-requires : (t : ℕ) → consistent-pair-lts.Need-same-term-requires (consistent-pair-calls t) (consistent-pair-at t) consistent-pair.Post
 consistent-pair-same-term-requires t c κs =
-    functions (read-at (c .before .before .before .before .before .before .before .before .before .before .read-cell .ensures) (c .before .before .before .before .before .before .before .before .before .read-cell2 .ensures) (c .before .before .before .before .before .before .before .before .before .before .before .before .pre .1 .first .terms)) (c .before .before .before .before .before .before .if1 .left) (c .before .before .before .before .before .before .before .before .before .before .before .before .pre .1 .first .plain) (c .before .before .before .before .if2 .left) (c .before .before .if4 .left) .bodies
+    let at = c .before .before .before .before .before .before .before .before .before in
+    let pre = at .before .before .before .pre in
+    let x = at .before .read-cell .ensures in
+    let y = at .read-cell2 .ensures in
+    functions (read-at x y (pre .1 .first .terms)) (c .before .before .before .before .before .before .if1 .left) (pre .1 .first .plain) (c .before .before .before .before .if2 .left) (c .before .before .if4 .left) .bodies
 
--- src/lib.rt:286:13
 consistent-pair-returns-6 : (t : ℕ) → consistent-pair-lts.Need-returns-6 (consistent-pair-calls t) (consistent-pair-at t) consistent-pair.Post
 consistent-pair-returns-6 t c =
-    agree-same (λ e f h k. functions (read (c .before .before .before .before .before .before .before .before .before .before .before .before .read-cell .ensures) (c .before .before .before .before .before .before .before .before .before .before .before .read-cell2 .ensures) h k) (c .before .before .before .before .before .before .before .before .if1 .left) (c .before .before .before .before .before .before .before .before .before .before .before .before .before .before .pre .1 .first .plain) (c .before .before .before .before .before .before .if2 .left) (c .before .before .before .before .if4 .left)) (c .before .before .before .same-type .ensures) (c .before .before .if6 .taken) (c .before .same-term .ensures) (c .if7 .taken)
+    let at = c .before .before .before .before .before .before .before .before .before .before .before in
+    let x = at .before .read-cell .ensures in
+    let y = at .read-cell2 .ensures in
+    agree-same (λ e f h k. functions (read x y h k) (c .before .before .before .before .before .before .before .before .if1 .left) (at .before .before .before .pre .1 .first .plain) (c .before .before .before .before .before .before .if2 .left) (c .before .before .before .before .if4 .left)) (c .before .before .before .same-type .ensures) (c .before .before .if6 .taken) (c .before .same-term .ensures) (c .if7 .taken)
 
--- src/lib.rt:289:5
 consistent-pair-disjoint-requires : (t : ℕ) → consistent-pair-lts.Need-disjoint-requires (consistent-pair-calls t) (consistent-pair-at t) consistent-pair.Post
 consistent-pair-disjoint-requires t c κs =
-    functions (read-at (c .before .before .before .before .before .before .before .before .before .before .read-cell .ensures) (c .before .before .before .before .before .before .before .before .before .read-cell2 .ensures) (c .before .before .before .before .before .before .before .before .before .before .before .before .pre .1 .first .terms)) (c .before .before .before .before .before .before .if1 .left) (c .before .before .before .before .before .before .before .before .before .before .before .before .pre .1 .first .plain) (c .before .before .before .before .if2 .left) (c .before .before .if4 .left) .outputs
+    let at = c .before .before .before .before .before .before .before .before .before in
+    let pre = at .before .before .before .pre in
+    let x = at .before .read-cell .ensures in
+    let y = at .read-cell2 .ensures in
+    functions (read-at x y (pre .1 .first .terms)) (c .before .before .before .before .before .before .if1 .left) (pre .1 .first .plain) (c .before .before .before .before .if2 .left) (c .before .before .if4 .left) .outputs
 
--- src/lib.rt:263:1
 consistent-pair-returns-7 : (t : ℕ) → consistent-pair-lts.Need-returns-7 (consistent-pair-calls t) (consistent-pair-at t) consistent-pair.Post
 consistent-pair-returns-7 t c =
-    agree-apart (λ e f h k. functions (read (c .before .before .before .before .before .before .before .before .before .before .before .read-cell .ensures) (c .before .before .before .before .before .before .before .before .before .before .read-cell2 .ensures) h k) (c .before .before .before .before .before .before .before .if1 .left) (c .before .before .before .before .before .before .before .before .before .before .before .before .before .pre .1 .first .plain) (c .before .before .before .before .before .if2 .left) (c .before .before .before .if4 .left)) (c .before .before .same-type .ensures)
+    let at = c .before .before .before .before .before .before .before .before .before .before in
+    let x = at .before .read-cell .ensures in
+    let y = at .read-cell2 .ensures in
+    agree-apart (λ e f h k. functions (read x y h k) (c .before .before .before .before .before .before .before .if1 .left) (at .before .before .before .pre .1 .first .plain) (c .before .before .before .before .before .if2 .left) (c .before .before .before .if4 .left)) (c .before .before .same-type .ensures)
     (⊎-elim (λ w. inr (rw (w .2 .left) at (w .1 .ensures))) (λ w. inl (w .left)) (c .before .if6 .came)) (c .disjoint .ensures)
 
 pub +consistent+consistent-each+consistent-pair-spec : {M : Type 1} → statement M

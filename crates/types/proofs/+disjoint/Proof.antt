@@ -1,145 +1,187 @@
-use Rattle.cells.proofs.Held.{type-within}
-use Rattle.types.proofs.Parts.{outright, passed, both, none, less-at}
-use Rattle.types.proofs.Forms.{read, read-at}
-use Rattle.types.proofs.Apart.{left-top, right-top, right-halves, left-halves, outputs, fields, other-labels, other-kinds, numbers}
+-- `types::disjoint` meets its contract. The measure is the sum of the two cells. Assumes nothing.
 use Prim.Native.Nat.{ℕ, _+_, _<_}
+use mathlib.Core.Path.{ap}
+use mathlib.Core.Bool.{not}
+use borrow.Author.Tests.{ne-eqb}
 use borrow.Fn.Kinds.{In}
 use borrow.Fn.PlainCycle.{Measures, is, falls, and}
+use Rattle.cells.proofs.Held.{type-within}
+use Rattle.cells.proofs.read_cell.Reads as read-cell-reads
+use Rattle.types.proofs.Parts.{outright, flagged, passed, both, none, less-at}
+use Rattle.types.proofs.Forms.{read, read-at}
+use Rattle.types.proofs.Apart.{left-top, right-top, right-halves, left-halves, outputs, fields, other-labels, other-kinds, numbers}
 use Rattle.types.proofs.disjoint.Reads as disjoint
 use Rattle.types.proofs.disjoint.Kinds as disjoint-kinds
-use Rattle.types.proofs.+disjoint.Lts-disjoint as disjoint-lts
-use Rattle.cells.proofs.read_cell.Reads as read-cell-reads
+use Rattle.types.proofs.+disjoint.Lts-disjoint as lts
 use Rattle.types.proofs.+disjoint.{statement}
 use Rattle.types.proofs.+disjoint.Tie.{close}
 
-abbrev μ-disjoint : Measures 1 disjoint-kinds.ps ℕ
-μ-disjoint κs a = a .1 .0 + a .1 .1 .0
+abbrev μ : Measures 1 disjoint-kinds.ps ℕ
+μ κs a = a .1 .0 + a .1 .1 .0
 
-abbrev disjoint-at : ℕ → In 1 disjoint-kinds.ps
-disjoint-at t = and 1 disjoint-kinds.ps (is 1 disjoint-kinds.ps μ-disjoint t) disjoint.Pre
+abbrev here : ℕ → In 1 disjoint-kinds.ps
+here t = and 1 disjoint-kinds.ps (is 1 disjoint-kinds.ps μ t) disjoint.Pre
 
-abbrev disjoint-below : ℕ → In 1 disjoint-kinds.ps
-disjoint-below t =
-    and 1 disjoint-kinds.ps (falls 1 disjoint-kinds.ps _<_ μ-disjoint t) disjoint.Pre
+abbrev below : ℕ → In 1 disjoint-kinds.ps
+below t =
+    and 1 disjoint-kinds.ps (falls 1 disjoint-kinds.ps _<_ μ t) disjoint.Pre
 
-abbrev disjoint-calls : ℕ → disjoint-lts.Claims
-disjoint-calls t = (read-cell-reads.Asked, read-cell-reads.Learnt, disjoint-below t, disjoint.Post)
+abbrev calls : ℕ → lts.Claims
+calls t = (read-cell-reads.Asked, read-cell-reads.Learnt, below t, disjoint.Post)
 
--- src/lib.rt:58:9
-disjoint-read-cell-requires : (t : ℕ) → disjoint-lts.Need-read-cell-requires (disjoint-calls t) (disjoint-at t) disjoint.Post
-disjoint-read-cell-requires t c κs =
+-- either side is top-like
+read-cell-requires : (t : ℕ) → lts.Need-read-cell-requires (calls t) (here t) disjoint.Post
+read-cell-requires t c κs =
     type-within (c .before .pre .1 .holds-first)
 
--- src/lib.rt:60:9
-disjoint-returns : (t : ℕ) → disjoint-lts.Need-returns (disjoint-calls t) (disjoint-at t) disjoint.Post
-disjoint-returns t c =
+returns : (t : ℕ) → lts.Need-returns (calls t) (here t) disjoint.Post
+returns t c =
     outright (λ A B h k. left-top B h _ (c .before .before .read-cell .ensures) (c .if1 .taken))
 
--- src/lib.rt:62:9
-disjoint-read-cell-requires-2 : (t : ℕ) → disjoint-lts.Need-read-cell-requires-2 (disjoint-calls t) (disjoint-at t) disjoint.Post
-disjoint-read-cell-requires-2 t c κs =
+read-cell-requires-2 : (t : ℕ) → lts.Need-read-cell-requires-2 (calls t) (here t) disjoint.Post
+read-cell-requires-2 t c κs =
     type-within (c .before .before .before .before .pre .1 .holds-second)
 
--- src/lib.rt:64:9
-disjoint-returns-2 : (t : ℕ) → disjoint-lts.Need-returns-2 (disjoint-calls t) (disjoint-at t) disjoint.Post
-disjoint-returns-2 t c =
+returns-2 : (t : ℕ) → lts.Need-returns-2 (calls t) (here t) disjoint.Post
+returns-2 t c =
     outright (λ A B h k. right-top A k _ (c .before .before .read-cell2 .ensures) (c .if2 .taken))
 
--- src/lib.rt:67:12
-disjoint-disjoint-requires : (t : ℕ) → disjoint-lts.Need-disjoint-requires (disjoint-calls t) (disjoint-at t) disjoint.Post
-disjoint-disjoint-requires t c κs =
-    let p = left-halves (read-at (c .before .before .before .before .before .before .before .read-cell .ensures) (c .before .before .before .before .read-cell2 .ensures) (c .before .before .before .before .before .before .before .before .before .pre .1)) (c .if3 .taken) in (less-at (p .first-less) (c .before .before .before .before .before .before .before .before .before .pre .0), p .first)
+-- the left side is an intersection
+disjoint-requires : (t : ℕ) → lts.Need-disjoint-requires (calls t) (here t) disjoint.Post
+disjoint-requires t c κs =
+    let pre = c .before .before .before .before .before .before .before .before .before .pre in
+    let x = c .before .before .before .before .before .before .before .read-cell .ensures in
+    let y = c .before .before .before .before .read-cell2 .ensures in
+    let p = left-halves (read-at x y (pre .1)) (c .if3 .taken) in (less-at (p .first-less) (pre .0), p .first)
 
--- src/lib.rt:68:13
-disjoint-disjoint-requires-2 : (t : ℕ) → disjoint-lts.Need-disjoint-requires-2 (disjoint-calls t) (disjoint-at t) disjoint.Post
-disjoint-disjoint-requires-2 t c κs =
-    let p = left-halves (read-at (c .before .before .before .before .before .before .before .before .before .read-cell .ensures) (c .before .before .before .before .before .before .read-cell2 .ensures) (c .before .before .before .before .before .before .before .before .before .before .before .pre .1)) (c .before .before .if3 .taken) in (less-at (p .second-less) (c .before .before .before .before .before .before .before .before .before .before .before .pre .0), p .second)
+disjoint-requires-2 : (t : ℕ) → lts.Need-disjoint-requires-2 (calls t) (here t) disjoint.Post
+disjoint-requires-2 t c κs =
+    let at = c .before .before .before .before in
+    let pre = at .before .before .before .before .before .before .before .pre in
+    let x = at .before .before .before .before .before .read-cell .ensures in
+    let y = at .before .before .read-cell2 .ensures in
+    let p = left-halves (read-at x y (pre .1)) (c .before .before .if3 .taken) in (less-at (p .second-less) (pre .0), p .second)
 
--- src/lib.rt:68:13
-disjoint-returns-3 : (t : ℕ) → disjoint-lts.Need-returns-3 (disjoint-calls t) (disjoint-at t) disjoint.Post
-disjoint-returns-3 t c =
-    both (λ A B h k. left-halves (read (c .before .before .before .before .before .before .before .before .before .before .read-cell .ensures) (c .before .before .before .before .before .before .before .read-cell2 .ensures) h k) (c .before .before .before .if3 .taken)) (c .before .before .disjoint .ensures) (c .before .if4 .taken) (c .disjoint2 .ensures)
+returns-3 : (t : ℕ) → lts.Need-returns-3 (calls t) (here t) disjoint.Post
+returns-3 t c =
+    let at = c .before .before .before .before .before in
+    let x = at .before .before .before .before .before .read-cell .ensures in
+    let y = at .before .before .read-cell2 .ensures in
+    both (λ A B h k. left-halves (read x y h k) (c .before .before .before .if3 .taken)) (c .before .before .disjoint .ensures) (c .before .if4 .taken) (c .disjoint2 .ensures)
 
--- src/lib.rt:70:9
-disjoint-returns-4 : (t : ℕ) → disjoint-lts.Need-returns-4 (disjoint-calls t) (disjoint-at t) disjoint.Post
-disjoint-returns-4 t c =
-    none (λ A B h k. left-halves (read (c .before .before .before .before .before .before .before .before .before .read-cell .ensures) (c .before .before .before .before .before .before .read-cell2 .ensures) h k) (c .before .before .if3 .taken)) (c .before .disjoint .ensures) (c .if4 .left)
+returns-4 : (t : ℕ) → lts.Need-returns-4 (calls t) (here t) disjoint.Post
+returns-4 t c =
+    let at = c .before .before .before .before in
+    let x = at .before .before .before .before .before .read-cell .ensures in
+    let y = at .before .before .read-cell2 .ensures in
+    none (λ A B h k. left-halves (read x y h k) (c .before .before .if3 .taken)) (c .before .disjoint .ensures) (c .if4 .left)
 
--- src/lib.rt:73:12
-disjoint-disjoint-requires-3 : (t : ℕ) → disjoint-lts.Need-disjoint-requires-3 (disjoint-calls t) (disjoint-at t) disjoint.Post
-disjoint-disjoint-requires-3 t c κs =
-    let p = right-halves (read-at (c .before .before .before .before .before .before .before .before .before .read-cell .ensures) (c .before .before .before .before .before .before .read-cell2 .ensures) (c .before .before .before .before .before .before .before .before .before .before .before .pre .1)) (c .if5 .taken) in (less-at (p .first-less) (c .before .before .before .before .before .before .before .before .before .before .before .pre .0), p .first)
+-- the right side is an intersection
+disjoint-requires-3 : (t : ℕ) → lts.Need-disjoint-requires-3 (calls t) (here t) disjoint.Post
+disjoint-requires-3 t c κs =
+    let at = c .before .before .before .before in
+    let pre = at .before .before .before .before .before .before .before .pre in
+    let x = at .before .before .before .before .before .read-cell .ensures in
+    let y = at .before .before .read-cell2 .ensures in
+    let p = right-halves (read-at x y (pre .1)) (c .if5 .taken) in (less-at (p .first-less) (pre .0), p .first)
 
--- src/lib.rt:74:13
-disjoint-disjoint-requires-4 : (t : ℕ) → disjoint-lts.Need-disjoint-requires-4 (disjoint-calls t) (disjoint-at t) disjoint.Post
-disjoint-disjoint-requires-4 t c κs =
-    let p = right-halves (read-at (c .before .before .before .before .before .before .before .before .before .before .before .read-cell .ensures) (c .before .before .before .before .before .before .before .before .read-cell2 .ensures) (c .before .before .before .before .before .before .before .before .before .before .before .before .before .pre .1)) (c .before .before .if5 .taken) in (less-at (p .second-less) (c .before .before .before .before .before .before .before .before .before .before .before .before .before .pre .0), p .second)
+disjoint-requires-4 : (t : ℕ) → lts.Need-disjoint-requires-4 (calls t) (here t) disjoint.Post
+disjoint-requires-4 t c κs =
+    let at = c .before .before .before .before .before .before in
+    let pre = at .before .before .before .before .before .before .before .pre in
+    let x = at .before .before .before .before .before .read-cell .ensures in
+    let y = at .before .before .read-cell2 .ensures in
+    let p = right-halves (read-at x y (pre .1)) (c .before .before .if5 .taken) in (less-at (p .second-less) (pre .0), p .second)
 
--- src/lib.rt:74:13
-disjoint-returns-5 : (t : ℕ) → disjoint-lts.Need-returns-5 (disjoint-calls t) (disjoint-at t) disjoint.Post
-disjoint-returns-5 t c =
-    both (λ A B h k. right-halves (read (c .before .before .before .before .before .before .before .before .before .before .before .before .read-cell .ensures) (c .before .before .before .before .before .before .before .before .before .read-cell2 .ensures) h k) (c .before .before .before .if5 .taken)) (c .before .before .disjoint3 .ensures) (c .before .if6 .taken) (c .disjoint4 .ensures)
+returns-5 : (t : ℕ) → lts.Need-returns-5 (calls t) (here t) disjoint.Post
+returns-5 t c =
+    let at = c .before .before .before .before .before .before .before in
+    let x = at .before .before .before .before .before .read-cell .ensures in
+    let y = at .before .before .read-cell2 .ensures in
+    both (λ A B h k. right-halves (read x y h k) (c .before .before .before .if5 .taken)) (c .before .before .disjoint3 .ensures) (c .before .if6 .taken) (c .disjoint4 .ensures)
 
--- src/lib.rt:76:9
-disjoint-returns-6 : (t : ℕ) → disjoint-lts.Need-returns-6 (disjoint-calls t) (disjoint-at t) disjoint.Post
-disjoint-returns-6 t c =
-    none (λ A B h k. right-halves (read (c .before .before .before .before .before .before .before .before .before .before .before .read-cell .ensures) (c .before .before .before .before .before .before .before .before .read-cell2 .ensures) h k) (c .before .before .if5 .taken)) (c .before .disjoint3 .ensures) (c .if6 .left)
+returns-6 : (t : ℕ) → lts.Need-returns-6 (calls t) (here t) disjoint.Post
+returns-6 t c =
+    let at = c .before .before .before .before .before .before in
+    let x = at .before .before .before .before .before .read-cell .ensures in
+    let y = at .before .before .read-cell2 .ensures in
+    none (λ A B h k. right-halves (read x y h k) (c .before .before .if5 .taken)) (c .before .disjoint3 .ensures) (c .if6 .left)
 
--- src/lib.rt:79:9
-disjoint-returns-7 : (t : ℕ) → disjoint-lts.Need-returns-7 (disjoint-calls t) (disjoint-at t) disjoint.Post
-disjoint-returns-7 t c =
-    outright (λ A B h k. other-kinds (read (c .before .before .before .before .before .before .before .before .before .before .before .before .read-cell .ensures) (c .before .before .before .before .before .before .before .before .before .read-cell2 .ensures) h k) (c .before .before .before .before .before .before .before .before .before .before .if1 .left) (c .before .before .before .before .before .if3 .left) (c .before .before .before .before .before .before .before .if2 .left) (c .before .before .before .if5 .left) (c .if7 .taken))
+-- two kinds
+returns-7 : (t : ℕ) → lts.Need-returns-7 (calls t) (here t) disjoint.Post
+returns-7 t c =
+    let at = c .before .before .before .before .before .before .before in
+    let x = at .before .before .before .before .before .read-cell .ensures in
+    let y = at .before .before .read-cell2 .ensures in
+    outright (λ A B h k. other-kinds (read x y h k) (at .before .before .before .if1 .left) (c .before .before .before .before .before .if3 .left) (at .if2 .left) (c .before .before .before .if5 .left) (c .if7 .taken))
 
--- src/lib.rt:82:9
-disjoint-disjoint-requires-5 : (t : ℕ) → disjoint-lts.Need-disjoint-requires-5 (disjoint-calls t) (disjoint-at t) disjoint.Post
-disjoint-disjoint-requires-5 t c κs =
-    let p = outputs (read-at (c .before .before .before .before .before .before .before .before .before .before .before .before .before .before .read-cell .ensures) (c .before .before .before .before .before .before .before .before .before .before .before .read-cell2 .ensures) (c .before .before .before .before .before .before .before .before .before .before .before .before .before .before .before .before .pre .1)) (c .before .before .if7 .left) (c .if8 .taken) in (less-at (p .less) (c .before .before .before .before .before .before .before .before .before .before .before .before .before .before .before .before .pre .0), p .part)
+-- two function types
+disjoint-requires-5 : (t : ℕ) → lts.Need-disjoint-requires-5 (calls t) (here t) disjoint.Post
+disjoint-requires-5 t c κs =
+    let at = c .before .before .before .before .before .before .before .before .before in
+    let pre = at .before .before .before .before .before .before .before .pre in
+    let x = at .before .before .before .before .before .read-cell .ensures in
+    let y = at .before .before .read-cell2 .ensures in
+    let p = outputs (read-at x y (pre .1)) (c .before .before .if7 .left) (c .if8 .taken) in (less-at (p .less) (pre .0), p .part)
 
--- src/lib.rt:82:9
-disjoint-returns-8 : (t : ℕ) → disjoint-lts.Need-returns-8 (disjoint-calls t) (disjoint-at t) disjoint.Post
-disjoint-returns-8 t c =
-    passed (λ A B h k. outputs (read (c .before .before .before .before .before .before .before .before .before .before .before .before .before .before .before .read-cell .ensures) (c .before .before .before .before .before .before .before .before .before .before .before .before .read-cell2 .ensures) h k) (c .before .before .before .if7 .left) (c .before .if8 .taken)) (c .disjoint5 .ensures)
+returns-8 : (t : ℕ) → lts.Need-returns-8 (calls t) (here t) disjoint.Post
+returns-8 t c =
+    let at = c .before .before .before .before .before .before .before .before .before .before in
+    let x = at .before .before .before .before .before .read-cell .ensures in
+    let y = at .before .before .read-cell2 .ensures in
+    passed (λ A B h k. outputs (read x y h k) (c .before .before .before .if7 .left) (c .before .if8 .taken)) (c .disjoint5 .ensures)
 
--- src/lib.rt:86:13
-disjoint-disjoint-requires-6 : (t : ℕ) → disjoint-lts.Need-disjoint-requires-6 (disjoint-calls t) (disjoint-at t) disjoint.Post
-disjoint-disjoint-requires-6 t c κs =
-    let p = fields (read-at (c .before .before .before .before .before .before .before .before .before .before .before .before .before .before .before .before .before .before .before .read-cell .ensures) (c .before .before .before .before .before .before .before .before .before .before .before .before .before .before .before .before .read-cell2 .ensures) (c .before .before .before .before .before .before .before .before .before .before .before .before .before .before .before .before .before .before .before .before .before .pre .1)) (c .before .before .before .before .before .before .before .if7 .left) (c .before .before .before .if9 .taken) (c .if10 .taken) in (less-at (p .less) (c .before .before .before .before .before .before .before .before .before .before .before .before .before .before .before .before .before .before .before .before .before .pre .0), p .part)
+-- two record types
+disjoint-requires-6 : (t : ℕ) → lts.Need-disjoint-requires-6 (calls t) (here t) disjoint.Post
+disjoint-requires-6 t c κs =
+    let at = c .before .before .before .before .before .before .before .before .before .before .before .before .before .before in
+    let pre = at .before .before .before .before .before .before .before .pre in
+    let x = at .before .before .before .before .before .read-cell .ensures in
+    let y = at .before .before .read-cell2 .ensures in
+    let p = fields (read-at x y (pre .1)) (c .before .before .before .before .before .before .before .if7 .left) (c .before .before .before .if9 .taken) (c .if10 .left) in (less-at (p .less) (pre .0), p .part)
 
--- src/lib.rt:86:13
-disjoint-returns-9 : (t : ℕ) → disjoint-lts.Need-returns-9 (disjoint-calls t) (disjoint-at t) disjoint.Post
-disjoint-returns-9 t c =
-    passed (λ A B h k. fields (read (c .before .before .before .before .before .before .before .before .before .before .before .before .before .before .before .before .before .before .before .before .read-cell .ensures) (c .before .before .before .before .before .before .before .before .before .before .before .before .before .before .before .before .before .read-cell2 .ensures) h k) (c .before .before .before .before .before .before .before .before .if7 .left) (c .before .before .before .before .if9 .taken) (c .before .if10 .taken)) (c .disjoint6 .ensures)
+returns-9 : (t : ℕ) → lts.Need-returns-9 (calls t) (here t) disjoint.Post
+returns-9 t c =
+    let at = c .before .before .before .before .before .before .before .before .before .before .before .before .before .before in
+    let x = at .before .before .before .before .before .read-cell .ensures in
+    let y = at .before .before .read-cell2 .ensures in
+    flagged (ap not (ne-eqb _ _ (c .if10 .taken))) (λ A B h k. other-labels (read x y h k) (c .before .before .before .before .before .before .before .if7 .left) (c .before .before .before .if9 .taken) (c .if10 .taken))
 
--- src/lib.rt:88:9
-disjoint-returns-10 : (t : ℕ) → disjoint-lts.Need-returns-10 (disjoint-calls t) (disjoint-at t) disjoint.Post
-disjoint-returns-10 t c =
-    outright (λ A B h k. other-labels (read (c .before .before .before .before .before .before .before .before .before .before .before .before .before .before .before .before .before .before .before .read-cell .ensures) (c .before .before .before .before .before .before .before .before .before .before .before .before .before .before .before .before .read-cell2 .ensures) h k) (c .before .before .before .before .before .before .before .if7 .left) (c .before .before .before .if9 .taken) (c .if10 .left))
+returns-10 : (t : ℕ) → lts.Need-returns-10 (calls t) (here t) disjoint.Post
+returns-10 t c =
+    let at = c .before .before .before .before .before .before .before .before .before .before .before .before .before .before .before in
+    let x = at .before .before .before .before .before .read-cell .ensures in
+    let y = at .before .before .read-cell2 .ensures in
+    passed (λ A B h k. fields (read x y h k) (c .before .before .before .before .before .before .before .before .if7 .left) (c .before .before .before .before .if9 .taken) (c .before .if10 .left)) (c .disjoint6 .ensures)
 
--- src/lib.rt:54:1
-disjoint-returns-11 : (t : ℕ) → disjoint-lts.Need-returns-11 (disjoint-calls t) (disjoint-at t) disjoint.Post
-disjoint-returns-11 t c =
-    outright (λ A B h k. numbers (read (c .before .before .before .before .before .before .before .before .before .before .before .before .before .before .before .before .read-cell .ensures) (c .before .before .before .before .before .before .before .before .before .before .before .before .before .read-cell2 .ensures) h k) (c .before .before .before .before .before .before .before .before .before .before .before .before .before .before .if1 .left) (c .before .before .before .before .before .before .before .before .before .if3 .left) (c .before .before .before .before .before .before .before .before .before .before .before .if2 .left) (c .before .before .before .before .before .before .before .if5 .left) (c .before .before .before .before .if7 .left) (c .before .before .if8 .left) (c .if9 .left))
+-- two numbers
+returns-11 : (t : ℕ) → lts.Need-returns-11 (calls t) (here t) disjoint.Post
+returns-11 t c =
+    let at = c .before .before .before .before .before .before .before .before .before .before .before in
+    let x = at .before .before .before .before .before .read-cell .ensures in
+    let y = at .before .before .read-cell2 .ensures in
+    outright (λ A B h k. numbers (read x y h k) (at .before .before .before .if1 .left) (c .before .before .before .before .before .before .before .before .before .if3 .left) (at .if2 .left) (c .before .before .before .before .before .before .before .if5 .left) (c .before .before .before .before .if7 .left) (c .before .before .if8 .left) (c .if9 .left))
 
 pub +disjoint-spec : {M : Type 1} → statement M
-+disjoint-spec = close μ-disjoint λ t. disjoint-lts.spec (disjoint-calls t)
-    (disjoint-at t)
++disjoint-spec = close μ λ t. lts.spec (calls t)
+    (here t)
     disjoint.Post
-    (disjoint-read-cell-requires t)
-    (disjoint-returns t)
-    (disjoint-read-cell-requires-2 t)
-    (disjoint-returns-2 t)
-    (disjoint-disjoint-requires t)
-    (disjoint-disjoint-requires-2 t)
-    (disjoint-returns-3 t)
-    (disjoint-returns-4 t)
-    (disjoint-disjoint-requires-3 t)
-    (disjoint-disjoint-requires-4 t)
-    (disjoint-returns-5 t)
-    (disjoint-returns-6 t)
-    (disjoint-returns-7 t)
-    (disjoint-disjoint-requires-5 t)
-    (disjoint-returns-8 t)
-    (disjoint-disjoint-requires-6 t)
-    (disjoint-returns-9 t)
-    (disjoint-returns-10 t)
-    (disjoint-returns-11 t)
+    (read-cell-requires t)
+    (returns t)
+    (read-cell-requires-2 t)
+    (returns-2 t)
+    (disjoint-requires t)
+    (disjoint-requires-2 t)
+    (returns-3 t)
+    (returns-4 t)
+    (disjoint-requires-3 t)
+    (disjoint-requires-4 t)
+    (returns-5 t)
+    (returns-6 t)
+    (returns-7 t)
+    (disjoint-requires-5 t)
+    (returns-8 t)
+    (disjoint-requires-6 t)
+    (returns-9 t)
+    (returns-10 t)
+    (returns-11 t)

@@ -1,48 +1,36 @@
+-- `types::closed_values` meets its contract. Assumes nothing.
 use Rattle.types.proofs.Halves.{few, not-first, not-second, not-closed, both-closed}
-use borrow.Author.Needs.{needs}
 use Rattle.types.proofs.closed_values.Statement.{statement}
 use Rattle.types.proofs.closed_values.Tie as tie
-use Rattle.types.proofs.closed_values.Reads as reads
-use Rattle.types.proofs.closed_values.Lts as lts
-use Rattle.types.proofs.closed.Reads as closed-reads
-use Rattle.types.proofs.value.Reads as value-reads
 
--- src/lib.rt:296:8
 value-requires : tie.Need-value-requires
 value-requires c κs =
     record { term = c .before .pre .terms .first; holds = c .before .pre .terms .holds-first }
 
--- src/lib.rt:297:12
 value-requires-2 : tie.Need-value-requires-2
 value-requires-2 c κs =
     record { term = c .before .before .before .pre .terms .second; holds = c .before .before .before .pre .terms .holds-second }
 
--- src/lib.rt:298:16
 closed-requires : tie.Need-closed-requires
 closed-requires c κs =
     (record { term = c .before .before .before .before .before .pre .terms .first; holds = c .before .before .before .before .before .pre .terms .holds-first }, few (c .before .before .before .before .before .pre .long) (c .before .before .before .before .before .pre .terms .holds-first))
 
--- src/lib.rt:299:17
 closed-requires-2 : tie.Need-closed-requires-2
 closed-requires-2 c κs =
     (record { term = c .before .before .before .before .before .before .before .pre .terms .second; holds = c .before .before .before .before .before .before .before .pre .terms .holds-second }, few (c .before .before .before .before .before .before .before .pre .long) (c .before .before .before .before .before .before .before .pre .terms .holds-second))
 
--- src/lib.rt:299:17
 returns : tie.Need-returns
 returns c =
     both-closed (c .before .before .before .before .before .before .value .ensures) (c .before .before .before .before .before .if1 .taken) (c .before .before .before .before .value2 .ensures) (c .before .before .before .if2 .taken) (c .before .before .closed .ensures) (c .before .if3 .taken) (c .closed2 .ensures)
 
--- src/lib.rt:292:1
 returns-2 : tie.Need-returns-2
 returns-2 c =
     not-closed (c .before .before .before .before .before .value .ensures) (c .before .before .before .before .if1 .taken) (c .before .before .before .value2 .ensures) (c .before .before .if2 .taken) (c .before .closed .ensures) (c .if3 .left)
 
--- src/lib.rt:292:1
 returns-3 : tie.Need-returns-3
 returns-3 c =
     not-second (c .before .before .before .value .ensures) (c .before .before .if1 .taken) (c .before .value2 .ensures) (c .if2 .left)
 
--- src/lib.rt:292:1
 returns-4 : tie.Need-returns-4
 returns-4 c =
     not-first (c .before .value .ensures) (c .if1 .left)

@@ -3,14 +3,13 @@
 use native.Mathlib.Omega.{arith}
 use mathlib.Core.Path.{_∙_}
 use borrow.Author.Needs.{needs}
-use Rattle.cells.proofs.Held.{written}
 use Rattle.typing.proofs.Parts.{at-kind, at-last}
-use Rattle.typing.proofs.Lefts.{app-begins, merge-begins, rcd-begins, proj-begins, left-asks, left-refused, left-within}
+use Rattle.typing.proofs.Lefts.{app-begins, merge-begins, rcd-begins, proj-begins, merge-sides, right-asks, left-asks, left-refused, left-within}
 use Rattle.typing.proofs.Checking.{check-refused, check-asks, check-found, check-mismatch, anno-asks, anno-finds}
 use Rattle.typing.proofs.Applications.{app-top-right, app-right, app-top, app-else, app-right-refused, app-found}
-use Rattle.typing.proofs.Functions.{lam-binds, lam-asks, lam-refused, lam-within, lam-writes, lam-found, fix-binds, fix-asks, fix-finds}
-use Rattle.typing.proofs.Merges.{merge-right, merge-right-refused, merge-asks, merge-adds, merge-conflict, merge-found}
-use Rattle.typing.proofs.Records.{rcd-writes, rcd-found}
+use Rattle.typing.proofs.Functions.{lam-binds, lam-asks, lam-refused, lam-within, lam-room, lam-found, fix-binds, fix-asks, fix-finds}
+use Rattle.typing.proofs.Merges.{merge-right-refused, merge-asks, merge-adds, merge-conflict, merge-found}
+use Rattle.typing.proofs.Records.{rcd-room, rcd-found}
 use Rattle.typing.proofs.Records.{proj-top, proj-found, proj-other, proj-else}
 use Prim.Native.Nat.{ℕ, _+_, _*_, _<_}
 use borrow.Fn.Kinds.{In}
@@ -43,16 +42,20 @@ use Rattle.typing.proofs.find_rcd.Reads as find-rcd
 use Rattle.typing.proofs.find_rcd.Kinds as find-rcd-kinds
 use Rattle.typing.proofs.+check+find+find_anno+find_app+find_fix+find_lam+find_merge+find_proj+find_rcd.Lts-find_rcd as find-rcd-lts
 use Rattle.cells.proofs.read_cell.Reads as read-cell-reads
-use Rattle.cells.proofs.write_cell.Reads as write-cell-reads
 use Rattle.types.proofs.mergeable.Reads as mergeable-reads
 use Rattle.types.proofs.subtype.Reads as subtype-reads
+use Rattle.typing.proofs.add.Reads as add-reads
 use Rattle.typing.proofs.add_inter.Reads as add-inter-reads
 use Rattle.typing.proofs.bind.Reads as bind-reads
 use Rattle.typing.proofs.find_lit.Reads as find-lit-reads
 use Rattle.typing.proofs.find_unit.Reads as find-unit-reads
 use Rattle.typing.proofs.find_var.Reads as find-var-reads
-use Rattle.typing.proofs.+check+find+find_anno+find_app+find_fix+find_lam+find_merge+find_proj+find_rcd.{statement}
-use Rattle.typing.proofs.+check+find+find_anno+find_app+find_fix+find_lam+find_merge+find_proj+find_rcd.Tie.{close}
+use Rattle.typing.proofs.+check+find+find_anno+find_app+find_fix+find_lam+find_merge+find_proj+find_rcd.{
+  statement,
+}
+use Rattle.typing.proofs.+check+find+find_anno+find_app+find_fix+find_lam+find_merge+find_proj+find_rcd.Tie.{
+  close,
+}
 
 abbrev μ-check : Measures 1 check-kinds.ps ℕ
 μ-check κs a = 3 * a .1 .1 .1 .0 + 2
@@ -97,51 +100,43 @@ abbrev find-anno-at : ℕ → In 1 find-anno-kinds.ps
 find-anno-at t = and 1 find-anno-kinds.ps (is 1 find-anno-kinds.ps μ-find-anno t) find-anno.Pre
 
 abbrev find-anno-below : ℕ → In 1 find-anno-kinds.ps
-find-anno-below t =
-    and 1 find-anno-kinds.ps (falls 1 find-anno-kinds.ps _<_ μ-find-anno t) find-anno.Pre
+find-anno-below t = and 1 find-anno-kinds.ps (falls 1 find-anno-kinds.ps _<_ μ-find-anno t) find-anno.Pre
 
 abbrev find-app-at : ℕ → In 1 find-app-kinds.ps
 find-app-at t = and 1 find-app-kinds.ps (is 1 find-app-kinds.ps μ-find-app t) find-app.Pre
 
 abbrev find-app-below : ℕ → In 1 find-app-kinds.ps
-find-app-below t =
-    and 1 find-app-kinds.ps (falls 1 find-app-kinds.ps _<_ μ-find-app t) find-app.Pre
+find-app-below t = and 1 find-app-kinds.ps (falls 1 find-app-kinds.ps _<_ μ-find-app t) find-app.Pre
 
 abbrev find-fix-at : ℕ → In 1 find-fix-kinds.ps
 find-fix-at t = and 1 find-fix-kinds.ps (is 1 find-fix-kinds.ps μ-find-fix t) find-fix.Pre
 
 abbrev find-fix-below : ℕ → In 1 find-fix-kinds.ps
-find-fix-below t =
-    and 1 find-fix-kinds.ps (falls 1 find-fix-kinds.ps _<_ μ-find-fix t) find-fix.Pre
+find-fix-below t = and 1 find-fix-kinds.ps (falls 1 find-fix-kinds.ps _<_ μ-find-fix t) find-fix.Pre
 
 abbrev find-lam-at : ℕ → In 1 find-lam-kinds.ps
 find-lam-at t = and 1 find-lam-kinds.ps (is 1 find-lam-kinds.ps μ-find-lam t) find-lam.Pre
 
 abbrev find-lam-below : ℕ → In 1 find-lam-kinds.ps
-find-lam-below t =
-    and 1 find-lam-kinds.ps (falls 1 find-lam-kinds.ps _<_ μ-find-lam t) find-lam.Pre
+find-lam-below t = and 1 find-lam-kinds.ps (falls 1 find-lam-kinds.ps _<_ μ-find-lam t) find-lam.Pre
 
 abbrev find-merge-at : ℕ → In 1 find-merge-kinds.ps
-find-merge-at t =
-    and 1 find-merge-kinds.ps (is 1 find-merge-kinds.ps μ-find-merge t) find-merge.Pre
+find-merge-at t = and 1 find-merge-kinds.ps (is 1 find-merge-kinds.ps μ-find-merge t) find-merge.Pre
 
 abbrev find-merge-below : ℕ → In 1 find-merge-kinds.ps
-find-merge-below t =
-    and 1 find-merge-kinds.ps (falls 1 find-merge-kinds.ps _<_ μ-find-merge t) find-merge.Pre
+find-merge-below t = and 1 find-merge-kinds.ps (falls 1 find-merge-kinds.ps _<_ μ-find-merge t) find-merge.Pre
 
 abbrev find-proj-at : ℕ → In 1 find-proj-kinds.ps
 find-proj-at t = and 1 find-proj-kinds.ps (is 1 find-proj-kinds.ps μ-find-proj t) find-proj.Pre
 
 abbrev find-proj-below : ℕ → In 1 find-proj-kinds.ps
-find-proj-below t =
-    and 1 find-proj-kinds.ps (falls 1 find-proj-kinds.ps _<_ μ-find-proj t) find-proj.Pre
+find-proj-below t = and 1 find-proj-kinds.ps (falls 1 find-proj-kinds.ps _<_ μ-find-proj t) find-proj.Pre
 
 abbrev find-rcd-at : ℕ → In 1 find-rcd-kinds.ps
 find-rcd-at t = and 1 find-rcd-kinds.ps (is 1 find-rcd-kinds.ps μ-find-rcd t) find-rcd.Pre
 
 abbrev find-rcd-below : ℕ → In 1 find-rcd-kinds.ps
-find-rcd-below t =
-    and 1 find-rcd-kinds.ps (falls 1 find-rcd-kinds.ps _<_ μ-find-rcd t) find-rcd.Pre
+find-rcd-below t = and 1 find-rcd-kinds.ps (falls 1 find-rcd-kinds.ps _<_ μ-find-rcd t) find-rcd.Pre
 
 abbrev check-calls : ℕ → check-lts.Claims
 check-calls t = (find-below t, find.Post, subtype-reads.Asked, subtype-reads.Learnt)
@@ -159,7 +154,7 @@ abbrev find-fix-calls : ℕ → find-fix-lts.Claims
 find-fix-calls t = (read-cell-reads.Asked, read-cell-reads.Learnt, bind-reads.Asked, bind-reads.Learnt, check-below t, check.Post)
 
 abbrev find-lam-calls : ℕ → find-lam-lts.Claims
-find-lam-calls t = (read-cell-reads.Asked, read-cell-reads.Learnt, bind-reads.Asked, bind-reads.Learnt, check-below t, check.Post, write-cell-reads.Asked, write-cell-reads.Learnt)
+find-lam-calls t = (read-cell-reads.Asked, read-cell-reads.Learnt, bind-reads.Asked, bind-reads.Learnt, check-below t, check.Post, add-reads.Asked, add-reads.Learnt)
 
 abbrev find-merge-calls : ℕ → find-merge-lts.Claims
 find-merge-calls t = (read-cell-reads.Asked, read-cell-reads.Learnt, find-below t, find.Post, mergeable-reads.Asked, mergeable-reads.Learnt, add-inter-reads.Asked, add-inter-reads.Learnt)
@@ -168,51 +163,43 @@ abbrev find-proj-calls : ℕ → find-proj-lts.Claims
 find-proj-calls t = (read-cell-reads.Asked, read-cell-reads.Learnt, find-below t, find.Post)
 
 abbrev find-rcd-calls : ℕ → find-rcd-lts.Claims
-find-rcd-calls t = (read-cell-reads.Asked, read-cell-reads.Learnt, find-below t, find.Post, write-cell-reads.Asked, write-cell-reads.Learnt)
+find-rcd-calls t = (read-cell-reads.Asked, read-cell-reads.Learnt, find-below t, find.Post, add-reads.Asked, add-reads.Learnt)
 
 check-find-requires : (t : ℕ) → check-lts.Need-find-requires (check-calls t) (check-at t) check.Post
-check-find-requires t c κs =
-    (omega (arith, c .before .before .pre .0), c .before .before .pre .1 .ready)
+check-find-requires t c κs = (omega (arith, c .before .before .pre .0), c .before .before .pre .1 .ready)
 
 check-enum-known-found : (t : ℕ) → check-lts.Need-enum-known-found (check-calls t) (check-at t) check.Post
-check-enum-known-found t c =
-    search needs
+check-enum-known-found t c = search needs
 
 check-enum-told : (t : ℕ) → check-lts.Need-enum-told (check-calls t) (check-at t) check.Post
-check-enum-told t c =
-    search needs
+check-enum-told t c = search needs
 
 check-same-length : (t : ℕ) → check-lts.Need-same-length (check-calls t) (check-at t) check.Post
-check-same-length t c =
-    c .before .before .before .before .find .kept .0
+check-same-length t c = c .before .before .before .before .find .kept .0
 
 check-returns : (t : ℕ) → check-lts.Need-returns (check-calls t) (check-at t) check.Post
-check-returns t c =
-    check-refused (c .before .before .before .before .find .ensures) (c .enum-told .given .1)
+check-returns t c = check-refused (c .before .before .before .before .find .ensures) (c .enum-told .given .1)
 
 check-subtype-requires : (t : ℕ) → check-lts.Need-subtype-requires (check-calls t) (check-at t) check.Post
 check-subtype-requires t c κs =
     check-asks (c .before .before .before .before .before .before .before .before .before .pre .1) (c .before .before .before .before .before .before .find .ensures) (c .before .before .found .given .1)
 
 check-same-length-2 : (t : ℕ) → check-lts.Need-same-length-2 (check-calls t) (check-at t) check.Post
-check-same-length-2 t c =
-    c .before .before .before .before .before .before .before .before .find .kept .0
+check-same-length-2 t c = c .before .before .before .before .before .before .before .before .find .kept .0
 
 check-returns-2 : (t : ℕ) → check-lts.Need-returns-2 (check-calls t) (check-at t) check.Post
 check-returns-2 t c =
     check-found (c .before .before .before .before .before .before .before .before .before .before .before .pre .1) (c .before .before .before .before .before .before .before .before .find .ensures) (c .before .before .before .before .found .given .1) (c .before .subtype .ensures) (c .if1 .taken)
 
 check-same-length-3 : (t : ℕ) → check-lts.Need-same-length-3 (check-calls t) (check-at t) check.Post
-check-same-length-3 t c =
-    c .before .before .before .before .before .before .before .before .find .kept .0
+check-same-length-3 t c = c .before .before .before .before .before .before .before .before .find .kept .0
 
 check-returns-3 : (t : ℕ) → check-lts.Need-returns-3 (check-calls t) (check-at t) check.Post
 check-returns-3 t c =
     check-mismatch (c .before .before .before .before .before .before .before .before .before .before .before .pre .1) (c .before .before .before .before .before .before .before .before .find .ensures) (c .before .before .before .before .found .given .1) (c .before .subtype .ensures) (c .if1 .left)
 
 find-read-cell-requires : (t : ℕ) → find-lts.Need-read-cell-requires (find-calls t) (find-at t) find.Post
-find-read-cell-requires t c κs =
-    omega (arith, c .before .before .pre .1)
+find-read-cell-requires t c κs = omega (arith, c .before .before .pre .1)
 
 find-find-var-requires : (t : ℕ) → find-lts.Need-find-var-requires (find-calls t) (find-at t) find.Post
 find-find-var-requires t c κs =
@@ -255,88 +242,67 @@ find-find-proj-requires t c κs =
     (omega (arith, c .before .before .before .before .before .pre .0), at-last (c .before .before .before .before .before .pre .1) (c .before .before .read-cell .ensures) (c .before .match .rest))
 
 find-same-length : (t : ℕ) → find-lts.Need-same-length (find-calls t) (find-at t) find.Post
-find-same-length t c =
-    c .before .before .find-var .kept .0
+find-same-length t c = c .before .before .find-var .kept .0
 
 find-returns : (t : ℕ) → find-lts.Need-returns (find-calls t) (find-at t) find.Post
-find-returns t c =
-    c .before .before .find-var .ensures
+find-returns t c = c .before .before .find-var .ensures
 
 find-same-length-2 : (t : ℕ) → find-lts.Need-same-length-2 (find-calls t) (find-at t) find.Post
-find-same-length-2 t c =
-    c .before .before .find-lit .kept .0
+find-same-length-2 t c = c .before .before .find-lit .kept .0
 
 find-returns-2 : (t : ℕ) → find-lts.Need-returns-2 (find-calls t) (find-at t) find.Post
-find-returns-2 t c =
-    c .before .before .find-lit .ensures
+find-returns-2 t c = c .before .before .find-lit .ensures
 
 find-same-length-3 : (t : ℕ) → find-lts.Need-same-length-3 (find-calls t) (find-at t) find.Post
-find-same-length-3 t c =
-    c .before .before .find-unit .kept .0
+find-same-length-3 t c = c .before .before .find-unit .kept .0
 
 find-returns-3 : (t : ℕ) → find-lts.Need-returns-3 (find-calls t) (find-at t) find.Post
-find-returns-3 t c =
-    c .before .before .find-unit .ensures
+find-returns-3 t c = c .before .before .find-unit .ensures
 
 find-same-length-4 : (t : ℕ) → find-lts.Need-same-length-4 (find-calls t) (find-at t) find.Post
-find-same-length-4 t c =
-    c .before .before .find-anno .kept .0
+find-same-length-4 t c = c .before .before .find-anno .kept .0
 
 find-returns-4 : (t : ℕ) → find-lts.Need-returns-4 (find-calls t) (find-at t) find.Post
-find-returns-4 t c =
-    c .before .before .find-anno .ensures
+find-returns-4 t c = c .before .before .find-anno .ensures
 
 find-same-length-5 : (t : ℕ) → find-lts.Need-same-length-5 (find-calls t) (find-at t) find.Post
-find-same-length-5 t c =
-    c .before .before .find-app .kept .0
+find-same-length-5 t c = c .before .before .find-app .kept .0
 
 find-returns-5 : (t : ℕ) → find-lts.Need-returns-5 (find-calls t) (find-at t) find.Post
-find-returns-5 t c =
-    c .before .before .find-app .ensures
+find-returns-5 t c = c .before .before .find-app .ensures
 
 find-same-length-6 : (t : ℕ) → find-lts.Need-same-length-6 (find-calls t) (find-at t) find.Post
-find-same-length-6 t c =
-    c .before .before .find-lam .kept .0
+find-same-length-6 t c = c .before .before .find-lam .kept .0
 
 find-returns-6 : (t : ℕ) → find-lts.Need-returns-6 (find-calls t) (find-at t) find.Post
-find-returns-6 t c =
-    c .before .before .find-lam .ensures
+find-returns-6 t c = c .before .before .find-lam .ensures
 
 find-same-length-7 : (t : ℕ) → find-lts.Need-same-length-7 (find-calls t) (find-at t) find.Post
-find-same-length-7 t c =
-    c .before .before .find-merge .kept .0
+find-same-length-7 t c = c .before .before .find-merge .kept .0
 
 find-returns-7 : (t : ℕ) → find-lts.Need-returns-7 (find-calls t) (find-at t) find.Post
-find-returns-7 t c =
-    c .before .before .find-merge .ensures
+find-returns-7 t c = c .before .before .find-merge .ensures
 
 find-same-length-8 : (t : ℕ) → find-lts.Need-same-length-8 (find-calls t) (find-at t) find.Post
-find-same-length-8 t c =
-    c .before .before .find-fix .kept .0
+find-same-length-8 t c = c .before .before .find-fix .kept .0
 
 find-returns-8 : (t : ℕ) → find-lts.Need-returns-8 (find-calls t) (find-at t) find.Post
-find-returns-8 t c =
-    c .before .before .find-fix .ensures
+find-returns-8 t c = c .before .before .find-fix .ensures
 
 find-same-length-9 : (t : ℕ) → find-lts.Need-same-length-9 (find-calls t) (find-at t) find.Post
-find-same-length-9 t c =
-    c .before .before .find-rcd .kept .0
+find-same-length-9 t c = c .before .before .find-rcd .kept .0
 
 find-returns-9 : (t : ℕ) → find-lts.Need-returns-9 (find-calls t) (find-at t) find.Post
-find-returns-9 t c =
-    c .before .before .find-rcd .ensures
+find-returns-9 t c = c .before .before .find-rcd .ensures
 
 find-same-length-10 : (t : ℕ) → find-lts.Need-same-length-10 (find-calls t) (find-at t) find.Post
-find-same-length-10 t c =
-    c .before .before .find-proj .kept .0
+find-same-length-10 t c = c .before .before .find-proj .kept .0
 
 find-returns-10 : (t : ℕ) → find-lts.Need-returns-10 (find-calls t) (find-at t) find.Post
-find-returns-10 t c =
-    c .before .before .find-proj .ensures
+find-returns-10 t c = c .before .before .find-proj .ensures
 
 find-anno-read-cell-requires : (t : ℕ) → find-anno-lts.Need-read-cell-requires (find-anno-calls t) (find-anno-at t) find-anno.Post
-find-anno-read-cell-requires t c κs =
-    omega (arith, c .before .before .pre .1 .ready)
+find-anno-read-cell-requires t c κs = omega (arith, c .before .before .pre .1 .ready)
 
 find-anno-check-requires : (t : ℕ) → find-anno-lts.Need-check-requires (find-anno-calls t) (find-anno-at t) find-anno.Post
 find-anno-check-requires t c κs =
@@ -344,16 +310,14 @@ find-anno-check-requires t c κs =
     (omega (arith, v .0, c .before .before .before .before .pre .0), v .1)
 
 find-anno-same-length : (t : ℕ) → find-anno-lts.Need-same-length (find-anno-calls t) (find-anno-at t) find-anno.Post
-find-anno-same-length t c =
-    c .before .before .check .kept .0
+find-anno-same-length t c = c .before .before .check .kept .0
 
 find-anno-returns : (t : ℕ) → find-anno-lts.Need-returns (find-anno-calls t) (find-anno-at t) find-anno.Post
 find-anno-returns t c =
     anno-finds (c .before .before .before .before .before .before .before .pre .1) (c .before .before .before .before .read-cell .ensures) (c .before .before .check .ensures)
 
 find-app-read-cell-requires : (t : ℕ) → find-app-lts.Need-read-cell-requires (find-app-calls t) (find-app-at t) find-app.Post
-find-app-read-cell-requires t c κs =
-    omega (arith, c .before .before .pre .1 .ready)
+find-app-read-cell-requires t c κs = omega (arith, c .before .before .pre .1 .ready)
 
 find-app-find-requires : (t : ℕ) → find-app-lts.Need-find-requires (find-app-calls t) (find-app-at t) find-app.Post
 find-app-find-requires t c κs =
@@ -361,16 +325,13 @@ find-app-find-requires t c κs =
     (omega (arith, v .0, c .before .before .before .before .pre .0), v .1)
 
 find-app-enum-known-left : (t : ℕ) → find-app-lts.Need-enum-known-left (find-app-calls t) (find-app-at t) find-app.Post
-find-app-enum-known-left t c =
-    search needs
+find-app-enum-known-left t c = search needs
 
 find-app-enum-told : (t : ℕ) → find-app-lts.Need-enum-told (find-app-calls t) (find-app-at t) find-app.Post
-find-app-enum-told t c =
-    search needs
+find-app-enum-told t c = search needs
 
 find-app-same-length : (t : ℕ) → find-app-lts.Need-same-length (find-app-calls t) (find-app-at t) find-app.Post
-find-app-same-length t c =
-    c .before .before .before .before .find .kept .0
+find-app-same-length t c = c .before .before .before .before .find .kept .0
 
 find-app-returns : (t : ℕ) → find-app-lts.Need-returns (find-app-calls t) (find-app-at t) find-app.Post
 find-app-returns t c =
@@ -382,7 +343,7 @@ find-app-read-cell-requires-2 t c κs =
 
 find-app-check-requires : (t : ℕ) → find-app-lts.Need-check-requires (find-app-calls t) (find-app-at t) find-app.Post
 find-app-check-requires t c κs =
-    let v = app-top-right (c .before .before .before .before .before .before .before .before .before .before .before .before .before .before .before .pre .1) (c .before .before .before .before .before .before .before .before .before .before .before .before .read-cell .ensures) (c .before .before .before .before .before .before .before .before .before .before .find .ensures) (c .before .before .before .before .before .before .left .given .1) (c .before .before .before .read-cell2 .ensures) (c .before .if1 .taken) in
+    let v = app-top-right (c .before .before .before .before .before .before .before .before .before .before .before .before .before .before .before .pre .1) (c .before .before .before .before .before .before .before .before .before .before .before .before .read-cell .ensures) (c .before .before .before .before .before .before .before .before .before .before .find .ensures) (c .before .before .before .before .before .before .left .given .1) in
     (omega (arith, v .0, c .before .before .before .before .before .before .before .before .before .before .before .before .before .before .before .pre .0), v .1)
 
 find-app-same-length-2 : (t : ℕ) → find-app-lts.Need-same-length-2 (find-app-calls t) (find-app-at t) find-app.Post
@@ -407,12 +368,10 @@ find-app-check-requires-2 t c κs =
     (omega (arith, v .0, c .before .before .before .before .before .before .before .before .before .before .before .before .before .before .before .before .before .pre .0), v .1)
 
 find-app-enum-known-right : (t : ℕ) → find-app-lts.Need-enum-known-right (find-app-calls t) (find-app-at t) find-app.Post
-find-app-enum-known-right t c =
-    search needs
+find-app-enum-known-right t c = search needs
 
 find-app-enum-told-2 : (t : ℕ) → find-app-lts.Need-enum-told-2 (find-app-calls t) (find-app-at t) find-app.Post
-find-app-enum-told-2 t c =
-    search needs
+find-app-enum-told-2 t c = search needs
 
 find-app-same-length-4 : (t : ℕ) → find-app-lts.Need-same-length-4 (find-app-calls t) (find-app-at t) find-app.Post
 find-app-same-length-4 t c =
@@ -431,16 +390,10 @@ find-app-returns-5 t c =
     app-found (c .before .before .before .before .before .before .before .before .before .before .before .before .before .before .before .before .before .before .before .before .before .before .before .pre .1) (c .before .before .before .before .before .before .before .before .before .before .before .before .before .before .before .before .before .before .before .before .read-cell .ensures) (c .before .before .before .before .before .before .before .before .before .before .before .before .before .before .before .before .before .before .find .ensures) (c .before .before .before .before .before .before .before .before .before .before .before .before .before .before .left .given .1) (c .before .before .before .before .before .before .before .before .before .before .before .read-cell2 .ensures) (c .before .before .before .before .before .before .before .if2 .left) (c .before .before .before .before .before .check2 .ensures) (c .before .right .given .1)
 
 find-fix-read-cell-requires : (t : ℕ) → find-fix-lts.Need-read-cell-requires (find-fix-calls t) (find-fix-at t) find-fix.Post
-find-fix-read-cell-requires t c κs =
-    omega (arith, c .before .before .pre .1 .ready)
+find-fix-read-cell-requires t c κs = omega (arith, c .before .before .pre .1 .ready)
 
 find-fix-bind-requires : (t : ℕ) → find-fix-lts.Need-bind-requires (find-fix-calls t) (find-fix-at t) find-fix.Post
-find-fix-bind-requires t c κs =
-    fix-binds (c .before .before .before .before .pre .1) (c .before .read-cell .ensures)
-
-find-fix-add-check : (t : ℕ) → find-fix-lts.Need-add-check (find-fix-calls t) (find-fix-at t) find-fix.Post
-find-fix-add-check t c =
-    omega (arith, fix-binds (c .before .before .before .before .before .before .before .before .pre .1) (c .before .before .before .before .before .read-cell .ensures) .room)
+find-fix-bind-requires t c κs = fix-binds (c .before .before .before .before .pre .1) (c .before .read-cell .ensures)
 
 find-fix-check-requires : (t : ℕ) → find-fix-lts.Need-check-requires (find-fix-calls t) (find-fix-at t) find-fix.Post
 find-fix-check-requires t c κs =
@@ -448,24 +401,17 @@ find-fix-check-requires t c κs =
     (omega (arith, v .0, c .before .before .before .before .before .before .before .before .pre .0), v .1)
 
 find-fix-same-length : (t : ℕ) → find-fix-lts.Need-same-length (find-fix-calls t) (find-fix-at t) find-fix.Post
-find-fix-same-length t c =
-    c .before .before .check .kept .0 ∙ c .before .before .before .before .before .before .bind .kept .0
+find-fix-same-length t c = c .before .before .check .kept .0 ∙ c .before .before .before .before .before .before .bind .kept .0
 
 find-fix-returns : (t : ℕ) → find-fix-lts.Need-returns (find-fix-calls t) (find-fix-at t) find-fix.Post
 find-fix-returns t c =
     fix-finds (c .before .before .before .before .before .before .before .before .before .before .before .pre .1) (c .before .before .before .before .before .before .before .before .read-cell .ensures) (c .before .before .before .before .before .before .bind .ensures) (c .before .before .check .ensures)
 
 find-lam-read-cell-requires : (t : ℕ) → find-lam-lts.Need-read-cell-requires (find-lam-calls t) (find-lam-at t) find-lam.Post
-find-lam-read-cell-requires t c κs =
-    omega (arith, c .before .before .pre .1 .ready)
+find-lam-read-cell-requires t c κs = omega (arith, c .before .before .pre .1 .ready)
 
 find-lam-bind-requires : (t : ℕ) → find-lam-lts.Need-bind-requires (find-lam-calls t) (find-lam-at t) find-lam.Post
-find-lam-bind-requires t c κs =
-    lam-binds (c .before .before .before .before .pre .1) (c .before .read-cell .ensures)
-
-find-lam-add-check : (t : ℕ) → find-lam-lts.Need-add-check (find-lam-calls t) (find-lam-at t) find-lam.Post
-find-lam-add-check t c =
-    omega (arith, lam-binds (c .before .before .before .before .before .before .before .before .pre .1) (c .before .before .before .before .before .read-cell .ensures) .room)
+find-lam-bind-requires t c κs = lam-binds (c .before .before .before .before .pre .1) (c .before .read-cell .ensures)
 
 find-lam-check-requires : (t : ℕ) → find-lam-lts.Need-check-requires (find-lam-calls t) (find-lam-at t) find-lam.Post
 find-lam-check-requires t c κs =
@@ -473,12 +419,10 @@ find-lam-check-requires t c κs =
     (omega (arith, v .0, c .before .before .before .before .before .before .before .before .pre .0), v .1)
 
 find-lam-enum-known-body : (t : ℕ) → find-lam-lts.Need-enum-known-body (find-lam-calls t) (find-lam-at t) find-lam.Post
-find-lam-enum-known-body t c =
-    search needs
+find-lam-enum-known-body t c = search needs
 
 find-lam-enum-told : (t : ℕ) → find-lam-lts.Need-enum-told (find-lam-calls t) (find-lam-at t) find-lam.Post
-find-lam-enum-told t c =
-    search needs
+find-lam-enum-told t c = search needs
 
 find-lam-same-length : (t : ℕ) → find-lam-lts.Need-same-length (find-lam-calls t) (find-lam-at t) find-lam.Post
 find-lam-same-length t c =
@@ -492,26 +436,20 @@ find-lam-read-cell-requires-2 : (t : ℕ) → find-lam-lts.Need-read-cell-requir
 find-lam-read-cell-requires-2 t c κs =
     lam-within (c .before .before .before .before .before .before .before .before .before .before .before .before .before .before .before .pre .1) (c .before .before .before .before .before .before .before .before .before .before .before .before .read-cell .ensures) (c .before .before .before .before .before .before .before .before .before .before .bind .ensures) (c .before .before .before .before .before .before .check .ensures) (c .before .before .body .given .1)
 
-find-lam-write-cell-requires : (t : ℕ) → find-lam-lts.Need-write-cell-requires (find-lam-calls t) (find-lam-at t) find-lam.Post
-find-lam-write-cell-requires t c κs =
-    omega (arith, lam-writes (c .before .before .before .before .before .before .before .before .before .before .before .before .before .before .before .before .before .pre .1) (c .before .before .before .before .before .before .before .before .before .before .before .before .before .before .read-cell .ensures) (c .before .before .before .before .before .before .before .before .before .before .before .before .bind .ensures) (c .before .before .before .before .before .before .before .before .check .ensures) (c .before .before .before .before .body .given .1) (c .before .read-cell2 .ensures))
-
-find-lam-add-t16 : (t : ℕ) → find-lam-lts.Need-add-t16 (find-lam-calls t) (find-lam-at t) find-lam.Post
-find-lam-add-t16 t c =
-    omega (arith, lam-writes (c .before .before .before .before .before .before .before .before .before .before .before .before .before .before .before .before .before .before .before .before .pre .1) (c .before .before .before .before .before .before .before .before .before .before .before .before .before .before .before .before .before .read-cell .ensures) (c .before .before .before .before .before .before .before .before .before .before .before .before .before .before .before .bind .ensures) (c .before .before .before .before .before .before .before .before .before .before .before .check .ensures) (c .before .before .before .before .before .before .before .body .given .1) (c .before .before .before .before .read-cell2 .ensures))
+find-lam-add-requires : (t : ℕ) → find-lam-lts.Need-add-requires (find-lam-calls t) (find-lam-at t) find-lam.Post
+find-lam-add-requires t c κs =
+    lam-room (c .before .before .before .before .before .before .before .before .before .before .before .before .before .before .before .before .before .pre .1) (c .before .before .before .before .before .before .before .before .before .before .before .before .before .before .read-cell .ensures) (c .before .before .before .before .before .before .before .before .before .before .before .before .bind .ensures) (c .before .before .before .before .before .before .before .before .check .ensures) (c .before .before .before .before .body .given .1) (c .before .read-cell2 .ensures)
 
 find-lam-same-length-2 : (t : ℕ) → find-lam-lts.Need-same-length-2 (find-lam-calls t) (find-lam-at t) find-lam.Post
 find-lam-same-length-2 t c =
-    c .before .before .write-cell .kept .0 ∙ c .before .before .before .before .before .before .before .before .before .before .before .check .kept .0 ∙ c .before .before .before .before .before .before .before .before .before .before .before .before .before .before .before .bind .kept .0
+    c .before .before .add .kept .0 ∙ c .before .before .before .before .before .before .before .before .before .before .before .check .kept .0 ∙ c .before .before .before .before .before .before .before .before .before .before .before .before .before .before .before .bind .kept .0
 
 find-lam-returns-2 : (t : ℕ) → find-lam-lts.Need-returns-2 (find-lam-calls t) (find-lam-at t) find-lam.Post
 find-lam-returns-2 t c =
-    lam-found (c .before .before .before .before .before .before .before .before .before .before .before .before .before .before .before .before .before .before .before .before .pre .1) (c .before .before .before .before .before .before .before .before .before .before .before .before .before .before .before .before .before .read-cell .ensures) (c .before .before .before .before .before .before .before .before .before .before .before .before .before .before .before .bind .ensures) (c .before .before .before .before .before .before .before .before .before .before .before .check .ensures) (c .before .before .before .before .before .before .before .body .given .1) (c .before .before .before .before .read-cell2 .ensures)
-    (written _ (omega (arith, lam-writes (c .before .before .before .before .before .before .before .before .before .before .before .before .before .before .before .before .before .before .before .before .pre .1) (c .before .before .before .before .before .before .before .before .before .before .before .before .before .before .before .before .before .read-cell .ensures) (c .before .before .before .before .before .before .before .before .before .before .before .before .before .before .before .bind .ensures) (c .before .before .before .before .before .before .before .before .before .before .before .check .ensures) (c .before .before .before .before .before .before .before .body .given .1) (c .before .before .before .before .read-cell2 .ensures))) (c .before .before .write-cell .ensures))
+    lam-found (c .before .before .before .before .before .before .before .before .before .before .before .before .before .before .before .before .before .before .before .before .pre .1) (c .before .before .before .before .before .before .before .before .before .before .before .before .before .before .before .before .before .read-cell .ensures) (c .before .before .before .before .before .before .before .before .before .before .before .before .before .before .before .bind .ensures) (c .before .before .before .before .before .before .before .before .before .before .before .check .ensures) (c .before .before .before .before .before .before .before .body .given .1) (c .before .before .before .before .read-cell2 .ensures) (c .before .before .add .ensures)
 
 find-merge-read-cell-requires : (t : ℕ) → find-merge-lts.Need-read-cell-requires (find-merge-calls t) (find-merge-at t) find-merge.Post
-find-merge-read-cell-requires t c κs =
-    omega (arith, c .before .before .pre .1 .ready)
+find-merge-read-cell-requires t c κs = omega (arith, c .before .before .pre .1 .ready)
 
 find-merge-find-requires : (t : ℕ) → find-merge-lts.Need-find-requires (find-merge-calls t) (find-merge-at t) find-merge.Post
 find-merge-find-requires t c κs =
@@ -519,16 +457,13 @@ find-merge-find-requires t c κs =
     (omega (arith, v .0, c .before .before .before .before .pre .0), v .1)
 
 find-merge-enum-known-left : (t : ℕ) → find-merge-lts.Need-enum-known-left (find-merge-calls t) (find-merge-at t) find-merge.Post
-find-merge-enum-known-left t c =
-    search needs
+find-merge-enum-known-left t c = search needs
 
 find-merge-enum-told : (t : ℕ) → find-merge-lts.Need-enum-told (find-merge-calls t) (find-merge-at t) find-merge.Post
-find-merge-enum-told t c =
-    search needs
+find-merge-enum-told t c = search needs
 
 find-merge-same-length : (t : ℕ) → find-merge-lts.Need-same-length (find-merge-calls t) (find-merge-at t) find-merge.Post
-find-merge-same-length t c =
-    c .before .before .before .before .find .kept .0
+find-merge-same-length t c = c .before .before .before .before .find .kept .0
 
 find-merge-returns : (t : ℕ) → find-merge-lts.Need-returns (find-merge-calls t) (find-merge-at t) find-merge.Post
 find-merge-returns t c =
@@ -536,16 +471,14 @@ find-merge-returns t c =
 
 find-merge-find-requires-2 : (t : ℕ) → find-merge-lts.Need-find-requires-2 (find-merge-calls t) (find-merge-at t) find-merge.Post
 find-merge-find-requires-2 t c κs =
-    let v = merge-right (c .before .before .before .before .before .before .before .before .before .before .before .pre .1) (c .before .before .before .before .before .before .before .before .read-cell .ensures) (c .before .before .before .before .before .before .find .ensures) (c .before .before .left .given .1) in
+    let v = right-asks merge-sides (c .before .before .before .before .before .before .before .before .before .before .before .pre .1) (c .before .before .before .before .before .before .before .before .read-cell .ensures) (c .before .before .before .before .before .before .find .ensures) (c .before .before .left .given .1) in
     (omega (arith, v .0, c .before .before .before .before .before .before .before .before .before .before .before .pre .0), v .1)
 
 find-merge-enum-known-right : (t : ℕ) → find-merge-lts.Need-enum-known-right (find-merge-calls t) (find-merge-at t) find-merge.Post
-find-merge-enum-known-right t c =
-    search needs
+find-merge-enum-known-right t c = search needs
 
 find-merge-enum-told-2 : (t : ℕ) → find-merge-lts.Need-enum-told-2 (find-merge-calls t) (find-merge-at t) find-merge.Post
-find-merge-enum-told-2 t c =
-    search needs
+find-merge-enum-told-2 t c = search needs
 
 find-merge-same-length-2 : (t : ℕ) → find-merge-lts.Need-same-length-2 (find-merge-calls t) (find-merge-at t) find-merge.Post
 find-merge-same-length-2 t c =
@@ -580,8 +513,7 @@ find-merge-returns-4 t c =
     merge-conflict (c .before .before .before .before .before .before .before .before .before .before .before .before .before .before .before .before .before .before .before .before .pre .1) (c .before .before .before .before .before .before .before .before .before .before .before .before .before .before .before .before .before .read-cell .ensures) (c .before .before .before .before .before .before .before .before .before .before .before .before .before .before .before .find .ensures) (c .before .before .before .before .before .before .before .before .before .before .before .left .given .1) (c .before .before .before .before .before .before .before .before .find2 .ensures) (c .before .before .before .before .right .given .1) (c .before .mergeable .ensures) (c .if1 .left)
 
 find-proj-read-cell-requires : (t : ℕ) → find-proj-lts.Need-read-cell-requires (find-proj-calls t) (find-proj-at t) find-proj.Post
-find-proj-read-cell-requires t c κs =
-    omega (arith, c .before .before .pre .1 .ready)
+find-proj-read-cell-requires t c κs = omega (arith, c .before .before .pre .1 .ready)
 
 find-proj-find-requires : (t : ℕ) → find-proj-lts.Need-find-requires (find-proj-calls t) (find-proj-at t) find-proj.Post
 find-proj-find-requires t c κs =
@@ -589,16 +521,13 @@ find-proj-find-requires t c κs =
     (omega (arith, v .0, c .before .before .before .before .pre .0), v .1)
 
 find-proj-enum-known-inside : (t : ℕ) → find-proj-lts.Need-enum-known-inside (find-proj-calls t) (find-proj-at t) find-proj.Post
-find-proj-enum-known-inside t c =
-    search needs
+find-proj-enum-known-inside t c = search needs
 
 find-proj-enum-told : (t : ℕ) → find-proj-lts.Need-enum-told (find-proj-calls t) (find-proj-at t) find-proj.Post
-find-proj-enum-told t c =
-    search needs
+find-proj-enum-told t c = search needs
 
 find-proj-same-length : (t : ℕ) → find-proj-lts.Need-same-length (find-proj-calls t) (find-proj-at t) find-proj.Post
-find-proj-same-length t c =
-    c .before .before .before .before .find .kept .0
+find-proj-same-length t c = c .before .before .before .before .find .kept .0
 
 find-proj-returns : (t : ℕ) → find-proj-lts.Need-returns (find-proj-calls t) (find-proj-at t) find-proj.Post
 find-proj-returns t c =
@@ -609,8 +538,7 @@ find-proj-read-cell-requires-2 t c κs =
     left-within proj-begins (c .before .before .before .before .before .before .before .before .before .before .before .pre .1) (c .before .before .before .before .before .before .before .before .read-cell .ensures) (c .before .before .before .before .before .before .find .ensures) (c .before .before .inside .given .1)
 
 find-proj-same-length-2 : (t : ℕ) → find-proj-lts.Need-same-length-2 (find-proj-calls t) (find-proj-at t) find-proj.Post
-find-proj-same-length-2 t c =
-    c .before .before .before .before .before .before .before .before .before .find .kept .0
+find-proj-same-length-2 t c = c .before .before .before .before .before .before .before .before .before .find .kept .0
 
 find-proj-returns-2 : (t : ℕ) → find-proj-lts.Need-returns-2 (find-proj-calls t) (find-proj-at t) find-proj.Post
 find-proj-returns-2 t c =
@@ -641,8 +569,7 @@ find-proj-returns-5 t c =
     proj-else (c .before .before .before .before .before .before .before .before .before .before .before .before .before .before .before .before .pre .1) (c .before .before .before .before .before .before .before .before .before .before .before .before .before .read-cell .ensures) (c .before .before .before .before .before .before .before .before .before .before .before .find .ensures) (c .before .before .before .before .before .before .before .inside .given .1) (c .before .before .before .before .read-cell2 .ensures) (c .before .before .if1 .left) (c .if2 .left)
 
 find-rcd-read-cell-requires : (t : ℕ) → find-rcd-lts.Need-read-cell-requires (find-rcd-calls t) (find-rcd-at t) find-rcd.Post
-find-rcd-read-cell-requires t c κs =
-    omega (arith, c .before .before .pre .1 .ready)
+find-rcd-read-cell-requires t c κs = omega (arith, c .before .before .pre .1 .ready)
 
 find-rcd-find-requires : (t : ℕ) → find-rcd-lts.Need-find-requires (find-rcd-calls t) (find-rcd-at t) find-rcd.Post
 find-rcd-find-requires t c κs =
@@ -650,16 +577,13 @@ find-rcd-find-requires t c κs =
     (omega (arith, v .0, c .before .before .before .before .pre .0), v .1)
 
 find-rcd-enum-known-inside : (t : ℕ) → find-rcd-lts.Need-enum-known-inside (find-rcd-calls t) (find-rcd-at t) find-rcd.Post
-find-rcd-enum-known-inside t c =
-    search needs
+find-rcd-enum-known-inside t c = search needs
 
 find-rcd-enum-told : (t : ℕ) → find-rcd-lts.Need-enum-told (find-rcd-calls t) (find-rcd-at t) find-rcd.Post
-find-rcd-enum-told t c =
-    search needs
+find-rcd-enum-told t c = search needs
 
 find-rcd-same-length : (t : ℕ) → find-rcd-lts.Need-same-length (find-rcd-calls t) (find-rcd-at t) find-rcd.Post
-find-rcd-same-length t c =
-    c .before .before .before .before .find .kept .0
+find-rcd-same-length t c = c .before .before .before .before .find .kept .0
 
 find-rcd-returns : (t : ℕ) → find-rcd-lts.Need-returns (find-rcd-calls t) (find-rcd-at t) find-rcd.Post
 find-rcd-returns t c =
@@ -669,22 +593,17 @@ find-rcd-read-cell-requires-2 : (t : ℕ) → find-rcd-lts.Need-read-cell-requir
 find-rcd-read-cell-requires-2 t c κs =
     left-within rcd-begins (c .before .before .before .before .before .before .before .before .before .before .before .pre .1) (c .before .before .before .before .before .before .before .before .read-cell .ensures) (c .before .before .before .before .before .before .find .ensures) (c .before .before .inside .given .1)
 
-find-rcd-write-cell-requires : (t : ℕ) → find-rcd-lts.Need-write-cell-requires (find-rcd-calls t) (find-rcd-at t) find-rcd.Post
-find-rcd-write-cell-requires t c κs =
-    omega (arith, rcd-writes (c .before .before .before .before .before .before .before .before .before .before .before .before .before .pre .1) (c .before .before .before .before .before .before .before .before .before .before .read-cell .ensures) (c .before .before .before .before .before .before .before .before .find .ensures) (c .before .before .before .before .inside .given .1) (c .before .read-cell2 .ensures))
-
-find-rcd-add-t20 : (t : ℕ) → find-rcd-lts.Need-add-t20 (find-rcd-calls t) (find-rcd-at t) find-rcd.Post
-find-rcd-add-t20 t c =
-    omega (arith, rcd-writes (c .before .before .before .before .before .before .before .before .before .before .before .before .before .before .before .before .pre .1) (c .before .before .before .before .before .before .before .before .before .before .before .before .before .read-cell .ensures) (c .before .before .before .before .before .before .before .before .before .before .before .find .ensures) (c .before .before .before .before .before .before .before .inside .given .1) (c .before .before .before .before .read-cell2 .ensures))
+find-rcd-add-requires : (t : ℕ) → find-rcd-lts.Need-add-requires (find-rcd-calls t) (find-rcd-at t) find-rcd.Post
+find-rcd-add-requires t c κs =
+    rcd-room (c .before .before .before .before .before .before .before .before .before .before .before .before .before .pre .1) (c .before .before .before .before .before .before .before .before .before .before .read-cell .ensures) (c .before .before .before .before .before .before .before .before .find .ensures) (c .before .before .before .before .inside .given .1) (c .before .read-cell2 .ensures)
 
 find-rcd-same-length-2 : (t : ℕ) → find-rcd-lts.Need-same-length-2 (find-rcd-calls t) (find-rcd-at t) find-rcd.Post
 find-rcd-same-length-2 t c =
-    c .before .before .write-cell .kept .0 ∙ c .before .before .before .before .before .before .before .before .before .before .before .find .kept .0
+    c .before .before .add .kept .0 ∙ c .before .before .before .before .before .before .before .before .before .before .before .find .kept .0
 
 find-rcd-returns-2 : (t : ℕ) → find-rcd-lts.Need-returns-2 (find-rcd-calls t) (find-rcd-at t) find-rcd.Post
 find-rcd-returns-2 t c =
-    rcd-found (c .before .before .before .before .before .before .before .before .before .before .before .before .before .before .before .before .pre .1) (c .before .before .before .before .before .before .before .before .before .before .before .before .before .read-cell .ensures) (c .before .before .before .before .before .before .before .before .before .before .before .find .ensures) (c .before .before .before .before .before .before .before .inside .given .1) (c .before .before .before .before .read-cell2 .ensures)
-    (written _ (omega (arith, rcd-writes (c .before .before .before .before .before .before .before .before .before .before .before .before .before .before .before .before .pre .1) (c .before .before .before .before .before .before .before .before .before .before .before .before .before .read-cell .ensures) (c .before .before .before .before .before .before .before .before .before .before .before .find .ensures) (c .before .before .before .before .before .before .before .inside .given .1) (c .before .before .before .before .read-cell2 .ensures))) (c .before .before .write-cell .ensures))
+    rcd-found (c .before .before .before .before .before .before .before .before .before .before .before .before .before .before .before .before .pre .1) (c .before .before .before .before .before .before .before .before .before .before .before .before .before .read-cell .ensures) (c .before .before .before .before .before .before .before .before .before .before .before .find .ensures) (c .before .before .before .before .before .before .before .inside .given .1) (c .before .before .before .before .read-cell2 .ensures) (c .before .before .add .ensures)
 
 pub +check+find+find-anno+find-app+find-fix+find-lam+find-merge+find-proj+find-rcd-spec :
     {M : Type 1} → statement M
@@ -781,7 +700,6 @@ pub +check+find+find-anno+find-app+find-fix+find-lam+find-merge+find-proj+find-r
     find-fix.Post
     (find-fix-read-cell-requires t)
     (find-fix-bind-requires t)
-    (find-fix-add-check t)
     (find-fix-check-requires t)
     (find-fix-same-length t)
     (find-fix-returns t))
@@ -790,15 +708,13 @@ pub +check+find+find-anno+find-app+find-fix+find-lam+find-merge+find-proj+find-r
     find-lam.Post
     (find-lam-read-cell-requires t)
     (find-lam-bind-requires t)
-    (find-lam-add-check t)
     (find-lam-check-requires t)
     (find-lam-enum-known-body t)
     (find-lam-enum-told t)
     (find-lam-same-length t)
     (find-lam-returns t)
     (find-lam-read-cell-requires-2 t)
-    (find-lam-write-cell-requires t)
-    (find-lam-add-t16 t)
+    (find-lam-add-requires t)
     (find-lam-same-length-2 t)
     (find-lam-returns-2 t))
     (λ t. find-merge-lts.spec (find-merge-calls t)
@@ -849,7 +765,6 @@ pub +check+find+find-anno+find-app+find-fix+find-lam+find-merge+find-proj+find-r
     (find-rcd-same-length t)
     (find-rcd-returns t)
     (find-rcd-read-cell-requires-2 t)
-    (find-rcd-write-cell-requires t)
-    (find-rcd-add-t20 t)
+    (find-rcd-add-requires t)
     (find-rcd-same-length-2 t)
     (find-rcd-returns-2 t)

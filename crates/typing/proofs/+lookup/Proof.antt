@@ -24,20 +24,16 @@ abbrev lookup-calls : ℕ → lookup-lts.Claims
 lookup-calls t = (read-cell-reads.Asked, read-cell-reads.Learnt, lookup-below t, lookup.Post)
 
 lookup-returns : (t : ℕ) → lookup-lts.Need-returns (lookup-calls t) (lookup-at t) lookup.Post
-lookup-returns t c =
-    looks-free (c .if1 .taken)
+lookup-returns t c = looks-free (c .if1 .taken)
 
 lookup-read-cell-requires : (t : ℕ) → lookup-lts.Need-read-cell-requires (lookup-calls t) (lookup-at t) lookup.Post
-lookup-read-cell-requires t c κs =
-    context-within (c .before .before .pre .1 .holds) (c .if1 .left)
+lookup-read-cell-requires t c κs = context-within (c .before .before .pre .1 .holds) (c .if1 .left)
 
 lookup-returns-2 : (t : ℕ) → lookup-lts.Need-returns-2 (lookup-calls t) (lookup-at t) lookup.Post
-lookup-returns-2 t c =
-    looks-here (c .before .read-cell .ensures) (c .before .before .if1 .left) (c .if2 .taken)
+lookup-returns-2 t c = looks-here (c .before .read-cell .ensures) (c .before .before .if1 .left) (c .if2 .taken)
 
 lookup-sub-lookup : (t : ℕ) → lookup-lts.Need-sub-lookup (lookup-calls t) (lookup-at t) lookup.Post
-lookup-sub-lookup t c =
-    omega arith
+lookup-sub-lookup t c = omega arith
 
 lookup-lookup-requires : (t : ℕ) → lookup-lts.Need-lookup-requires (lookup-calls t) (lookup-at t) lookup.Post
 lookup-lookup-requires t c κs =

@@ -1,26 +1,19 @@
--- `find_lit` meets its contract: a cell of Int is written. Assumes nothing.
+-- `find_lit` meets its contract: a cell of Int is added. Assumes nothing.
+use native.Mathlib.Omega.{arith}
 use Rattle.typing.proofs.Parts.{room-one}
 use Rattle.typing.proofs.Leaves.{lit-found}
-use Rattle.cells.proofs.Held.{written}
-use native.Mathlib.Omega.{arith}
 use borrow.Author.Needs.{needs}
 use Rattle.typing.proofs.find_lit.Statement.{statement}
 use Rattle.typing.proofs.find_lit.Tie as tie
 
-write-cell-requires : tie.Need-write-cell-requires
-write-cell-requires c κs =
-    omega (arith, room-one (c .before .before .pre .ready))
-
-add-t9 : tie.Need-add-t9
-add-t9 c = search needs
+add-requires : tie.Need-add-requires
+add-requires c κs = omega (arith, room-one (c .before .before .pre .ready))
 
 same-length : tie.Need-same-length
 same-length c = search needs
 
 returns : tie.Need-returns
-returns c =
-    let p = c .before .before .before .before .before .pre in
-    lit-found p (written _ (omega (arith, p .ready .long, room-one (p .ready))) (c .before .before .write-cell .ensures))
+returns c = lit-found (c .before .before .before .before .before .pre) (c .before .before .add .ensures)
 
 pub find-lit-spec : {M : Type 1} → statement M
-find-lit-spec = tie.close (tie.spec write-cell-requires add-t9 same-length returns)
+find-lit-spec = tie.close (tie.spec add-requires same-length returns)

@@ -1,0 +1,27 @@
+-- `exports::cerealbank_check` meets its contract. Assumes nothing.
+use mathlib.Core.Path.{_∙_, ap}
+use Rattle.exports.specs.Packed.{packed}
+use borrow.Author.Needs.{needs}
+use Rattle.exports.proofs.cerealbank_check.Statement.{statement}
+use Rattle.exports.proofs.cerealbank_check.Tie as tie
+
+-- src/lib.rt:40:10
+check-requires : tie.Need-check-requires
+check-requires c κs = search needs
+
+-- src/lib.rt:40:5
+pack-requires : tie.Need-pack-requires
+pack-requires c κs = search needs
+
+-- src/lib.rt:36:1
+same-length : tie.Need-same-length
+same-length c = search needs
+
+-- src/lib.rt:36:1
+returns : tie.Need-returns
+returns c =
+    let k = c .before .before .before .check .ensures in
+    record { answer = c .pack .ensures ∙ ap packed (k .answer); left = k .left }
+
+pub cerealbank-check-spec : {M : Type 1} → statement M
+cerealbank-check-spec = tie.close (tie.spec check-requires pack-requires same-length returns)

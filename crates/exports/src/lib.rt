@@ -1,0 +1,41 @@
+// The engine for C and Rust: numbers and byte slices only. A slice is a pointer and then a length.
+use engine::check;
+use outcome::{Outcome, Refusal, Stop};
+use report::{cell, row};
+ghost use mathlib.Core.Path.{_≡_};
+ghost use Rattle.outcome.specs.Numbers.{answerOf, refusalAnswer, stopAnswer};
+ghost use Rattle.exports.specs.Packed.{packed, ChecksPacked};
+
+fn pack_refusal(r: Refusal) -> u64
+    ensures { λ n. ⌜ n ≡ packed (refusalAnswer r) ⌝ }
+{
+    (row(r) as u64) * 4294967296 + (cell(r) as u64) % 4294967296
+}
+
+fn pack_stop(s: Stop) -> u64
+    ensures { λ n. ⌜ n ≡ packed (stopAnswer s) ⌝ }
+{
+    match s {
+        Stop::Value(n) => 17 * 4294967296 + (n as u64) % 4294967296,
+        Stop::Spent(n) => 18 * 4294967296 + (n as u64) % 4294967296,
+        Stop::Room(n) => 19 * 4294967296 + (n as u64) % 4294967296,
+    }
+}
+
+// The upper half: 1 to 15 a refusal of that row, 16 accepted, 17 value, 18 spent, 19 room. The lower half: the cell, the size, the steps.
+fn pack(o: Outcome) -> u64
+    ensures { λ n. ⌜ n ≡ packed (answerOf o) ⌝ }
+{
+    match o {
+        Outcome::Refused(r) => pack_refusal(r),
+        Outcome::Accepted(n) => 16 * 4294967296 + (n as u64) % 4294967296,
+        Outcome::Stopped(s) => pack_stop(s),
+    }
+}
+
+#[no_mangle]
+pub extern "C" fn cerealbank_check(book: &[u8], work: &mut [u8]) -> u64
+    ensures { λ r. ⌜ ChecksPacked (now (book .entry)) (now (work .entry)) (now (work .exit)) r ⌝ }
+{
+    pack(check(book, work))
+}
