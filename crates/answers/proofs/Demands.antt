@@ -136,7 +136,7 @@ pub root-ran : (b : List ℕ) (l : ℕ) {A : Ty} → IsBytes b → WellFormed b 
 root-ran b l bytes f t =
     subst (λ (n : ℕ). Ran (opened b) n (evaluate sizeLimit l 0 (opened b))) (zero-add l) (ran t l 0 (opened b) r-zero (first-small b bytes f))
 
-definition-runs : (b w : List ℕ) (l : ℕ) → IsBytes b → IsWork w → Accepts definition b → Runs (opened b) l (run b w l)
+pub definition-runs : (b w : List ℕ) (l : ℕ) → IsBytes b → IsWork w → Accepts definition b → Runs (opened b) l (run b w l)
 unfolding run told
 definition-runs b w l bytes k a =
     let t = accepts-typed b a (judged b) in

@@ -39,11 +39,11 @@ pub evaluate-spent : (l n : ℕ) (e : Term) → value? e ≡ false → evaluate 
 unfolding evaluate firstStop
 evaluate-spent l n e h = rw (h, evaluate, firstStop)
 
-evaluate-room : (l m n : ℕ) (e f : Term) → value? e ≡ false → next e ≡ some f → ltb l (size f) ≡ true → evaluate l (suc m) n e ≡ ended room n e
+pub evaluate-room : (l m n : ℕ) (e f : Term) → value? e ≡ false → next e ≡ some f → ltb l (size f) ≡ true → evaluate l (suc m) n e ≡ ended room n e
 unfolding evaluate firstStop full?
 evaluate-room l m n e f h k g = rw (h, k, g, evaluate, firstStop, full?)
 
-evaluate-step : (l m n : ℕ) (e f : Term) → value? e ≡ false → next e ≡ some f → ltb l (size f) ≡ false → evaluate l (suc m) n e ≡ evaluate l m (suc n) f
+pub evaluate-step : (l m n : ℕ) (e f : Term) → value? e ≡ false → next e ≡ some f → ltb l (size f) ≡ false → evaluate l (suc m) n e ≡ evaluate l m (suc n) f
 unfolding evaluate firstStop full?
 evaluate-step l m n e f h k g = rw (h, k, g, evaluate, firstStop, full?) (rw k)
 

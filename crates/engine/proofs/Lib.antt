@@ -1,3 +1,4 @@
 pub mod Parts
 pub mod Typing
 pub mod Checked
+pub mod Ran

@@ -20,14 +20,13 @@ use Rattle.format.specs.Tree.{Tree, treeAt}
 use Rattle.format.specs.Terms.{toTerm, fromType}
 use Rattle.format.proofs.Trees.{type-cells}
 use Rattle.format.specs.Book.{count, hasSort, WellFormed, rootOf, follow, opened, typeBook, book, sizeLimit}
-use Rattle.format.proofs.Tests.{opened-small}
+use Rattle.format.proofs.Tests.{opened-small, opened-fits}
 use Rattle.format.proofs.RoundTrip.{book-length}
 use Rattle.answers.specs.Answer.{refused, accepted, ill-typed}
 use Rattle.answers.specs.Definition.{afterTyping, turnedBack, shown}
 use Rattle.answers.specs.Engine.{workLength, zeros, laid}
 use Rattle.outcome.specs.Numbers.{refusalAnswer}
 use Rattle.outcome.specs.declared.Refusal.{Refusal}
-use Rattle.outcome.specs.declared.Outcome.the-variants as Outcome
 use Rattle.outcome.specs.declared.Outcome.the-variants.{Accepted}
 use Rattle.cells.specs.Held.{HoldsType, HoldsTerm, h-empty}
 use Rattle.loading.specs.Loaded.{Loaded}
@@ -35,7 +34,11 @@ use Rattle.layout.specs.Lays.{RoomForBook, LaysBook}
 use Rattle.typing.specs.Finding.{Ready, Finds, Answered}
 use Rattle.typing.specs.declared.Found.{Found}
 use Rattle.typing.specs.declared.Found.the-variants.{Typed, Refused}
+use Rattle.outcome.specs.declared.Outcome.{Outcome}
+use Rattle.outcome.specs.declared.Outcome.the-variants as Out
+use Rattle.cells.proofs.Held.{same-term}
 use Rattle.engine.specs.Check.{Formed, Types}
+use Rattle.engine.specs.Run.{RootAt, RunsRoot, RunsTyped}
 use Rattle.engine.proofs.Parts.{cell-part, tree-part}
 
 -- a way from i on through cell y
@@ -101,6 +104,14 @@ module _ (b s : List ℕ) (bytes : IsBytes b) (f : WellFormed b) (l : Loaded (ta
             (A, q, subst (λ (j : ℕ). HoldsType t j A) z (a .7))
         go (Infer.refused w p) q a = let z : _≡_ {A = ℕ} 0 1 = cc in absurd (omega arith)
 
+    -- the book's cells are as they were
+    root-kept : {c k : ℕ} → r ≡ Typed c k → HoldsTerm t (rootOf b) (opened b)
+    root-kept {c} {k} e = go (infer [] (opened b)) answered
+      where
+        go : (x : Infer.Found) → Answered s t (count b) (size (opened b)) (rootOf b) r x → HoldsTerm t (rootOf b) (opened b)
+        go (Infer.found A) a = same-term (a .5) (f .formed .rooted) root-held
+        go (Infer.refused w p) a = let z : _≡_ {A = ℕ} 0 1 = cc in absurd (omega arith)
+
     refused-case : {q : Refusal} → r ≡ Refused q → (w : Infer.Reason) × (p : List ℕ) × (infer [] (opened b) ≡ Infer.refused w p)
         × (refusalAnswer q ≡ refused (ill-typed w) (follow b (rootOf b) p))
     refused-case {q} e = go (infer [] (opened b)) refl answered
@@ -153,7 +164,7 @@ found-types {A = A} h e k z q =
     }
 
 refused-types : {b v p : List ℕ} {w : Infer.Reason} {q : Refusal} → infer [] (opened b) ≡ Infer.refused w p →
-    refusalAnswer q ≡ refused (ill-typed w) (follow b (rootOf b) p) → v ≡ zeros workLength → Types b v (Outcome.Refused q)
+    refusalAnswer q ≡ refused (ill-typed w) (follow b (rootOf b) p) → v ≡ zeros workLength → Types b v (Out.Refused q)
 unfolding afterTyping turnedBack
 refused-types e a z = record { answer = rw e a; left = rw e z }
 
@@ -175,7 +186,32 @@ module _ {b w s t : List ℕ} {i : ℕ} {r : Found} (p : Formed b w i) (bytes : 
       found-types (omega (arith, typed-size (infer-says [] (opened b) (a .0) .0 (a .1)), opened-small b bytes (p .form))) (a .1)
       (y .size (a .0) (a .2)) (p .cleared) (y .lays (a .0) (a .2))
 
-  pub types-refused : {q : Refusal} → r ≡ Refused q → Types b w (Outcome.Refused q)
+  pub types-refused : {q : Refusal} → r ≡ Refused q → Types b w (Out.Refused q)
   types-refused e =
       let a = refused-case b s bytes (p .form) l at-root e in
       refused-types (a .2) (a .3) (p .cleared)
+
+  -- the same for a run: the root is still held, and what its run answers is the book's
+  pub root-of : {c k : ℕ} → r ≡ Typed c k → RootAt t w i (opened b)
+  root-of e =
+      let a = found-of e in
+      record {
+        long = ap length (p .cleared) ∙ length-zeros workLength;
+        holds = subst⁻¹ (λ (j : ℕ). HoldsTerm t j (opened b)) (p .root) (root-kept b s bytes (p .form) l at-root e);
+        small = opened-small b bytes (p .form);
+        fits = opened-fits b bytes (p .form);
+        type = a .0;
+        typed = infer-says [] (opened b) (a .0) .0 (a .1);
+      }
+
+  pub runs-found : {v : List ℕ} {c k m : ℕ} {o : Outcome} → r ≡ Typed c k → RunsRoot t w v i m o → RunsTyped b v m o
+  unfolding afterTyping
+  runs-found e y =
+      let a = found-of e in
+      record { answer = rw (a .1) (y .answer (opened b) (root-of e)); left = rw (a .1) (y .left (opened b) (root-of e)) }
+
+  pub runs-refused : {q : Refusal} {m : ℕ} → r ≡ Refused q → RunsTyped b w m (Out.Refused q)
+  unfolding afterTyping turnedBack
+  runs-refused e =
+      let a = refused-case b s bytes (p .form) l at-root e in
+      record { answer = rw (a .2) (a .3); left = rw (a .2) (p .cleared) }

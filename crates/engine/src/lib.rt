@@ -1,14 +1,19 @@
 // The public calls. For every book, every work buffer and every step limit the answer and each byte left in the work buffer are fixed.
 use book::Form;
 use book::check_form;
+use emission::Laid;
+use emission::emit_field;
 use layout::clear;
 use layout::lay_type_book;
 use loading::load;
 use outcome::Outcome;
 use outcome::Refusal;
+use running::close;
+use running::run_on;
 use typing::Found;
 use typing::find;
 ghost use Rattle.engine.specs.Check.{Checked, Formed, Types};
+ghost use Rattle.engine.specs.Run.{Ran, SomeRoot, RunsRoot, RunsTyped};
 
 // A well-formed book: its cells are loaded into a buffer of their own, where typing adds cells; the type found is laid down.
 fn check_types(book: &[u8], work: &mut [u8], root: usize) -> Outcome
@@ -36,5 +41,49 @@ pub fn check(book: &[u8], work: &mut [u8]) -> Outcome
     match check_form(book) {
         Form::Malformed(refusal) => Outcome::Refused(refusal),
         Form::WellFormed(root) => check_types(book, work, root),
+    }
+}
+
+// The root, held in a buffer, is laid down in the work buffer and run there.
+fn run_root(s: &[u8], work: &mut [u8], root: usize, limit: u32) -> Outcome
+    requires { ⌜ SomeRoot (now s) (now work) root ⌝ }
+    ensures { λ r. ⌜ RunsRoot (now (s .entry)) (now (work .entry)) (now (work .exit)) root limit r ⌝ }
+{
+    let Laid::Next(n) = emit_field(s, work, 3, root, 0) else {
+        return Outcome::Refused(Refusal::Size(root));
+    };
+    let end = run_on(work, n, limit);
+    let stop = end.stop;
+    close(work, end.cells);
+    Outcome::Stopped(stop)
+}
+
+// A well-formed book: typed as the check types it, and run.
+fn run_types(book: &[u8], work: &mut [u8], root: usize, limit: u32) -> Outcome
+    requires { ⌜ Formed (now book) (now work) root ⌝ }
+    ensures { λ r. ⌜ RunsTyped (now (book .entry)) (now (work .exit)) limit r ⌝ }
+{
+    let n = book.len() / 8 - 1;
+    let cells = &book[..8 * n];
+    let mut buffer = [0u8; 65536];
+    load(cells, &mut buffer, n);
+    match find(&mut buffer, n, 0, root) {
+        Found::Refused(refusal) => Outcome::Refused(refusal),
+        Found::Typed(_, _) => run_root(&buffer, work, root, limit),
+    }
+}
+
+// Runs a book for at most limit steps: turned back as the check turns it back, or stopped at a value, for steps or for room, with the term
+// reached laid down from byte 0.
+pub fn run(book: &[u8], work: &mut [u8], limit: u32) -> Outcome
+    ensures { λ r. ⌜ Ran (now (book .entry)) (now (work .entry)) (now (work .exit)) limit r ⌝ }
+{
+    if work.len() != 65536 {
+        return Outcome::Refused(Refusal::Buffer);
+    }
+    clear(work);
+    match check_form(book) {
+        Form::Malformed(refusal) => Outcome::Refused(refusal),
+        Form::WellFormed(root) => run_types(book, work, root, limit),
     }
 }

@@ -3,7 +3,7 @@ use Prim.Native.Nat.{ℕ, _+_, _*_, _%_, _^_}
 use mathlib.Core.Path.{_≡_}
 use mathlib.Core.List.{List}
 use Rattle.answers.specs.Answer.{Answer, refused, accepted, stopped, number, Stop, value, spent, room}
-use Rattle.answers.specs.Definition.{check}
+use Rattle.answers.specs.Definition.{check, run}
 
 abbrev pack : ℕ → ℕ → ℕ
 pack tag n = tag * 4294967296 + n % 4294967296
@@ -23,3 +23,8 @@ packed (stopped s n) = pack (stopTag s) n
 pub record ChecksPacked (b w v : List ℕ) (r : ℕ) : Type 0 where
   pub answer : r ≡ packed (check b w .answer)
   pub left : v ≡ check b w .left
+
+-- What the exported run answers and leaves.
+pub record RunsPacked (b w v : List ℕ) (l r : ℕ) : Type 0 where
+  pub answer : r ≡ packed (run b w l .answer)
+  pub left : v ≡ run b w l .left

@@ -1,10 +1,14 @@
 // The engine for C and Rust: numbers and byte slices only. A slice is a pointer and then a length.
 use engine::check;
-use outcome::{Outcome, Refusal, Stop};
-use report::{cell, row};
+use engine::run;
+use outcome::Outcome;
+use outcome::Refusal;
+use outcome::Stop;
+use report::cell;
+use report::row;
 ghost use mathlib.Core.Path.{_≡_};
 ghost use Rattle.outcome.specs.Numbers.{answerOf, refusalAnswer, stopAnswer};
-ghost use Rattle.exports.specs.Packed.{packed, ChecksPacked};
+ghost use Rattle.exports.specs.Packed.{packed, ChecksPacked, RunsPacked};
 
 fn pack_refusal(r: Refusal) -> u64
     ensures { λ n. ⌜ n ≡ packed (refusalAnswer r) ⌝ }
@@ -38,4 +42,11 @@ pub extern "C" fn cerealbank_check(book: &[u8], work: &mut [u8]) -> u64
     ensures { λ r. ⌜ ChecksPacked (now (book .entry)) (now (work .entry)) (now (work .exit)) r ⌝ }
 {
     pack(check(book, work))
+}
+
+#[no_mangle]
+pub extern "C" fn cerealbank_run(book: &[u8], work: &mut [u8], limit: u32) -> u64
+    ensures { λ r. ⌜ RunsPacked (now (book .entry)) (now (work .entry)) (now (work .exit)) limit r ⌝ }
+{
+    pack(run(book, work, limit))
 }

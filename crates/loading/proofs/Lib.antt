@@ -1,2 +1,4 @@
+pub mod Rows
 pub mod Marking
+pub mod Valuing
 pub mod Loading

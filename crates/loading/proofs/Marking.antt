@@ -1,7 +1,7 @@
 -- The mark of a type from the marks of its parts. Assumes nothing.
-use Prim.Native.Nat.{ℕ, _+_, _*_, _≤_}
+use Prim.Native.Nat.{ℕ, _+_, _*_, _≤_, _<_}
 use native.Mathlib.Omega.{arith}
-use mathlib.Core.Path.{_≡_, refl, _∙_}
+use mathlib.Core.Path.{_≡_, refl, ap, _∙_}
 use mathlib.Core.Bool.{Bool, true, false, cond, _&&_}
 use mathlib.Core.List.{List, [], _∷_}
 use lib.ListN.{length, getD}
@@ -13,7 +13,7 @@ use Rattle.cells.proofs.Held.{type-within, type-mark}
 use Rattle.loading.specs.Loaded.{TypeCell, t-int, t-top, t-arrow, t-inter, t-field, Marks}
 
 -- both or none
-both-marked : (p q : Bool) → cond p 1 0 * cond q 1 0 ≡ cond (p && q) 1 0
+pub both-marked : (p q : Bool) → cond p 1 0 * cond q 1 0 ≡ cond (p && q) 1 0
 both-marked true true = refl
 both-marked true false = refl
 both-marked false true = refl
@@ -37,12 +37,12 @@ marked (t-field k p h) = rw (k, type-mark h)
 pub marks : {s : List ℕ} {t : Cell} {r : ℕ} (k : ℕ) → t .kind ≡ k → r ≡ markBy s t k → Marks s t r
 marks k f e = record { is = λ i A h. e ∙ (rw f at (marked h)) }
 
+pub one-or-none : (p : Bool) → cond p 1 0 ≤ 1
+one-or-none true = omega arith
+one-or-none false = omega arith
+
 pub small : (A : Ty) → mark A ≤ 1
-small A = go (topLike? A)
-  where
-    go : (p : Bool) → cond p 1 0 ≤ 1
-    go true = omega arith
-    go false = omega arith
+small A = one-or-none (topLike? A)
 
 -- the product of the marks of two halves is one
 pub product-small : {s : List ℕ} {i : ℕ} {t x y : Cell} {A : Ty} → TypeCell s i t A → t .kind ≡ 4

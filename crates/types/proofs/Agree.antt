@@ -1,6 +1,6 @@
 -- Consistency of two held terms, by the kinds of their cells: what it asks of the parts, and what it answers outright.
 -- Assumes nothing.
-use Prim.Native.Nat.{ℕ, _+_, _<_}
+use Prim.Native.Nat.{ℕ, _+_}
 use mathlib.Core.Path.{_≡_, refl, sym, ap, ap₂, _∙_}
 use mathlib.Core.Logic.{_↔_, _⊎_, inl, inr, ⊎-elim}
 use mathlib.Core.Bool.{Bool, true, false, not, _&&_, _||_, and-false}
@@ -157,11 +157,10 @@ pub plain-pair : {s : List ℕ} {i j : ℕ} {y : Cell} → y ≡ cellAt s j → 
 plain-pair at-j p k = record { first = p; plain = rw at-j at k }
 
 -- Two functions agree if body and input are the same, or the outputs are disjoint.
-pub record Agrees (s : List ℕ) (n : ℕ) (x y : Cell) (e f : Term) : Type 0 where
+pub record Agrees (s : List ℕ) (x y : Cell) (e f : Term) : Type 0 where
   pub bodies : TermsAt s (x .a) (y .a)
   pub inputs : TypesAt s (x .b) (y .b)
   pub outputs : TypesAt s (x .c) (y .c)
-  pub less : x .a + y .a < n
   pub is : consistent? e f
       ≡ ((sameTerm (bodies .first) (bodies .second) && sameType (inputs .first) (inputs .second)) || disjoint? (outputs .first) (outputs .second))
 
@@ -201,7 +200,7 @@ module _ {s : List ℕ} {i j : ℕ} {x y : Cell} {e f : Term} (t : Terms s i j x
         let e = ap (λ (u : Cell). u .kind) (t .is-first) in
         ⊎-elim (λ a. absurd (v (e ∙ a))) (⊎-elim (λ a. e ∙ a) (λ a. absurd (w (e ∙ a)))) u
 
-    pub functions : Plain (cellAt s i .kind) → (x .kind ≡ 17 → ⊥) → (x .kind ≡ 24 → ⊥) → Agrees s (i + j) x y e f
+    pub functions : Plain (cellAt s i .kind) → (x .kind ≡ 17 → ⊥) → (x .kind ≡ 24 → ⊥) → Agrees s x y e f
     functions u v w = rw (t .is-first, t .is-second)
         let m = function-kind u v w in
         let p = lam-at (t .holds-first) (kind-first t m) in
@@ -210,11 +209,10 @@ module _ {s : List ℕ} {i j : ℕ} {x y : Cell} {e f : Term} (t : Terms s i j x
           bodies = record { first = p .body; second = r .body; holds-first = p .holds-body; holds-second = r .holds-body };
           inputs = record { first = p .input; second = r .input; holds-first = p .holds-input; holds-second = r .holds-input };
           outputs = record { first = p .output; second = r .output; holds-first = p .holds-output; holds-second = r .holds-output };
-          less = omega arith;
           is = ap₂ consistent? (p .is) (r .is) ∙ two-functions (p .body) (p .input) (p .output) (r .body) (r .input) (r .output);
         }
 
-module _ {s : List ℕ} {i j n : ℕ} {x y : Cell} {p : Bool} (w : Whenever (HoldsTerm s) i j (Agrees s n x y)) (u : TypesSay s (x .b) (y .b) sameType p) where
+module _ {s : List ℕ} {i j : ℕ} {x y : Cell} {p : Bool} (w : Whenever (HoldsTerm s) i j (Agrees s x y)) (u : TypesSay s (x .b) (y .b) sameType p) where
   -- the same function
   pub agree-same : {q : Bool} → p ≡ true → TermsSay s (x .a) (y .a) sameTerm q → q ≡ true → TermsSay s i j consistent? true
   agree-same t v o = record {

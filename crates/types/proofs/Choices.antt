@@ -36,7 +36,7 @@ compares-terms = record { says = sameTerm-says }
 pub compares-labels : Compares eqb
 compares-labels = record { says = eqb-says }
 
--- a number within two of each other is one of the two
+-- a number from m to m + 1 is one of the two
 pub one-of-two : {n m : ℕ} → m ≤ n → n ≤ m + 1 → (n ≡ m) ⊎ (n ≡ m + 1)
 one-of-two {n} {m} p q = by-cases (ℕ-discrete n m) inl (λ d. inr (omega (arith, d)))
 

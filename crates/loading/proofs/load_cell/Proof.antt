@@ -1,8 +1,9 @@
 -- `loading::load_cell` meets its contract. Assumes nothing.
-use native.Mathlib.Omega.{arith}
+use mathlib.Core.Path.{refl}
+use mathlib.Core.Logic.{⊎-elim}
 use borrow.Author.Needs.{needs}
 use Rattle.cells.specs.Coded.{asCell}
-use Rattle.loading.proofs.Loading.{Read, markable, mark-fits, fields-fit, room, type-loaded, term-loaded}
+use Rattle.loading.proofs.Loading.{Read, NewThird, of-type, of-term, markable, valuable, fits, room, loaded}
 use Rattle.loading.proofs.load_cell.Statement.{statement}
 use Rattle.loading.proofs.load_cell.Tie as tie
 
@@ -19,6 +20,13 @@ read c =
       bytes = λ j. at .shared-slice-known .given j .fits;
     }
 
+-- its field c, once it is found
+third : (c : tie.Joined1) →
+    let at = c .before .before in
+    NewThird (at .before .before .before .before .args .s .now) (asCell (at .before .read-cell .result)) (at .entry-of .result) (c .if1 .c)
+third c =
+    ⊎-elim (λ w. of-type (w .0 .taken) (rw (w .3) (w .2 .ensures))) (λ w. of-term (w .0 .left) (rw (w .3) (w .2 .ensures))) (c .if1 .came)
+
 read-cell-requires : tie.Need-read-cell-requires
 read-cell-requires c κs = search needs
 
@@ -28,44 +36,20 @@ entry-of-requires c κs = search needs
 mark-of-requires : tie.Need-mark-of-requires
 mark-of-requires c κs = markable (read (c .before .before .before)) (c .before .if1 .taken)
 
-write-cell-requires : tie.Need-write-cell-requires
-write-cell-requires c κs =
-    let r = read (c .before .before .before .before .before) in
-    let f = fields-fit r in
-    (room r, record { a = omega arith; b = omega arith; c = mark-fits r (c .before .before .before .if1 .taken) (c .before .mark-of .ensures) })
+value-of-requires : tie.Need-value-of-requires
+value-of-requires c κs = valuable (read (c .before .before .before)) (c .before .if1 .left)
 
-write-cell-requires-2 : tie.Need-write-cell-requires-2
-write-cell-requires-2 c κs =
-    let r = read (c .before .before .before) in
-    let f = fields-fit r in
-    (room r, omega arith)
+write-cell-requires : tie.Need-write-cell-requires
+write-cell-requires c κs = let r = read (c .before .before .before) in (room r, fits r refl refl (third (c .before)))
 
 same-length : tie.Need-same-length
 same-length c = search needs
 
 returns : tie.Need-returns
 returns c =
-    let at = c .before .before .before .before .before .before in
-    type-loaded (read (at .before .before)) (at .if1 .taken) (c .before .before .before .before .mark-of .ensures) (c .before .before .write-cell .ensures)
-
-same-length-2 : tie.Need-same-length-2
-same-length-2 c = search needs
-
-returns-2 : tie.Need-returns-2
-returns-2 c =
-    let at = c .before .before .before .before in
-    term-loaded (read (at .before .before)) (at .if1 .left) (c .before .before .write-cell2 .ensures)
+    let at = c .before .before .before .before in loaded (read (at .before .before)) (third at) (c .before .before .write-cell .ensures)
 
 pub load-cell-spec : {M : Type 1} → statement M
 load-cell-spec =
     tie.close
-    (tie.spec
-    read-cell-requires
-    entry-of-requires
-    mark-of-requires
-    write-cell-requires
-    write-cell-requires-2
-    same-length
-    returns
-    same-length-2
-    returns-2)
+    (tie.spec read-cell-requires entry-of-requires mark-of-requires value-of-requires write-cell-requires same-length returns)

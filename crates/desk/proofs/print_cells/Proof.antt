@@ -1,0 +1,73 @@
+-- `desk::print_cells` is safe: the cells read lie in the buffer. Assumes nothing.
+use Prim.Native.Nat.{_≤_, _-_}
+use native.Mathlib.Omega.{arith}
+use borrow.Author.Needs.{needs}
+use Rattle.desk.proofs.print_cells.Statement.{statement}
+use Rattle.desk.proofs.print_cells.Tie as tie
+use Rattle.desk.proofs.print_cells.Reads as reads
+use Rattle.desk.proofs.print_cells.Lts as lts
+use Rattle.cells.proofs.read_cell.Reads as read-cell-reads
+use Rattle.desk.proofs.print_cell.Reads as print-cell-reads
+
+abbrev Inv-loop : tie.InvT-loop
+Inv-loop work i₀ i = i ≤ 4096
+
+abbrev μ-loop : tie.MeasureT-loop
+μ-loop work i₀ i = 4096 - i
+
+-- src/main.rt:65:5
+loop-holds : tie.Need-loop-holds Inv-loop μ-loop
+loop-holds c = omega arith
+
+-- src/main.rt:65:28
+mul-if1 : tie.Need-mul-if1 Inv-loop μ-loop
+mul-if1 c = omega arith
+
+-- src/main.rt:65:23
+shared-slice-read-if1 : tie.Need-shared-slice-read-if1 Inv-loop μ-loop
+shared-slice-read-if1 c = omega arith
+
+-- src/main.rt:66:23
+read-cell-requires : tie.Need-read-cell-requires Inv-loop μ-loop
+read-cell-requires c κs = omega arith
+
+-- src/main.rt:66:9
+print-cell-requires : tie.Need-print-cell-requires Inv-loop μ-loop
+print-cell-requires c κs = search needs
+
+-- src/main.rt:67:9
+add-i : tie.Need-add-i Inv-loop μ-loop
+add-i c = omega arith
+
+-- src/main.rt:65:5
+loop-less : tie.Need-loop-less Inv-loop μ-loop
+loop-less c = omega arith
+
+-- src/main.rt:65:5
+loop-again : tie.Need-loop-again Inv-loop μ-loop
+loop-again c = omega arith
+
+-- src/main.rt:61:1
+returns : tie.Need-returns Inv-loop μ-loop
+returns c = search needs
+
+-- src/main.rt:61:1
+returns-2 : tie.Need-returns-2 Inv-loop μ-loop
+returns-2 c = search needs
+
+pub print-cells-spec : {M : Type 1} → statement M
+print-cells-spec =
+    tie.close
+    (tie.spec
+    Inv-loop
+    μ-loop
+    loop-holds
+    mul-if1
+    shared-slice-read-if1
+    read-cell-requires
+    print-cell-requires
+    add-i
+    loop-less
+    loop-again
+    returns
+    returns-2)

@@ -1,0 +1,187 @@
+-- Trees emitted one after the other, and the cell behind them that refers to them, make one emitted tree. Over the uniform tree: no word
+-- of any kind. Assumes nothing.
+use Prim.Native.Nat.{ℕ, zero, suc, _+_, _*_, _-_, _≤_, _<_}
+use native.Mathlib.Nat.{add-zero, add-suc, suc-add}
+use native.Mathlib.Decide.{decLt}
+use native.Mathlib.Omega.{arith}
+use mathlib.Core.Path.{_≡_, refl, sym, ap, _∙_}
+use mathlib.Core.List.{List, [], _∷_, _++_}
+use lib.ListN.{length}
+use lib.Seq.{sets, length-sets}
+use Rattle.calculus.specs.Syntax.{Ty, int, top, arrow, inter, field}
+use Rattle.calculus.specs.Syntax.{Term, var, lit, unit, anno, app, lam, merge, fix, rcd, proj}
+use Rattle.format.specs.Table.{Sort, Use, unused, plain, refers}
+use Rattle.format.specs.Cell.{cellBytes}
+use Rattle.format.specs.Tree.{Tree, raw, node, cells, refer, lay}
+use Rattle.format.specs.Terms.{fromType, fromTerm}
+use Rattle.format.specs.Book.{sizeLimit}
+use Rattle.format.proofs.Laying.{length-lay}
+use Rattle.cells.specs.Coded.{useOf}
+use Rattle.emission.specs.Emits.{Space, Emits, Finishes, referBy, ReferReady}
+use Rattle.emission.specs.declared.Laid.{Laid}
+use Rattle.emission.specs.declared.Laid.the-variants.{Next, Full}
+
+-- a run of stores, and then another behind it
+pub sets-append : (x y l : List ℕ) (i : ℕ) → sets l i (x ++ y) ≡ sets (sets l i x) (i + length x) y
+sets-append [] y l i = rw add-zero
+sets-append (a ∷ x) y l i = rw (add-suc, ← suc-add) (sets-append x y (sets l i (a ∷ [])) (suc i))
+
+behind : (x y l : List ℕ) {k : List ℕ} (i : ℕ) {j : ℕ} → k ≡ sets l i x → j ≡ i + length x → sets k j y ≡ sets l i (x ++ y)
+behind x y l i e f = rw (e, f) (sym (sets-append x y l i))
+
+-- A tree that stands from cell m on; x is the next free cell.
+pub record Placed (d e : List ℕ) (m x : ℕ) (t : Tree) : Type 0 where
+  pub fits : x ≤ sizeLimit
+  pub next : x ≡ m + cells t
+  pub bytes : e ≡ sets d (8 * m) (lay m t)
+
+-- ---- what an answer says of the tree
+
+next-full : {r : Laid} {x : ℕ} → r ≡ Next x → r ≡ Full → ⊥
+next-full p q = let z : _≡_ {A = ℕ} 0 1 = cc in absurd (omega arith)
+
+pub placed : {d e : List ℕ} {m x : ℕ} {r : Laid} {t : Tree} → Emits d e m r t → r ≡ Next x → Placed d e m x t
+placed {m = m} {x} {r} {t} p q =
+    elim (decLt sizeLimit (m + cells t)) [
+      | yes h ↦ absurd (next-full q (p .full h))
+      | no h ↦
+          let f = p .fits (omega (arith, h)) in
+          let n : x ≡ m + cells t = cc (f .0, q) in
+          record { fits = omega (arith, h); next = n; bytes = f .1 }
+    ]
+
+pub no-room : {d e : List ℕ} {m : ℕ} {r : Laid} {t : Tree} → Emits d e m r t → r ≡ Full → sizeLimit < m + cells t
+no-room {m = m} {t = t} p q =
+    elim (decLt sizeLimit (m + cells t)) [ yes h ↦ h | no h ↦ absurd (next-full (p .fits (omega (arith, h)) .0) q) ]
+
+-- a field that refers to nothing takes no cell
+pub placed-raw : (d : List ℕ) (m v : ℕ) → m ≤ sizeLimit → Placed d d m m (raw v)
+unfolding cells lay
+placed-raw d m v h = record { fits = h; next = omega arith; bytes = refl }
+
+pub emits-placed : {d e : List ℕ} {m x : ℕ} {t : Tree} → Placed d e m x t → Emits d e m (Next x) t
+emits-placed p = record { fits = λ h. (ap Next (p .next), p .bytes); full = λ h. absurd (omega (arith, p .fits, p .next)) }
+
+pub emits-raw : (d : List ℕ) (m v : ℕ) → m ≤ sizeLimit → Emits d d m (Next m) (raw v)
+emits-raw d m v h = emits-placed (placed-raw d m v h)
+
+pub placed-length : {d e : List ℕ} {m x : ℕ} {t : Tree} → Placed d e m x t → length e ≡ length d
+placed-length {d} {m = m} {t = t} p = ap length (p .bytes) ∙ length-sets d (8 * m) (lay m t)
+
+pub placed-space : {d e : List ℕ} {m x : ℕ} {t : Tree} → Space d m → Placed d e m x t → Space e x
+placed-space s p = record { long = placed-length p ∙ s .long; used = p .fits }
+
+-- ---- what stands in a field for a tree
+
+pub refer-raw : (m x : ℕ) → x ≡ refer m (raw x)
+unfolding refer
+refer-raw m x = refl
+
+pub refer-last : {d e : List ℕ} {m x : ℕ} {t : Tree} → Placed d e m x t → 1 ≤ cells t → x - 1 ≡ refer m t
+unfolding cells refer
+refer-last {t = raw x} p h = absurd (omega arith)
+refer-last {t = node k l a b c} p h = omega (arith, p .next)
+
+pub type-positive : (A : Ty) → 1 ≤ cells (fromType A)
+unfolding cells fromType
+type-positive int = omega arith
+type-positive top = omega arith
+type-positive (arrow A B) = omega arith
+type-positive (inter A B) = omega arith
+type-positive (field l A) = omega arith
+
+pub term-positive : (e : Term) → 1 ≤ cells (fromTerm e)
+unfolding cells fromTerm
+term-positive (var n) = omega arith
+term-positive (lit z) = omega arith
+term-positive unit = omega arith
+term-positive (anno e A) = omega arith
+term-positive (app e f) = omega arith
+term-positive (lam e A B) = omega arith
+term-positive (merge e f) = omega arith
+term-positive (fix e A) = omega arith
+term-positive (rcd l e) = omega arith
+term-positive (proj l e) = omega arith
+
+-- the last cell of a tree that is referred to
+pub refer-refers : (u x n : ℕ) → 2 ≤ u → n - 1 ≡ referBy (useOf u) x n
+refer-refers zero x n h = absurd (omega arith)
+refer-refers (suc zero) x n h = absurd (omega arith)
+refer-refers (suc (suc zero)) x n h = refl
+refer-refers (suc (suc (suc u))) x n h = refl
+
+-- A tree that a field of this use and number can stand for.
+pub data Stands : Use → ℕ → Tree → Type 0 where
+  s-unused : {x : ℕ} → Stands unused x (raw 0)
+  s-plain : {x : ℕ} → Stands plain x (raw x)
+  s-refers : {o : Sort} {x : ℕ} {t : Tree} → 1 ≤ cells t → Stands (refers o) x t
+
+pub refer-stands : {d e : List ℕ} {m x y : ℕ} {u : Use} {t : Tree} → Stands u x t → Placed d e m y t → referBy u x y ≡ refer m t
+unfolding refer
+refer-stands s-unused p = refl
+refer-stands s-plain p = refl
+refer-stands (s-refers h) p = refer-last p h
+
+pub refer-ready : {d e : List ℕ} {m x y : ℕ} {t : Tree} (u : ℕ) → Stands (useOf u) x t → Placed d e m y t → ReferReady u y
+refer-ready zero h p = record { last = λ l. absurd (omega arith) }
+refer-ready (suc zero) h p = record { last = λ l. absurd (omega arith) }
+refer-ready (suc (suc zero)) (s-refers h) p = record { last = λ l. omega (arith, p .next) }
+refer-ready (suc (suc (suc u))) (s-refers h) p = record { last = λ l. omega (arith, p .next) }
+
+pub refer-fits : (u : Use) (x n : ℕ) → x < 65536 → n ≤ sizeLimit → referBy u x n < 65536
+refer-fits unused x n h g = omega arith
+refer-fits plain x n h g = h
+refer-fits (refers o) x n h g = omega arith
+
+-- ---- composition
+
+-- Three trees one after the other, and the cell that refers to them.
+pub emits-node : {d f g h e : List ℕ} {m x y z k l i j n : ℕ} {r : Laid} {a b c : Tree}
+    → Placed d f m x a → Placed f g x y b → Placed g h y z c → i ≡ refer m a → j ≡ refer x b → n ≡ refer y c
+    → Finishes h e z (record { kind = k; label = l; a = i; b = j; c = n }) r → Emits d e m r (node k l a b c)
+unfolding cells refer lay
+emits-node {d} {f} {g} {h} {e} {m} {x} {y} {z} {k} {l} {i} {j} {n} {r} {a} {b} {c} p q o u v w s =
+    record {
+      fits = λ t. let s′ = s .fits (omega (arith, p .next, q .next, o .next)) in
+          (s′ .0 ∙ ap Next (omega (arith, p .next, q .next, o .next)), bytes (s′ .1));
+      full = λ t. s .full (omega (arith, p .next, q .next, o .next));
+    }
+  where
+    last : List ℕ
+    last = cellBytes (record { kind = k; label = l; a = i; b = j; c = n })
+
+    bytes : e ≡ sets h (8 * z) last → e ≡ sets d (8 * m) (lay m (node k l a b c))
+    bytes t =
+        t
+        ∙ behind (lay y c) last g (8 * y) (o .bytes) (omega (arith, o .next, length-lay y c))
+        ∙ behind (lay x b) (lay y c ++ last) f (8 * x) (q .bytes) (omega (arith, q .next, length-lay x b))
+        ∙ behind (lay m a) (lay x b ++ (lay y c ++ last)) d (8 * m) (p .bytes) (omega (arith, p .next, length-lay m a))
+        ∙ rw (u, v, w, q .next, p .next)
+
+-- One of them does not fit, so the whole does not.
+pub full-first : {d e : List ℕ} {m k l : ℕ} {r : Laid} {a b c : Tree} → sizeLimit < m + cells a → r ≡ Full → Emits d e m r (node k l a b c)
+unfolding cells
+full-first h q = record { fits = λ t. absurd (omega arith); full = λ t. q }
+
+pub full-second : {d f e : List ℕ} {m x k l : ℕ} {r : Laid} {a b c : Tree} → Placed d f m x a → sizeLimit < x + cells b → r ≡ Full
+    → Emits d e m r (node k l a b c)
+unfolding cells
+full-second p h q = record { fits = λ t. absurd (omega (arith, p .next)); full = λ t. q }
+
+pub full-third : {d f g e : List ℕ} {m x y k l : ℕ} {r : Laid} {a b c : Tree} → Placed d f m x a → Placed f g x y b → sizeLimit < y + cells c
+    → r ≡ Full → Emits d e m r (node k l a b c)
+unfolding cells
+full-third p q h w = record { fits = λ t. absurd (omega (arith, p .next, q .next)); full = λ t. w }
+
+-- The same where some fields refer to nothing: two trees, one tree, none.
+pub emits-two : {d f g e : List ℕ} {m x y k l i j n : ℕ} {r : Laid} {a b : Tree} → Placed d f m x a → Placed f g x y b
+    → i ≡ refer m a → j ≡ refer x b → Finishes g e y (record { kind = k; label = l; a = i; b = j; c = n }) r → Emits d e m r (node k l a b (raw n))
+emits-two p q u v f = emits-node p q (placed-raw _ _ _ (q .fits)) u v (refer-raw _ _) f
+
+pub emits-one : {d f e : List ℕ} {m x k l i j n : ℕ} {r : Laid} {a : Tree} → Placed d f m x a → i ≡ refer m a
+    → Finishes f e x (record { kind = k; label = l; a = i; b = j; c = n }) r → Emits d e m r (node k l a (raw j) (raw n))
+emits-one p u f = emits-two p (placed-raw _ _ _ (p .fits)) u (refer-raw _ _) f
+
+pub emits-leaf : {d e : List ℕ} {m k l i j n : ℕ} {r : Laid} → m ≤ sizeLimit
+    → Finishes d e m (record { kind = k; label = l; a = i; b = j; c = n }) r → Emits d e m r (node k l (raw i) (raw j) (raw n))
+emits-leaf h f = emits-one (placed-raw _ _ _ h) (refer-raw _ _) f

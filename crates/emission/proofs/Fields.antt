@@ -1,0 +1,81 @@
+-- A held type and a held term are held fields; what a call of `emit_field` needs and says of them. Assumes nothing.
+use Prim.Native.Nat.{ℕ, suc, _+_, _*_, _/_, _%_, _<_}
+use native.Mathlib.Omega.{arith}
+use mathlib.Core.Path.{_≡_, refl}
+use mathlib.Core.List.{List}
+use lib.IntN.{ℤ}
+use Rattle.calculus.specs.Syntax.{Ty, Term, lit}
+use Rattle.format.specs.Table.{Sort, Use, refers, table, rowIn, rowOf}
+use Rattle.format.specs.Cell.{IsBytes, pair, cellAt, half, signed}
+use Rattle.format.specs.Tree.{Tree, raw, node, cells}
+use Rattle.format.specs.Terms.{fromType, fromTerm}
+use Rattle.format.proofs.Numbers.{unsigned-signed}
+use Rattle.cells.specs.Held.{IsCell, HoldsType, h-int, h-top, h-arrow, h-inter, h-field}
+use Rattle.cells.specs.Held.{HoldsTerm, h-var, h-lit, h-unit, h-anno, h-app, h-lam, h-merge, h-fix, h-rcd, h-proj}
+use Rattle.emission.specs.Emits.{Space, Emits, HeldField, f-unused, f-plain, f-refers, FieldReady, EmitsField}
+use Rattle.emission.specs.declared.Laid.{Laid}
+use Rattle.emission.proofs.Compose.{Stands, s-unused, s-plain, s-refers}
+
+pub type-field : {s : List ℕ} {i n : ℕ} {o : Sort} {A : Ty} → HoldsType s i A → i < n → HeldField s n (refers o) i (fromType A)
+unfolding fromType table rowIn rowOf
+type-field (h-int p c) l = f-refers l p refl refl f-unused f-unused f-unused
+type-field (h-top p c) l = f-refers l p refl refl f-unused f-unused f-unused
+type-field (h-arrow p c u v x y) l = f-refers l p refl refl (type-field x u) (type-field y v) f-unused
+type-field (h-inter p c u v x y) l = f-refers l p refl refl (type-field x u) (type-field y v) f-unused
+type-field (h-field p c u x) l = f-refers l p refl refl (type-field x u) f-unused f-unused
+
+-- the fields of a cell are two bytes each
+pair-fits : (s : List ℕ) → IsBytes s → (j : ℕ) → pair s j < 65536
+pair-fits s y j = omega (arith, y j, y (j + 1))
+
+pub fields-fit : (s : List ℕ) → IsBytes s → (i : ℕ) → (cellAt s i .a < 65536) × (cellAt s i .b < 65536) × (cellAt s i .c < 65536)
+unfolding cellAt
+fields-fit s y i = (pair-fits s y (8 * i + 2), pair-fits s y (8 * i + 4), pair-fits s y (8 * i + 6))
+
+-- so a number is stored again as it was read
+number : (x y : ℕ) → x < 65536 → y < 65536 → fromTerm (lit (signed half (x + 65536 * y))) ≡ node 17 0 (raw 0) (raw x) (raw y)
+unfolding fromTerm
+number x y f g =
+    rw (unsigned-signed half (x + 65536 * y) (omega arith))
+    (let p : (x + 65536 * y) % 65536 ≡ x = omega arith in
+    let q : (x + 65536 * y) / 65536 ≡ y = omega arith in
+    cc)
+
+number-field : {s : List ℕ} {i n l a b c : ℕ} {o : Sort} {z : ℤ} → IsBytes s → IsCell s i 17 l a b c → z ≡ signed half (b + 65536 * c) → i < n
+    → HeldField s n (refers o) i (fromTerm (lit z))
+unfolding table rowIn rowOf
+number-field {s} {i} {b = b} {c = c} y p z l =
+    let f = rw (p .is) at (fields-fit s y i) in
+    rw (z, number b c (f .1) (f .2)) (f-refers l p refl refl f-unused f-plain f-plain)
+
+pub term-field : {s : List ℕ} {i n : ℕ} {o : Sort} {e : Term} → IsBytes s → HoldsTerm s i e → i < n → HeldField s n (refers o) i (fromTerm e)
+unfolding fromTerm table rowIn rowOf
+term-field y (h-var p) l = f-refers l p refl refl f-plain f-unused f-unused
+term-field y (h-lit p z) l = number-field y p z l
+term-field y (h-unit p) l = f-refers l p refl refl f-unused f-unused f-unused
+term-field y (h-anno p u v g h) l = f-refers l p refl refl (term-field y g u) (type-field h v) f-unused
+term-field y (h-app p u v g h) l = f-refers l p refl refl (term-field y g u) (term-field y h v) f-unused
+term-field y (h-lam p u v w g h k) l = f-refers l p refl refl (term-field y g u) (type-field h v) (type-field k w)
+term-field y (h-merge p u v g h) l = f-refers l p refl refl (term-field y g u) (term-field y h v) f-unused
+term-field y (h-fix p u v g h) l = f-refers l p refl refl (term-field y g u) (type-field h v) f-unused
+term-field y (h-rcd p u g) l = f-refers l p refl refl (term-field y g u) f-unused f-unused
+term-field y (h-proj p u g) l = f-refers l p refl refl (term-field y g u) f-unused f-unused
+
+-- a held field is a tree that can stand for it
+pub field-stands : {s : List ℕ} {n x : ℕ} {u : Use} {t : Tree} → HeldField s n u x t → Stands u x t
+unfolding cells
+field-stands f-unused = s-unused
+field-stands f-plain = s-plain
+field-stands {t = t} (f-refers l p e q f g h) = s-refers {t = t} (omega arith)
+
+pub ready-type : {s d : List ℕ} {i m : ℕ} {A : Ty} → Space d m → HoldsType s i A → FieldReady s d 2 i m
+ready-type {i = i} p h = record { space = p; cell = suc i; tree = _; holds = type-field h (omega arith) }
+
+pub ready-term : {s d : List ℕ} {i m : ℕ} {e : Term} → IsBytes s → Space d m → HoldsTerm s i e → FieldReady s d 3 i m
+ready-term {i = i} y p h = record { space = p; cell = suc i; tree = _; holds = term-field y h (omega arith) }
+
+pub emits-type : {s d e : List ℕ} {i m : ℕ} {r : Laid} {A : Ty} → EmitsField s d e 2 i m r → HoldsType s i A → Emits d e m r (fromType A)
+emits-type {i = i} p h = p .says (suc i) _ (type-field h (omega arith))
+
+pub emits-term : {s d e : List ℕ} {i m : ℕ} {r : Laid} {x : Term} → IsBytes s → EmitsField s d e 3 i m r → HoldsTerm s i x → Emits d e m r (fromTerm x)
+emits-term {i = i} y p h = p .says (suc i) _ (term-field y h (omega arith))

@@ -1,0 +1,71 @@
+-- Emitting a held tree into another buffer, as far as there is room: children first, root last. Assumes nothing.
+use Prim.Native.Nat.{ℕ, _+_, _*_, _-_, _≤_, _<_}
+use mathlib.Core.Path.{_≡_}
+use mathlib.Core.List.{List}
+use mathlib.Core.Option.{some}
+use lib.ListN.{length}
+use lib.Seq.{sets}
+use Rattle.format.specs.Table.{Sort, Use, unused, plain, refers, Row, rowOf}
+use Rattle.format.specs.Cell as Format
+use Rattle.format.specs.Cell.{cellBytes}
+use Rattle.format.specs.Tree.{Tree, raw, node, cells, lay}
+use Rattle.format.specs.Book.{sizeLimit}
+use Rattle.cells.specs.Held.{IsCell}
+use Rattle.cells.specs.Coded.{CellFits, useOf}
+use Rattle.cells.specs.declared.Cell.{Cell}
+use Rattle.emission.specs.declared.Laid.{Laid}
+use Rattle.emission.specs.declared.Laid.the-variants.{Next, Full}
+
+-- A label that the row does not name is 0.
+abbrev pub labelBy : Use → ℕ → ℕ
+labelBy unused l = 0
+labelBy plain l = l
+labelBy (refers t) l = l
+
+-- A field of this use and number, in a cell n of s, holds the tree: sharing opened, unused fields as 0.
+pub data HeldField (s : List ℕ) : ℕ → Use → ℕ → Tree → Type 0 where
+  f-unused : {n x : ℕ} → HeldField s n unused x (raw 0)
+  f-plain : {n x : ℕ} → HeldField s n plain x (raw x)
+  f-refers : {n x k l a b c m : ℕ} {o : Sort} {r : Row} {f g h : Tree} → x < n → IsCell s x k l a b c → rowOf k ≡ some r → m ≡ labelBy (r .label) l →
+      HeldField s x (r .a) a f → HeldField s x (r .b) b g → HeldField s x (r .c) c h → HeldField s n (refers o) x (node k m f g h)
+
+-- A buffer to emit into, of which m cells are used.
+pub record Space (d : List ℕ) (m : ℕ) : Type 0 where
+  pub long : length d ≡ 65536
+  pub used : m ≤ sizeLimit
+
+-- The tree stands in the buffer from cell m on, and the answer is the next free cell; or it would pass 4,095 cells. In that case nothing
+-- is decided of the bytes left.
+pub record Emits (d e : List ℕ) (m : ℕ) (r : Laid) (t : Tree) : Type 0 where
+  pub fits : m + cells t ≤ sizeLimit → (r ≡ Next (m + cells t)) × (e ≡ sets d (8 * m) (lay m t))
+  pub full : sizeLimit < m + cells t → r ≡ Full
+
+-- A cell to be written, and a buffer for it.
+pub record LastReady (d : List ℕ) (t : Cell) : Type 0 where
+  pub long : length d ≡ 65536
+  pub fits : CellFits t
+
+-- The cell stands at m, and the answer is the next free cell; or 4,095 cells stand already. In that case nothing is decided of the bytes.
+pub record Finishes (d e : List ℕ) (m : ℕ) (t : Format.Cell) (r : Laid) : Type 0 where
+  pub fits : m < sizeLimit → (r ≡ Next (m + 1)) × (e ≡ sets d (8 * m) (cellBytes t))
+  pub full : sizeLimit ≤ m → r ≡ Full
+
+-- What a field of number x holds for a tree that ends before a cell: 0 if unused, its number if plain, else the tree's last cell.
+abbrev pub referBy : Use → ℕ → ℕ → ℕ
+referBy unused x next = 0
+referBy plain x next = x
+referBy (refers o) x next = next - 1
+
+-- A tree that is referred to has a last cell.
+pub record ReferReady (u next : ℕ) : Type 0 where
+  pub last : 2 ≤ u → 1 ≤ next
+
+-- A held field of a cell n and a buffer to emit it into.
+pub record FieldReady (s d : List ℕ) (u x m : ℕ) : Type 0 where
+  pub space : Space d m
+  pub cell : ℕ
+  pub tree : Tree
+  pub holds : HeldField s cell (useOf u) x tree
+
+pub record EmitsField (s d e : List ℕ) (u x m : ℕ) (r : Laid) : Type 0 where
+  pub says : (n : ℕ) (t : Tree) → HeldField s n (useOf u) x t → Emits d e m r t

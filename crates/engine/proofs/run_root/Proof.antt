@@ -1,0 +1,65 @@
+-- `engine::run_root` meets its contract: there is room for the root, its run follows the definition, and the term reached is laid down.
+-- Assumes nothing.
+use Rattle.engine.proofs.Ran.{root-ready, not-full, root-typed, end-lies, root-runs}
+use borrow.Author.Needs.{needs}
+use Rattle.engine.proofs.run_root.Statement.{statement}
+use Rattle.engine.proofs.run_root.Tie as tie
+use Rattle.engine.proofs.run_root.Reads as reads
+use Rattle.engine.proofs.run_root.Lts as lts
+use Rattle.emission.proofs.emit_field.Reads as emit-field-reads
+use Rattle.running.proofs.close.Reads as close-reads
+use Rattle.running.proofs.run_on.Reads as run-on-reads
+
+-- src/lib.rt:50:25
+emit-field-requires : tie.Need-emit-field-requires
+emit-field-requires c κs = root-ready (λ i. c .before .before .shared-slice-known .given i .fits) (c .before .before .before .pre)
+
+-- src/lib.rt:50:20
+enum-known-n : tie.Need-enum-known-n
+enum-known-n c = search needs
+
+-- src/lib.rt:51:33
+enum-told : tie.Need-enum-told
+enum-told c = search needs
+
+-- src/lib.rt:51:9
+same-length : tie.Need-same-length
+same-length c = search needs
+
+-- src/lib.rt:51:9
+returns : tie.Need-returns
+returns c =
+    absurd (not-full (λ i. c .before .before .before .before .before .before .before .shared-slice-known .given i .fits) (c .before .before .before .before .emit-field .ensures) (c .before .before .before .before .before .before .before .before .pre) (c .enum-told .given .1))
+
+-- src/lib.rt:53:9
+run-on-requires : tie.Need-run-on-requires
+run-on-requires c κs =
+    root-typed (λ i. c .before .before .before .before .before .before .before .before .before .shared-slice-known .given i .fits) (c .before .before .before .before .before .before .emit-field .ensures) (c .before .before .n .given .1) (c .before .before .before .before .before .before .before .before .before .before .pre)
+
+-- src/lib.rt:55:5
+close-requires : tie.Need-close-requires
+close-requires c κs =
+    end-lies (λ i. c .before .before .before .before .before .before .before .before .before .before .before .before .before .shared-slice-known .given i .fits) (c .before .before .before .before .before .before .before .before .before .before .emit-field .ensures) (c .before .before .before .before .before .before .n .given .1) (c .before .before .before .run-on .ensures) (c .before .before .before .before .before .before .before .before .before .before .before .before .before .before .pre)
+
+-- src/lib.rt:46:1
+same-length-2 : tie.Need-same-length-2
+same-length-2 c = search needs
+
+-- src/lib.rt:46:1
+returns-2 : tie.Need-returns-2
+returns-2 c =
+    root-runs (λ i. c .before .before .before .before .before .before .before .before .before .before .before .before .before .before .before .before .shared-slice-known .given i .fits) (c .before .before .before .before .before .before .before .before .before .before .before .before .before .emit-field .ensures) (c .before .before .before .before .before .before .before .before .before .n .given .1) (c .before .before .before .before .before .before .run-on .ensures) (c .before .before .close .ensures)
+
+pub run-root-spec : {M : Type 1} → statement M
+run-root-spec =
+    tie.close
+    (tie.spec
+    emit-field-requires
+    enum-known-n
+    enum-told
+    same-length
+    returns
+    run-on-requires
+    close-requires
+    same-length-2
+    returns-2)

@@ -1,0 +1,4 @@
+pub mod Single
+pub mod Deciding
+pub mod Readings
+pub mod Emitting

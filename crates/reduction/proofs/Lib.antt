@@ -1,0 +1,8 @@
+pub mod Values
+pub mod Rows
+pub mod Sources
+pub mod Puts
+pub mod Two
+pub mod Nexts
+pub mod Opens
+pub mod Arms

@@ -1,0 +1,4 @@
+pub mod Lying
+pub mod Turns
+pub mod Loop
+pub mod Closing
