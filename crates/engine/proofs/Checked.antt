@@ -2,7 +2,7 @@
 use Prim.Native.Nat.{ℕ}
 use mathlib.Core.Path.{_≡_, refl, sym, _∙_, ap, subst}
 use mathlib.Core.Bool.{Bool, true, false}
-use mathlib.Core.Logic.{_≢_}
+use mathlib.Core.Logic.{_≢_, _⊎_, inl, inr}
 use mathlib.Core.Option.{Option, none, some}
 use mathlib.Core.List.{List, []}
 use native.Mathlib.Omega.{arith}
@@ -26,7 +26,7 @@ use Rattle.outcome.specs.declared.Outcome.the-variants.{Refused}
 use Rattle.book.specs.Form.{FormCheck, FormsAs}
 use Rattle.book.specs.declared.Form.{Form}
 use Rattle.book.specs.declared.Form.the-variants as Form
-use Rattle.engine.specs.Check.{Checked, Formed, Types}
+use Rattle.engine.specs.Check.{Begins, Checked, Formed, Types}
 
 module _ {b w v : List ℕ} {r : Outcome} (bytes : IsBytes b) (a : answerOf r ≡ check b w .answer) (l : v ≡ check b w .left) where
   -- the definition's answer, and so its meaning
@@ -81,3 +81,19 @@ past-row-10 {b} {w = w} bytes k f t =
     let p : check b w ≡ Rattle.answers.specs.Definition.afterTyping b shown (Rattle.calculus.specs.Infer.infer [] (opened b)) =
     in-work b w shown k ∙ rw (formFinding-says b .1 (f .form)) in
     checked-as bytes (t .answer ∙ sym (ap (λ (u : Result). u .answer) p)) (t .left ∙ sym (ap (λ (u : Result). u .left) p))
+
+-- ---- after rows 1 to 10
+
+pub checked-malformed : {b w v : List ℕ} {q : Refusal} {x : Form} → IsBytes b → Begins b w v x → x ≡ Form.Malformed q → Checked b w v (Refused q)
+checked-malformed {b} {w} {v} {q} bytes (inl o) e =
+    let s = o .says in
+    let p : q ≡ Buffer = cc in
+    rw (p, o .left) (row-1 bytes (o .other))
+checked-malformed bytes (inr o) e = rows-2-to-10 bytes (o .work) (o .left) (o .form) e
+
+pub begun : {b w v : List ℕ} {i : ℕ} {x : Form} → Begins b w v x → x ≡ Form.WellFormed i → IsWork w × Formed b v i
+begun {x = x} (inl o) e =
+    let s = o .says in
+    let n : _≡_ {A = ℕ} 0 1 = cc in
+    absurd (omega arith)
+begun (inr o) e = (o .work, formed (o .left) (o .form) e)

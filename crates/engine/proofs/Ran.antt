@@ -37,7 +37,7 @@ use Rattle.running.proofs.Turns.{WholeOrFull, whole-or-full}
 use Rattle.book.specs.Form.{FormCheck, FormsAs}
 use Rattle.book.specs.declared.Form.{Form}
 use Rattle.book.specs.declared.Form.the-variants as Form
-use Rattle.engine.specs.Check.{Formed}
+use Rattle.engine.specs.Check.{Begins, Formed}
 use Rattle.engine.specs.Run.{Ran, RootAt, SomeRoot, RunsRoot, RunsTyped}
 
 -- ---- the root, laid down and run
@@ -126,3 +126,10 @@ run-past-row-10 {b} {w = w} {l = l} bytes k f t =
     let p : run b w l ≡ afterTyping b (λ A. told (evaluate sizeLimit l 0 (opened b))) (infer [] (opened b)) =
     in-work b w (λ A. told (evaluate sizeLimit l 0 (opened b))) k ∙ rw (formFinding-says b .1 (f .form)) in
     ran-as bytes (t .answer ∙ sym (ap (λ (u : Result). u .answer) p)) (t .left ∙ sym (ap (λ (u : Result). u .left) p))
+
+pub run-malformed : {b w v : List ℕ} {l : ℕ} {q : Refusal} {x : Form} → IsBytes b → Begins b w v x → x ≡ Form.Malformed q → Ran b w v l (Refused q)
+run-malformed {b} {w} {v} {l} {q} bytes (inl o) e =
+    let s = o .says in
+    let p : q ≡ Buffer = cc in
+    rw (p, o .left) (run-row-1 bytes (o .other))
+run-malformed bytes (inr o) e = run-rows-2-to-10 bytes (o .work) (o .left) (o .form) e

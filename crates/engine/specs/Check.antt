@@ -1,7 +1,7 @@
 -- What a check answers and leaves, for every book and every work buffer. Assumes nothing.
 use Prim.Native.Nat.{ℕ, _≤_, _<_}
 use mathlib.Core.Path.{_≡_}
-use mathlib.Core.Logic.{_↔_}
+use mathlib.Core.Logic.{_↔_, _⊎_, _≢_}
 use mathlib.Core.List.{List, []}
 use lib.ListN.{length}
 use Rattle.calculus.specs.Syntax.{Ty, size-type, size}
@@ -13,6 +13,10 @@ use Rattle.answers.specs.Definition.{check, afterTyping, shown}
 use Rattle.calculus.specs.Infer.{infer}
 use Rattle.outcome.specs.Numbers.{answerOf}
 use Rattle.outcome.specs.declared.Outcome.{Outcome}
+use Rattle.outcome.specs.declared.Refusal.the-variants.{Buffer}
+use Rattle.book.specs.Form.{FormCheck}
+use Rattle.book.specs.declared.Form.{Form}
+use Rattle.book.specs.declared.Form.the-variants.{Malformed}
 
 -- The book b, the work buffer w as lent and v as left, and the answer r.
 pub record Checked (b w v : List ℕ) (r : Outcome) : Type 0 where
@@ -24,6 +28,22 @@ pub record Checked (b w v : List ℕ) (r : Outcome) : Type 0 where
   -- that type is the one laid down, and its size, the one given, does not pass the book's own
   pub shows : IsWork w → WellFormed b → (A : Ty) → Typed [] (opened b) A →
       (answerOf r ≡ accepted (size-type A)) × (v ≡ laid (typeBook A)) × (size-type A ≤ size (opened b))
+
+-- "Refusal 1 touches nothing"
+pub record Untouched (w v : List ℕ) (x : Form) : Type 0 where
+  pub other : length w ≢ workLength
+  pub left : v ≡ w
+  pub says : x ≡ Malformed Buffer
+
+-- "all others zero the work buffer"; the tests 2 to 10 are the format's
+pub record Zeroed (b w v : List ℕ) (x : Form) : Type 0 where
+  pub work : IsWork w
+  pub left : v ≡ zeros workLength
+  pub form : FormCheck b x
+
+-- What both calls answer on rows 1 to 10.
+abbrev pub Begins : List ℕ → List ℕ → List ℕ → Form → Type 0
+Begins b w v x = Untouched w v x ⊎ Zeroed b w v x
 
 -- A well-formed book and a work buffer of zeros: what typing has to answer.
 pub record Formed (b w : List ℕ) (i : ℕ) : Type 0 where

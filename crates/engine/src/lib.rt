@@ -12,8 +12,19 @@ use running::close;
 use running::run_on;
 use typing::Found;
 use typing::find;
-ghost use Rattle.engine.specs.Check.{Checked, Formed, Types};
+ghost use Rattle.engine.specs.Check.{Begins, Checked, Formed, Types};
 ghost use Rattle.engine.specs.Run.{Ran, SomeRoot, RunsRoot, RunsTyped};
+
+// Rows 1 to 10, for both calls: a work buffer of another length is left as it is; else it is zeroed, and the book's bytes are tested.
+fn begin(book: &[u8], work: &mut [u8]) -> Form
+    ensures { λ r. ⌜ Begins (now (book .entry)) (now (work .entry)) (now (work .exit)) r ⌝ }
+{
+    if work.len() != 65536 {
+        return Form::Malformed(Refusal::Buffer);
+    }
+    clear(work);
+    check_form(book)
+}
 
 // A well-formed book: its cells are loaded into a buffer of their own, where typing adds cells; the type found is laid down.
 fn check_types(book: &[u8], work: &mut [u8], root: usize) -> Outcome
@@ -34,11 +45,7 @@ fn check_types(book: &[u8], work: &mut [u8], root: usize) -> Outcome
 pub fn check(book: &[u8], work: &mut [u8]) -> Outcome
     ensures { λ r. ⌜ Checked (now (book .entry)) (now (work .entry)) (now (work .exit)) r ⌝ }
 {
-    if work.len() != 65536 {
-        return Outcome::Refused(Refusal::Buffer);
-    }
-    clear(work);
-    match check_form(book) {
+    match begin(book, work) {
         Form::Malformed(refusal) => Outcome::Refused(refusal),
         Form::WellFormed(root) => check_types(book, work, root),
     }
@@ -68,7 +75,7 @@ fn run_types(book: &[u8], work: &mut [u8], root: usize, limit: u32) -> Outcome
     let mut buffer = [0u8; 65536];
     load(cells, &mut buffer, n);
     match find(&mut buffer, n, 0, root) {
-        Found::Refused(refusal) => Outcome::Refused(refusal),
+        Found::Refused(fault) => Outcome::Refused(fault),
         Found::Typed(_, _) => run_root(&buffer, work, root, limit),
     }
 }
@@ -78,12 +85,8 @@ fn run_types(book: &[u8], work: &mut [u8], root: usize, limit: u32) -> Outcome
 pub fn run(book: &[u8], work: &mut [u8], limit: u32) -> Outcome
     ensures { λ r. ⌜ Ran (now (book .entry)) (now (work .entry)) (now (work .exit)) limit r ⌝ }
 {
-    if work.len() != 65536 {
-        return Outcome::Refused(Refusal::Buffer);
-    }
-    clear(work);
-    match check_form(book) {
-        Form::Malformed(refusal) => Outcome::Refused(refusal),
+    match begin(book, work) {
+        Form::Malformed(fault) => Outcome::Refused(fault),
         Form::WellFormed(root) => run_types(book, work, root, limit),
     }
 }

@@ -1,18 +1,12 @@
 -- `engine::check` meets its contract: each return's rows are the definition's, and what the definition answers means what demand 2 says.
 -- Assumes nothing.
 use borrow.Author.Needs.{needs}
-use Rattle.engine.proofs.Checked.{cleared-work, row-1, rows-2-to-10, formed, past-row-10}
+use Rattle.engine.proofs.Checked.{checked-malformed, begun, past-row-10}
 use Rattle.engine.proofs.check.Statement.{statement}
 use Rattle.engine.proofs.check.Tie as tie
 
-returns : tie.Need-returns
-returns c = row-1 (λ i. c .before .before .shared-slice-known .given i .fits) (c .if1 .taken)
-
-clear-requires : tie.Need-clear-requires
-clear-requires c κs = search needs
-
-check-form-requires : tie.Need-check-form-requires
-check-form-requires c κs = search needs
+begin-requires : tie.Need-begin-requires
+begin-requires c κs = search needs
 
 enum-known-refusal : tie.Need-enum-known-refusal
 enum-known-refusal c = search needs
@@ -21,36 +15,32 @@ enum-known-root : tie.Need-enum-known-root
 enum-known-root c = search needs
 
 check-types-requires : tie.Need-check-types-requires
-check-types-requires c κs =
-    formed (cleared-work (c .before .before .before .before .before .before .before .clear .ensures) (c .before .before .before .before .before .before .before .before .before .if1 .left)) (c .before .before .before .before .check-form .ensures) (c .before .before .root .given .1)
+check-types-requires c κs = begun (c .before .before .before .before .before .before .begin .ensures) (c .before .before .root .given .1) .1
 
 same-length : tie.Need-same-length
 same-length c = search needs
 
-returns-2 : tie.Need-returns-2
-returns-2 c =
-    rows-2-to-10 (λ i. c .before .before .before .before .before .before .before .before .before .before .shared-slice-known .given i .fits) (c .before .before .before .before .before .before .before .before .if1 .left) (cleared-work (c .before .before .before .before .before .before .clear .ensures) (c .before .before .before .before .before .before .before .before .if1 .left))
-    (c .before .before .before .check-form .ensures) (c .before .refusal .given .1)
+returns : tie.Need-returns
+returns c =
+    checked-malformed (λ i. c .before .before .before .before .before .before .before .before .shared-slice-known .given i .fits) (c .before .before .before .before .before .begin .ensures) (c .before .refusal .given .1)
 
 same-length-2 : tie.Need-same-length-2
 same-length-2 c = search needs
 
-returns-3 : tie.Need-returns-3
-returns-3 c =
-    past-row-10 (λ i. c .before .before .before .before .before .before .before .before .before .before .before .before .before .before .shared-slice-known .given i .fits) (c .before .before .before .before .before .before .before .before .before .before .before .before .if1 .left)
-    (formed (cleared-work (c .before .before .before .before .before .before .before .before .before .before .clear .ensures) (c .before .before .before .before .before .before .before .before .before .before .before .before .if1 .left)) (c .before .before .before .before .before .before .before .check-form .ensures) (c .before .before .before .before .before .root .given .1)) (c .before .before .check-types .ensures)
+returns-2 : tie.Need-returns-2
+returns-2 c =
+    let k = begun (c .before .before .before .before .before .before .before .before .before .begin .ensures) (c .before .before .before .before .before .root .given .1) in
+    past-row-10 (λ i. c .before .before .before .before .before .before .before .before .before .before .before .before .shared-slice-known .given i .fits) (k .0) (k .1) (c .before .before .check-types .ensures)
 
 pub check-spec : {M : Type 1} → statement M
 check-spec =
     tie.close
     (tie.spec
-    returns
-    clear-requires
-    check-form-requires
+    begin-requires
     enum-known-refusal
     enum-known-root
     check-types-requires
     same-length
-    returns-2
+    returns
     same-length-2
-    returns-3)
+    returns-2)

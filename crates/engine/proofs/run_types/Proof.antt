@@ -49,8 +49,8 @@ find-requires c κs =
     (c .before .before .load .ensures))
 
 -- src/lib.rt:69:24
-enum-known-refusal : tie.Need-enum-known-refusal
-enum-known-refusal c = search needs
+enum-known-fault : tie.Need-enum-known-fault
+enum-known-fault c = search needs
 
 -- src/lib.rt:70:40
 enum-told : tie.Need-enum-told
@@ -71,7 +71,7 @@ run-root-requires c κs =
 -- src/lib.rt:60:1
 returns : tie.Need-returns
 returns c =
-    runs-refused (c .before .before .before .before .before .before .before .before .before .before .before .before .pre) (λ i. c .before .before .before .before .before .before .before .before .before .before .before .shared-slice-known .given i .fits) (c .before .before .before .before .before .before .before .load .ensures) (c .before .before .before .before .find .ensures) (c .before .refusal .given .1)
+    runs-refused (c .before .before .before .before .before .before .before .before .before .before .before .before .pre) (λ i. c .before .before .before .before .before .before .before .before .before .before .before .shared-slice-known .given i .fits) (c .before .before .before .before .before .before .before .load .ensures) (c .before .before .before .before .find .ensures) (c .before .fault .given .1)
 
 -- src/lib.rt:60:1
 same-length : tie.Need-same-length
@@ -93,7 +93,7 @@ run-types-spec =
     load-requires
     slice-aggregate-find
     find-requires
-    enum-known-refusal
+    enum-known-fault
     enum-told
     slice-aggregate-run-root
     run-root-requires
