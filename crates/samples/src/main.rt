@@ -1,10 +1,12 @@
-// Every sample of document 01 that is not marked M: each book is made here, checked, and its answer printed.
+// Every sample of document 01 that is not marked M: each book is made here, checked or run, and its answer printed.
 use cells::Cell;
 use cells::write_cell;
 use engine::check;
+use engine::run;
 use libc::STDOUT_FILENO;
 use outcome::Outcome;
 use outcome::Refusal;
+use outcome::Stop;
 ghost use Prim.Native.Nat.{_≤_};
 ghost use lib.ListN.{length};
 ghost use Rattle.samples.specs.Chain.{Leaf, Chain};
@@ -17,15 +19,25 @@ fn print_refusal(r: Refusal) {
     io::write_all(STDOUT_FILENO, b"\n");
 }
 
+fn print_word(word: &[u8], n: usize) {
+    io::write_all(STDOUT_FILENO, word);
+    io::print_decimal(STDOUT_FILENO, n as u64);
+    io::write_all(STDOUT_FILENO, b"\n");
+}
+
+fn print_stop(s: Stop) {
+    match s {
+        Stop::Value(n) => print_word(b"value ", n as usize),
+        Stop::Spent(n) => print_word(b"spent ", n as usize),
+        Stop::Room(n) => print_word(b"room ", n as usize),
+    }
+}
+
 fn print_outcome(o: Outcome) {
     match o {
         Outcome::Refused(r) => print_refusal(r),
-        Outcome::Accepted(n) => {
-            io::write_all(STDOUT_FILENO, b"accepted ");
-            io::print_decimal(STDOUT_FILENO, n as u64);
-            io::write_all(STDOUT_FILENO, b"\n");
-        }
-        Outcome::Stopped(_) => {}
+        Outcome::Accepted(n) => print_word(b"accepted ", n),
+        Outcome::Stopped(s) => print_stop(s),
     }
 }
 
@@ -74,6 +86,27 @@ fn check_chain(leaf: Cell, kind: u8, label: u8, both: bool, k: usize)
     print_outcome(check(&book[..n], &mut work));
 }
 
+fn run_and_print(book: &[u8], limit: u32) {
+    let mut work = io::large_buffer();
+    print_outcome(run(book, &mut work, limit));
+}
+
+// The fixpoint at Int whose body is its own variable: Int, the variable, the fixpoint.
+fn run_fixpoint(limit: u32) {
+    run_and_print(
+        b"\x01\x00\x00\x00\x00\x00\x00\x00\x10\x00\x00\x00\x00\x00\x00\x00\x17\x00\x01\x00\x00\x00\x00\x00\xf0\x01\x03\x00\x02\x00\x00\x00",
+        limit,
+    );
+}
+
+// A function that returns 1, its input the intersection of 100 function types, applied to a function with a body of 68 cells.
+fn run_ignored() {
+    run_and_print(
+        b"\x01\x00\x00\x00\x00\x00\x00\x00\x03\x00\x00\x00\x00\x00\x00\x00\x04\x00\x01\x00\x01\x00\x00\x00\x04\x00\x02\x00\x02\x00\x00\x00\x04\x00\x03\x00\x03\x00\x00\x00\x04\x00\x04\x00\x04\x00\x00\x00\x04\x00\x05\x00\x05\x00\x00\x00\x04\x00\x06\x00\x06\x00\x00\x00\x04\x00\x07\x00\x06\x00\x00\x00\x04\x00\x08\x00\x03\x00\x00\x00\x11\x00\x00\x00\x01\x00\x00\x00\x15\x00\x0a\x00\x09\x00\x00\x00\x02\x00\x00\x00\x00\x00\x00\x00\x15\x00\x0a\x00\x0c\x00\x00\x00\x12\x00\x00\x00\x00\x00\x00\x00\x16\x00\x0e\x00\x0e\x00\x00\x00\x16\x00\x0f\x00\x0f\x00\x00\x00\x16\x00\x10\x00\x10\x00\x00\x00\x16\x00\x11\x00\x11\x00\x00\x00\x16\x00\x12\x00\x12\x00\x00\x00\x14\x00\x0d\x00\x13\x00\x00\x00\x15\x00\x14\x00\x00\x00\x00\x00\x14\x00\x0b\x00\x15\x00\x00\x00\xf0\x01\x17\x00\x16\x00\x00\x00",
+        10000,
+    );
+}
+
 fn main() {
     let top = Cell {
         kind: 18,
@@ -94,4 +127,7 @@ fn main() {
     check_chain(top, 22, 0, true, 12);
     // 4,094 records round a number
     check_chain(one, 24, 7, false, 4094);
+    run_fixpoint(2046);
+    run_fixpoint(2047);
+    run_ignored();
 }
