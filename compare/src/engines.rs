@@ -1,0 +1,69 @@
+//! The two sides of a comparison.
+
+use evaluator::{with_fault, Answer, Fault};
+use std::panic::{catch_unwind, AssertUnwindSafe};
+
+/// What a side says: an answer of document 01, or why it gave none.
+pub type Said = Result<Answer, String>;
+
+/// One call of the library.
+#[derive(Clone, Copy, PartialEq, Eq, Debug)]
+pub enum Call {
+    Check,
+    Run { limit: u32 },
+}
+
+/// Anything that checks and runs books.
+pub trait Engine {
+    fn name(&self) -> String;
+    fn call(&self, call: Call, book: &[u8], work: &mut [u8]) -> Said;
+}
+
+/// The evaluator, true or with a planted fault.
+pub struct Evaluator(pub Option<Fault>);
+
+impl Engine for Evaluator {
+    fn name(&self) -> String {
+        match self.0 {
+            None => "evaluator".to_string(),
+            Some(fault) => format!("evaluator with {fault:?}"),
+        }
+    }
+
+    fn call(&self, call: Call, book: &[u8], work: &mut [u8]) -> Said {
+        let call = || match call {
+            Call::Check => evaluator::check(book, work),
+            Call::Run { limit } => evaluator::run(book, work, limit),
+        };
+        catch_unwind(AssertUnwindSafe(|| with_fault(self.0, call))).map_err(|panic| match panic.downcast_ref::<String>() {
+            Some(words) => words.clone(),
+            None => "a panic".to_string(),
+        })
+    }
+}
+
+/// The engine of the static library.
+#[cfg(feature = "engine")]
+pub struct Library;
+
+#[cfg(feature = "engine")]
+impl Engine for Library {
+    fn name(&self) -> String {
+        "engine".to_string()
+    }
+
+    fn call(&self, call: Call, book: &[u8], work: &mut [u8]) -> Said {
+        let answer = match call {
+            Call::Check => cerealbank::check(book, work),
+            Call::Run { limit } => cerealbank::run(book, work, limit),
+        };
+        Ok(match answer {
+            cerealbank::Answer::Refused { number, cell } => Answer::Refused { number, cell: cell as usize },
+            cerealbank::Answer::Accepted { size } => Answer::Accepted { size: size as usize },
+            cerealbank::Answer::Value { steps } => Answer::Value { steps },
+            cerealbank::Answer::Spent { steps } => Answer::Spent { steps },
+            cerealbank::Answer::Room { steps } => Answer::Room { steps },
+            cerealbank::Answer::Unknown { tag, value } => return Err(format!("tag {tag} with {value}")),
+        })
+    }
+}

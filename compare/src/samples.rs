@@ -1,0 +1,103 @@
+//! The sample books of document 01 with the answers that it states.
+
+use crate::cells::{lay, Cell, Cells, Sharing};
+use crate::engines::Call;
+use crate::random::Random;
+use evaluator::{Answer, Term, Type};
+
+pub struct Sample {
+    pub name: &'static str,
+    pub book: Vec<u8>,
+    pub call: Call,
+    /// What document 01 says of it.
+    pub answer: Answer,
+    /// The value it comes to, where document 01 names one.
+    pub value: Option<Term>,
+}
+
+fn number(n: i32) -> Term {
+    Term::number(n)
+}
+
+fn int() -> Type {
+    Type::int()
+}
+
+pub fn identity() -> Term {
+    Term::function(Term::variable(0), int(), int())
+}
+
+pub fn hidden_field() -> Term {
+    let merge = Term::merge(Term::record(1, number(2)), Term::variable(0));
+    let body = Term::read(1, Term::annotation(merge, Type::record(1, int())));
+    let function = Term::function(body, Type::record(2, int()), int());
+    Term::application(function, Term::merge(Term::record(1, number(1)), Term::record(2, number(9))))
+}
+
+pub fn own_fixpoint() -> Term {
+    Term::fixpoint(Term::variable(0), int())
+}
+
+/// Something merged with itself so many times over by sharing.
+pub fn doubled(leaf: Cell, times: u16) -> Vec<u8> {
+    let merges = (0..times).map(|n| Cell::new(22, 0, [n, n, 0]));
+    Cells { cells: [leaf].into_iter().chain(merges).collect(), root: times }.bytes()
+}
+
+/// The book of the desk program's example.
+pub fn desk_example() -> Vec<u8> {
+    let cells = vec![
+        Cell::new(1, 0, [0, 0, 0]),
+        Cell::number(1),
+        Cell::number(5),
+        Cell::new(24, 7, [2, 0, 0]),
+        Cell::new(22, 0, [1, 3, 0]),
+        Cell::new(19, 0, [4, 0, 0]),
+    ];
+    Cells { cells, root: 5 }.bytes()
+}
+
+pub fn samples() -> Vec<Sample> {
+    let run = |limit| Call::Run { limit };
+    let refused = |number, cell| Answer::Refused { number, cell };
+    let opened = |term: &Term| lay(term, Sharing::Never, &mut Random::of(0, "", 0)).bytes();
+    let mut list = Vec::new();
+    let mut add = |name, book: Vec<u8>, call, answer| list.push(Sample { name, book, call, answer, value: None });
+
+    let ones = Term::merge(number(1), number(1));
+    add("1 merged with 1, checked", opened(&ones), Call::Check, Answer::Accepted { size: 3 });
+    add("1 merged with 2", opened(&Term::merge(number(1), number(2))), Call::Check, refused(14, 2));
+    let variables = Term::merge(Term::variable(0), Term::variable(0));
+    add("a variable merged with itself", opened(&Term::function(variables, int(), int())), Call::Check, refused(14, 2));
+    add("3 applied to 4", opened(&Term::application(number(3), number(4))), Call::Check, refused(12, 2));
+    add("the fixpoint, limit 0", opened(&own_fixpoint()), run(0), Answer::Spent { steps: 0 });
+    add("the fixpoint, limit 2,046", opened(&own_fixpoint()), run(2_046), Answer::Spent { steps: 2_046 });
+    add("the fixpoint, limit 2,047", opened(&own_fixpoint()), run(2_047), Answer::Room { steps: 2_046 });
+    let top = Cell::new(18, 0, [0; 3]);
+    add("the top value merged 11 times", doubled(top, 11), Call::Check, Answer::Accepted { size: 4_095 });
+    add("the top value merged 12 times", doubled(top, 12), Call::Check, refused(10, 12));
+    let nested = (0..4_094).fold(number(5), |content, label| Term::record(label as u8, content));
+    add("4,094 records round a number", opened(&nested), Call::Check, Answer::Accepted { size: 4_095 });
+
+    let mut value = |name, term: Term, value: Term, steps| {
+        let answer = Answer::Value { steps };
+        list.push(Sample { name, book: opened(&term), call: run(10_000), answer, value: Some(value) });
+    };
+    value("1 merged with 1", ones.clone(), ones, 0);
+    let twice = Term::annotation(Term::annotation(number(1), Type::intersection(int(), int())), int());
+    value("1 under Int and Int, then under Int", twice, number(1), 2);
+    let argument = Term::merge(number(1), Term::record(7, number(5)));
+    value("the identity on a merge", Term::application(identity(), argument), number(1), 2);
+    let to_top = Type::function(int(), Type::top());
+    value("the identity annotated Int to Top", Term::annotation(identity(), to_top), Term::top(), 1);
+    value("the top value applied to 3", Term::application(Term::top(), number(3)), Term::top(), 1);
+    value("the hidden field", hidden_field(), number(2), 4);
+    list.push(Sample {
+        name: "the desk example",
+        book: desk_example(),
+        call: run(10_000),
+        answer: Answer::Value { steps: 1 },
+        value: Some(number(1)),
+    });
+    list
+}

@@ -1,0 +1,106 @@
+//! Smaller books on which the two sides still differ.
+
+use crate::cells::{Cell, Cells, Sort};
+use crate::comparing::{Comparison, Question};
+use crate::engines::Call;
+
+/// How many smaller books are tried at most.
+const TRIES: usize = 20_000;
+
+/// The smallest book and question found that still show a difference.
+pub fn shrink(comparison: &Comparison, book: Vec<u8>, question: Question) -> (Vec<u8>, Question) {
+    let (mut book, mut question) = (book, question);
+    let mut tries = TRIES;
+    let mut fails = |book: &[u8], question: Question| {
+        tries = tries.saturating_sub(1);
+        tries > 0 && comparison.ask(book, question).is_some()
+    };
+    loop {
+        if let Some(smaller) = questions(question).into_iter().find(|&smaller| fails(&book, smaller)) {
+            question = smaller;
+            continue;
+        }
+        match smaller(&book).into_iter().find(|smaller| fails(smaller, question)) {
+            Some(smaller) => book = smaller,
+            None => return (book, question),
+        }
+    }
+}
+
+/// Questions that are simpler to look at.
+fn questions(question: Question) -> Vec<Question> {
+    match question {
+        Question::Call(Call::Run { limit }, length) => {
+            let check = Question::Call(Call::Check, length);
+            let limits = (0..limit.min(20)).chain([limit / 2, limit.saturating_sub(1)]).filter(|&lower| lower < limit);
+            [check].into_iter().chain(limits.map(|limit| Question::Call(Call::Run { limit }, length))).collect()
+        }
+        _ => vec![],
+    }
+}
+
+/// Books that are smaller by one change each: fewer cells, or as many with less in them.
+fn smaller(book: &[u8]) -> Vec<Vec<u8>> {
+    let Some(cells) = Cells::of(book) else { return shorter_bytes(book) };
+    let count = cells.cells.len();
+    let mut books: Vec<Cells> = Vec::new();
+    // A lower root, and nothing past it.
+    let root = usize::from(cells.root).min(count - 1);
+    for lower in (0..root).filter(|&n| cells.cells[n].sort() == Sort::Term) {
+        books.push(Cells { cells: cells.cells[..=lower].to_vec(), root: lower as u16 });
+    }
+    for at in (0..count).rev() {
+        // Without a cell: each of its parts, or any lower one of its sort, takes its place.
+        let cell = cells.cells[at];
+        let parts = cell.fields.into_iter().zip(cell.references());
+        let parts = parts.filter_map(|(field, sort)| (sort == Some(cell.sort())).then_some(field));
+        let lower = cells.of_sort(cell.sort(), at);
+        let any = lower.first().copied().into_iter().chain(lower.last().copied());
+        for instead in parts.chain(any).chain([0]) {
+            if count > 1 && usize::from(instead) < at || at == 0 && usize::from(cells.root) != at {
+                let mut less = cells.clone();
+                less.remove(at, instead);
+                books.push(less);
+            }
+        }
+        for simpler in simpler_cells(cell) {
+            let mut less = cells.clone();
+            less.cells[at] = simpler;
+            books.push(less);
+        }
+    }
+    books.into_iter().map(|less| less.bytes()).filter(|less| weight(less) < weight(book)).collect()
+}
+
+fn simpler_cells(cell: Cell) -> Vec<Cell> {
+    let leaf = |kind| Cell::new(kind, 0, [0; 3]);
+    let mut simpler = match cell.sort() {
+        Sort::Type => vec![leaf(1), leaf(2)],
+        Sort::Term => vec![leaf(16), leaf(17), leaf(18), Cell::number(1)],
+    };
+    if cell.labelled() {
+        simpler.extend([0, 1].map(|label| Cell { label, ..cell }));
+    }
+    if cell.kind == 17 {
+        simpler.extend([0, 1, 2].map(Cell::number));
+    }
+    simpler
+}
+
+/// For bytes that are no book: shorter ones, and ones with a zero more.
+fn shorter_bytes(book: &[u8]) -> Vec<Vec<u8>> {
+    let shorter = (0..book.len()).map(|length| book[..length].to_vec());
+    let zeroed = (0..book.len()).filter(|&at| book[at] != 0).map(|at| {
+        let mut zeroed = book.to_vec();
+        zeroed[at] = 0;
+        zeroed
+    });
+    shorter.chain(zeroed).collect()
+}
+
+/// What shrinking makes less of: bytes, then references and numbers, then the rest.
+fn weight(book: &[u8]) -> (usize, usize, u64) {
+    let cells = Cells::of(book).map_or(Vec::new(), |cells| cells.cells);
+    let references = cells.iter().flat_map(|cell| cell.references()).filter(|sort| sort.is_some()).count();
+    (book.len(), references, book.iter().map(|&byte| u64::from(byte)).sum())
+}

@@ -1,0 +1,133 @@
+//! The calls: check, run and the desk program's lines.
+
+use crate::book::{lay_term, lay_type, read, Refusal, CELL, SIZE_LIMIT};
+use crate::faults::{planted, Fault};
+use crate::running::Journey;
+use crate::stack::on_large_stack;
+use crate::terms::{Term, Type};
+use crate::typing::find;
+use std::fmt::Write;
+
+/// "Work buffer: not 65,536 bytes" is refusal 1.
+pub const WORK: usize = 65_536;
+/// "The desk program reads a book on standard input, limit 10,000."
+pub const DESK_LIMIT: u32 = 10_000;
+
+/// What a call says.
+#[derive(Clone, Copy, PartialEq, Eq, Debug)]
+pub enum Answer {
+    /// "Answer: number and cell (0 for 1 to 4)."
+    Refused { number: u8, cell: usize },
+    /// "A check lays down the type and gives its size."
+    Accepted { size: usize },
+    /// "A run says value when the term is one"
+    Value { steps: u32 },
+    /// "else spent when exactly the limit has been taken"
+    Spent { steps: u32 },
+    /// "else no room when the successor's size exceeds 4,095."
+    Room { steps: u32 },
+}
+
+/// The root and its type, or the first refusal of 2 to 15.
+fn accept(book: &[u8]) -> Result<(Term, Type), Refusal> {
+    let root = read(book)?;
+    let found = find(&mut Vec::new(), &root)?;
+    Ok((root, found))
+}
+
+/// Where a run stops, and the term reached: "A run says value when the term is one; else spent when exactly the limit has been
+/// taken; else no room when the successor's size exceeds 4,095."
+fn evaluate(root: Term, limit: u32) -> (Answer, Term) {
+    let room = match () {
+        () if planted(Fault::RoomOneEarly) => SIZE_LIMIT - 1,
+        () if planted(Fault::RoomOneLate) => SIZE_LIMIT + 1,
+        () => SIZE_LIMIT,
+    };
+    let mut journey = Journey::from(root);
+    let mut steps = 0;
+    let stop = loop {
+        if journey.is_value() {
+            break Answer::Value { steps };
+        }
+        if steps == limit {
+            break Answer::Spent { steps };
+        }
+        let mut next = journey.next();
+        if next.len() != 1 {
+            panic!("an accepted book reached a term with {} successors: {}", next.len(), journey.whole());
+        }
+        let next = next.remove(0);
+        if next.1 > room {
+            break Answer::Room { steps };
+        }
+        journey.go(next);
+        steps += 1;
+    };
+    (stop, journey.whole())
+}
+
+/// Leaves the outcome in the work buffer: "Refusal 1 touches nothing; all others zero the work buffer. After an acceptance or a
+/// run, bytes past the laid-down book are zero."
+fn answer(work: &mut [u8], outcome: impl FnOnce() -> Result<(Answer, Vec<u8>), Refusal> + Send) -> Answer {
+    if work.len() != WORK {
+        return Answer::Refused { number: 1, cell: 0 };
+    }
+    let (answer, laid) = match on_large_stack(outcome) {
+        Ok(accepted) => accepted,
+        Err(Refusal { number, cell }) => (Answer::Refused { number, cell }, Vec::new()),
+    };
+    work.fill(0);
+    work[..laid.len()].copy_from_slice(&laid);
+    answer
+}
+
+/// "A library checks a book": its type laid down, with the type's size.
+pub fn check(book: &[u8], work: &mut [u8]) -> Answer {
+    answer(work, || {
+        let (_, found) = accept(book)?;
+        Ok((Answer::Accepted { size: found.size() as usize }, lay_type(&found)))
+    })
+}
+
+/// "Runs it for at most a given number of steps": the term reached laid down, with the steps taken. "The step limit is any unsigned
+/// 32-bit number."
+pub fn run(book: &[u8], work: &mut [u8], limit: u32) -> Answer {
+    answer(work, || {
+        let (root, _) = accept(book)?;
+        let (stop, reached) = evaluate(root, limit);
+        Ok((stop, lay_reached(&reached)))
+    })
+}
+
+/// The term reached, laid down. Only a planted fault reaches one above the limit; then there is nothing to lay.
+fn lay_reached(reached: &Term) -> Vec<u8> {
+    if reached.size() > SIZE_LIMIT {
+        return Vec::new();
+    }
+    lay_term(reached)
+}
+
+/// What the desk program prints. "Line 1: type size. Line 2: value, spent or room, and steps. Then a line a cell: number, kind,
+/// label, a, b, c unsigned. A book turned back prints one line, `refused 14 4` for number and cell."
+pub fn desk(input: &[u8]) -> String {
+    let mut work = vec![0; WORK];
+    let mut lines = String::new();
+    let size = match check(input, &mut work) {
+        Answer::Accepted { size } => size,
+        Answer::Refused { number, cell } => return format!("refused {number} {cell}\n"),
+        other => unreachable!("no answer of a check: {other:?}"),
+    };
+    let (word, steps) = match run(input, &mut work, DESK_LIMIT) {
+        Answer::Value { steps } => ("value", steps),
+        Answer::Spent { steps } => ("spent", steps),
+        Answer::Room { steps } => ("room", steps),
+        other => unreachable!("no answer of a run on an accepted book: {other:?}"),
+    };
+    let _ = writeln!(lines, "accepted {size}\n{word} {steps}");
+    // A cell's kind is never that of a trailer.
+    for (number, cell) in work.chunks(CELL).take_while(|cell| cell[0] != 0xF0).enumerate() {
+        let [a, b, c] = [2, 4, 6].map(|at| u16::from_le_bytes([cell[at], cell[at + 1]]));
+        let _ = writeln!(lines, "{number} {} {} {a} {b} {c}", cell[0], cell[1]);
+    }
+    lines
+}

@@ -1,0 +1,166 @@
+//! The relations on types, and finding a term's type.
+
+use crate::book::Refusal;
+use crate::faults::{planted, Fault};
+use crate::terms::{Term, TermShape, Type, TypeShape};
+
+/// "Top-like: Top; a function type with a top-like output; an intersection of two such; a record type over one."
+pub fn top_like(t: &Type) -> bool {
+    match t.shape() {
+        TypeShape::Int => false,
+        TypeShape::Top => true,
+        TypeShape::Function(_, output) => top_like(output),
+        TypeShape::Intersection(a, b) => top_like(a) && top_like(b),
+        TypeShape::Record(_, content) => top_like(content),
+    }
+}
+
+/// "Below: Int is below Int. Every type is below a top-like one. An intersection is below what either half is below. A type is
+/// below an intersection if below both halves. A function type is below another if its input is above and its output below. A
+/// record type is below one of the same label if its content is."
+///
+/// An intersection on the right is taken apart first. Nothing is lost: a half that is below both halves of the right is below
+/// each of them.
+pub fn below(a: &Type, b: &Type) -> bool {
+    if top_like(b) {
+        return true;
+    }
+    match (a.shape(), b.shape()) {
+        (_, TypeShape::Intersection(l, r)) => below(a, l) && below(a, r),
+        (TypeShape::Intersection(l, r), _) => below(l, b) || below(r, b),
+        (TypeShape::Int, TypeShape::Int) => true,
+        (TypeShape::Function(i, o), TypeShape::Function(wanted_i, wanted_o)) => {
+            let inputs = if planted(Fault::CovariantInputs) { below(i, wanted_i) } else { below(wanted_i, i) };
+            inputs && below(o, wanted_o)
+        }
+        (TypeShape::Record(l, c), TypeShape::Record(wanted_l, wanted_c)) => l == wanted_l && below(c, wanted_c),
+        _ => false,
+    }
+}
+
+/// "Disjoint: Top with anything. An intersection when both halves are, on either side. Int, function and record types with one
+/// another. Two functions if their outputs are. Two records if labels differ or contents are disjoint."
+pub fn disjoint(a: &Type, b: &Type) -> bool {
+    match (a.shape(), b.shape()) {
+        (TypeShape::Top, _) | (_, TypeShape::Top) => true,
+        (TypeShape::Intersection(l, r), _) => disjoint(l, b) && (planted(Fault::DisjointByLeftHalf) || disjoint(r, b)),
+        (_, TypeShape::Intersection(l, r)) => disjoint(a, l) && (planted(Fault::DisjointByLeftHalf) || disjoint(a, r)),
+        (TypeShape::Int, TypeShape::Int) => false,
+        (TypeShape::Function(i, o), TypeShape::Function(j, p)) => {
+            disjoint(o, p) || planted(Fault::DisjointByInputs) && disjoint(i, j)
+        }
+        (TypeShape::Record(l, c), TypeShape::Record(m, d)) => l != m || disjoint(c, d),
+        // Two different ones of Int, function and record types.
+        _ => true,
+    }
+}
+
+/// The type that finding gives a typed value, seen from its form: its parts need not be walked again.
+fn type_of_value(v: &Term) -> Type {
+    match v.shape() {
+        TermShape::Number(_) => Type::int(),
+        TermShape::Top => Type::top(),
+        TermShape::Function(_, i, o) => Type::function(i.clone(), o.clone()),
+        TermShape::Merge(a, b) => Type::intersection(type_of_value(a), type_of_value(b)),
+        TermShape::Record(l, c) => Type::record(*l, type_of_value(c)),
+        _ => unreachable!("only asked of values"),
+    }
+}
+
+/// "Consistent closed values: equal numbers; functions with the same body and input type, as trees; records of one label with
+/// consistent contents; a merge and a value, either way about, if both halves are consistent with the value; any two of disjoint
+/// types." Only asked of typed values.
+///
+/// A merge is taken apart wherever it stands and nothing else is tried: its type is disjoint from another exactly when both
+/// halves' are.
+pub fn consistent(v: &Term, w: &Term) -> bool {
+    match (v.shape(), w.shape()) {
+        (TermShape::Merge(a, b), _) => consistent(a, w) && (planted(Fault::MergeByLeftHalf) || consistent(b, w)),
+        (_, TermShape::Merge(a, b)) => consistent(v, a) && (planted(Fault::MergeByLeftHalf) || consistent(v, b)),
+        (TermShape::Number(m), TermShape::Number(n)) if m == n => true,
+        (TermShape::Function(e, i, _), TermShape::Function(f, j, _)) if i == j && e == f => true,
+        (TermShape::Record(l, c), TermShape::Record(m, d)) if l == m && consistent(c, d) => true,
+        _ => disjoint(&type_of_value(v), &type_of_value(w)),
+    }
+}
+
+/// "Finding a type". The binders' types are listed outermost first. "Typing walks left before right and parts before wholes";
+/// "11 to 14 name the variable, application, field read or merge itself".
+pub fn find(binders: &mut Vec<Type>, e: &Term) -> Result<Type, Refusal> {
+    let refuse = |number| Err(Refusal { number, cell: e.cell() });
+    match e.shape() {
+        // "top value Top; number Int; variable its binder's type"
+        TermShape::Top => Ok(Type::top()),
+        TermShape::Number(_) => Ok(Type::int()),
+        TermShape::Variable(skipped) => match binders.iter().rev().nth(usize::from(*skipped)) {
+            Some(t) => Ok(t.clone()),
+            None => refuse(11),
+        },
+        // "annotation its type, after checking"
+        TermShape::Annotation(inside, by) => {
+            check_against(binders, inside, by)?;
+            Ok(by.clone())
+        }
+        // "function its annotated type, the body checked against the output"
+        TermShape::Function(body, input, output) => {
+            under(binders, input, |binders| check_against(binders, body, output))?;
+            Ok(Type::function(input.clone(), output.clone()))
+        }
+        // "fixpoint its type, the body checked against it"
+        TermShape::Fixpoint(body, at) => {
+            under(binders, at, |binders| check_against(binders, body, at))?;
+            Ok(at.clone())
+        }
+        // "record a record type"
+        TermShape::Record(label, content) => Ok(Type::record(*label, find(binders, content)?)),
+        // "Application: the left's type must be a function type, or Top, read as Top to Top; the right is checked against the
+        // input." "12 is tested before the right side is walked."
+        TermShape::Application(left, right) => {
+            let found = find(binders, left)?;
+            let (input, output) = match found.shape() {
+                TypeShape::Function(i, o) => (i.clone(), o.clone()),
+                TypeShape::Top => (Type::top(), Type::top()),
+                _ => return refuse(12),
+            };
+            check_against(binders, right, &input)?;
+            Ok(output)
+        }
+        // "Field read: the term's type must be a record type of exactly that label, or Top, which gives Top."
+        TermShape::Read(label, of) => {
+            let found = find(binders, of)?;
+            match found.shape() {
+                TypeShape::Record(l, content) if l == label => Ok(content.clone()),
+                TypeShape::Top => Ok(found),
+                _ => refuse(13),
+            }
+        }
+        // "Merge: the intersection, if the two types are disjoint, or both halves are closed values and consistent."
+        TermShape::Merge(left, right) => {
+            let a = find(binders, left)?;
+            let b = find(binders, right)?;
+            let closed_value = |half: &Term| half.is_value() && half.is_closed();
+            if disjoint(&a, &b) || closed_value(left) && closed_value(right) && consistent(left, right) {
+                Ok(Type::intersection(a, b))
+            } else {
+                refuse(14)
+            }
+        }
+    }
+}
+
+/// "Checking: find a type; it must be below the wanted one." 15 names "the checked term".
+pub fn check_against(binders: &mut Vec<Type>, e: &Term, wanted: &Type) -> Result<(), Refusal> {
+    if below(&find(binders, e)?, wanted) {
+        Ok(())
+    } else {
+        Err(Refusal { number: 15, cell: e.cell() })
+    }
+}
+
+/// Does `work` under one more binder.
+fn under<R>(binders: &mut Vec<Type>, of: &Type, work: impl FnOnce(&mut Vec<Type>) -> R) -> R {
+    binders.push(of.clone());
+    let result = work(binders);
+    binders.pop();
+    result
+}

@@ -1,0 +1,42 @@
+/* Checks and runs folder books. Document 01 gives a book's format and what every answer means. */
+
+#ifndef CEREALBANK_H
+#define CEREALBANK_H
+
+#include <stddef.h>
+#include <stdint.h>
+
+#ifdef __cplusplus
+extern "C" {
+#endif
+
+/* The length that a work buffer must have; any other is refusal 1. */
+#define CEREALBANK_WORK 65536
+
+/* An answer is a tag in the upper 32 bits and a value in the lower ones. */
+#define CEREALBANK_TAG(answer) ((uint32_t)((uint64_t)(answer) >> 32))
+#define CEREALBANK_VALUE(answer) ((uint32_t)(answer))
+
+/* The tags 1 to 15 are refusals, by number; the value is the cell. */
+#define CEREALBANK_LAST_REFUSAL 15
+/* A check accepted the book; the value is the size of its type. */
+#define CEREALBANK_ACCEPTED 16
+/* A run came to a value, took as many steps as its limit allows, or had no room for the next term; the value is the steps taken. */
+#define CEREALBANK_TO_VALUE 17
+#define CEREALBANK_SPENT 18
+#define CEREALBANK_NO_ROOM 19
+
+/* Both calls read the book's bytes, write only the work buffer's, and use no other memory. The two must not overlap. */
+
+/* Checks a book: accepted with its type laid down as a book of its own at the start of the work buffer and zeros past it, or refused
+   with a zeroed work buffer. Refusal 1 touches nothing. */
+uint64_t cerealbank_check(const uint8_t *book, size_t book_len, uint8_t *work, size_t work_len);
+
+/* Runs a book for at most limit steps, and leaves the term reached as a check leaves the type. */
+uint64_t cerealbank_run(const uint8_t *book, size_t book_len, uint8_t *work, size_t work_len, uint32_t limit);
+
+#ifdef __cplusplus
+}
+#endif
+
+#endif
