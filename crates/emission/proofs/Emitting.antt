@@ -9,6 +9,7 @@ use Rattle.format.specs.Table.{Sort, type-sort, term-sort, refers, Row, rowOf}
 use Rattle.format.specs.Cell.{IsBytes, Cell, cellAt}
 use Rattle.format.specs.Tree.{Tree, node, refer}
 use Rattle.format.specs.Book.{sizeLimit}
+use Rattle.format.proofs.Tests.{cell-fits}
 use Rattle.cells.specs.Coded.{useOf, rowFrom}
 use Rattle.cells.specs.declared.Cell.{Cell as Struct}
 use Rattle.cells.specs.declared.Entry.{Entry}
@@ -17,17 +18,17 @@ use Rattle.emission.specs.declared.Laid.{Laid}
 use Rattle.emission.specs.declared.Laid.the-variants.{Next, Full}
 use Rattle.emission.proofs.Compose.{Placed, placed, no-room, placed-space, emits-raw, refer-stands, refer-ready, refer-fits}
 use Rattle.emission.proofs.Compose.{emits-node, full-first, full-second, full-third}
-use Rattle.emission.proofs.Fields.{fields-fit, field-stands}
+use Rattle.emission.proofs.Fields.{field-stands}
 
 -- ---- the row of a kind, as the code has it
 
-record Uses (y : Entry) (r : Row) : Type 0 where
-  label : r .label ≡ useOf (y .label)
-  a : r .a ≡ useOf (y .a)
-  b : r .b ≡ useOf (y .b)
-  c : r .c ≡ useOf (y .c)
+pub record Uses (y : Entry) (r : Row) : Type 0 where
+  pub label : r .label ≡ useOf (y .label)
+  pub a : r .a ≡ useOf (y .a)
+  pub b : r .b ≡ useOf (y .b)
+  pub c : r .c ≡ useOf (y .c)
 
-uses : (k : ℕ) (y : Entry) (r : Row) → rowFrom k y ≡ some r → Uses y r
+pub uses : (k : ℕ) (y : Entry) (r : Row) → rowFrom k y ≡ some r → Uses y r
 uses k y r e = go (y .sort) refl
   where
     by-sort : (o : Sort)
@@ -163,8 +164,8 @@ module _ {s d : List ℕ} {i m : ℕ} {t : Cell} {y : Entry} (j : Started s d i 
   pub less : {n : ℕ} → 2 * i + 1 ≡ n → (fieldMeasure (y .a) (t .a) < n) × (fieldMeasure (y .b) (t .b) < n) × (fieldMeasure (y .c) (t .c) < n)
   less e = (field-less (y .a) (own .holds-a) e, field-less (y .b) (own .holds-b) e, field-less (y .c) (own .holds-c) e)
 
-  fits : (t .a < 65536) × (t .b < 65536) × (t .c < 65536)
-  fits = rw (j .cell) (fields-fit s (j .bytes) i)
+  fits : (t .label < 256) × (t .a < 65536) × (t .b < 65536) × (t .c < 65536)
+  fits = rw (j .cell) (cell-fits s (j .bytes) i)
 
   pub first-ready : FieldReady s d (y .a) (t .a) m
   first-ready = record { space = j .ready .space; cell = i; tree = own .a; holds = own .holds-a }
@@ -219,9 +220,9 @@ module _ {s d f g h : List ℕ} {i m x v w : ℕ} {t : Cell} {y : Entry} (k : Pa
       record {
         long = placed-space (third-ready (k .started) (k .first) (k .second) .space) (k .third .says i (o .c) (o .holds-c)) .long;
         fits = record {
-          a = rw ea (went-fits (k .first) (o .holds-a) (l .0));
-          b = rw eb (went-fits (k .second) (o .holds-b) (l .1));
-          c = rw ec (went-fits (k .third) (o .holds-c) (l .2));
+          a = rw ea (went-fits (k .first) (o .holds-a) (l .1));
+          b = rw eb (went-fits (k .second) (o .holds-b) (l .2));
+          c = rw ec (went-fits (k .third) (o .holds-c) (l .3));
         };
       }
 

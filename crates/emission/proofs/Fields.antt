@@ -1,15 +1,15 @@
 -- A held type and a held term are held fields; what a call of `emit_field` needs and says of them. Assumes nothing.
-use Prim.Native.Nat.{ℕ, suc, _+_, _*_, _/_, _%_, _<_}
+use Prim.Native.Nat.{ℕ, suc, _+_, _*_, _<_}
 use native.Mathlib.Omega.{arith}
 use mathlib.Core.Path.{_≡_, refl}
 use mathlib.Core.List.{List}
 use lib.IntN.{ℤ}
 use Rattle.calculus.specs.Syntax.{Ty, Term, lit}
 use Rattle.format.specs.Table.{Sort, Use, refers, table, rowIn, rowOf}
-use Rattle.format.specs.Cell.{IsBytes, pair, cellAt, half, signed}
+use Rattle.format.specs.Cell.{IsBytes, half, signed}
 use Rattle.format.specs.Tree.{Tree, raw, node, cells}
 use Rattle.format.specs.Terms.{fromType, fromTerm}
-use Rattle.format.proofs.Numbers.{unsigned-signed}
+use Rattle.format.proofs.Tests.{number, cell-fits}
 use Rattle.cells.specs.Held.{IsCell, HoldsType, h-int, h-top, h-arrow, h-inter, h-field}
 use Rattle.cells.specs.Held.{HoldsTerm, h-var, h-lit, h-unit, h-anno, h-app, h-lam, h-merge, h-fix, h-rcd, h-proj}
 use Rattle.emission.specs.Emits.{Space, Emits, HeldField, f-unused, f-plain, f-refers, FieldReady, EmitsField}
@@ -24,29 +24,13 @@ type-field (h-arrow p c u v x y) l = f-refers l p refl refl (type-field x u) (ty
 type-field (h-inter p c u v x y) l = f-refers l p refl refl (type-field x u) (type-field y v) f-unused
 type-field (h-field p c u x) l = f-refers l p refl refl (type-field x u) f-unused f-unused
 
--- the fields of a cell are two bytes each
-pair-fits : (s : List ℕ) → IsBytes s → (j : ℕ) → pair s j < 65536
-pair-fits s y j = omega (arith, y j, y (j + 1))
-
-pub fields-fit : (s : List ℕ) → IsBytes s → (i : ℕ) → (cellAt s i .a < 65536) × (cellAt s i .b < 65536) × (cellAt s i .c < 65536)
-unfolding cellAt
-fields-fit s y i = (pair-fits s y (8 * i + 2), pair-fits s y (8 * i + 4), pair-fits s y (8 * i + 6))
-
--- so a number is stored again as it was read
-number : (x y : ℕ) → x < 65536 → y < 65536 → fromTerm (lit (signed half (x + 65536 * y))) ≡ node 17 0 (raw 0) (raw x) (raw y)
-unfolding fromTerm
-number x y f g =
-    rw (unsigned-signed half (x + 65536 * y) (omega arith))
-    (let p : (x + 65536 * y) % 65536 ≡ x = omega arith in
-    let q : (x + 65536 * y) / 65536 ≡ y = omega arith in
-    cc)
-
+-- a number is stored again as it was read
 number-field : {s : List ℕ} {i n l a b c : ℕ} {o : Sort} {z : ℤ} → IsBytes s → IsCell s i 17 l a b c → z ≡ signed half (b + 65536 * c) → i < n
     → HeldField s n (refers o) i (fromTerm (lit z))
 unfolding table rowIn rowOf
 number-field {s} {i} {b = b} {c = c} y p z l =
-    let f = rw (p .is) at (fields-fit s y i) in
-    rw (z, number b c (f .1) (f .2)) (f-refers l p refl refl f-unused f-plain f-plain)
+    let f = rw (p .is) at (cell-fits s y i) in
+    rw (z, number b c (f .2) (f .3)) (f-refers l p refl refl f-unused f-plain f-plain)
 
 pub term-field : {s : List ℕ} {i n : ℕ} {o : Sort} {e : Term} → IsBytes s → HoldsTerm s i e → i < n → HeldField s n (refers o) i (fromTerm e)
 unfolding fromTerm table rowIn rowOf

@@ -232,7 +232,7 @@ view P (q ∷ rs) h k r e =
     pick (λ r. (k ≡ r .kind) × P r) (eqb k (q .kind)) q (rowIn rs k) r (λ t. (eqb-true k (q .kind) t, h .0)) (view P rs (h .1) k r) e
 
 -- a number's two halves, put together and stored again
-number : (x y : ℕ) → x < 65536 → y < 65536 → fromTerm (lit (signed half (x + 65536 * y))) ≡ node 17 0 (raw 0) (raw x) (raw y)
+pub number : (x y : ℕ) → x < 65536 → y < 65536 → fromTerm (lit (signed half (x + 65536 * y))) ≡ node 17 0 (raw 0) (raw x) (raw y)
 unfolding fromTerm
 number x y f g =
     rw (unsigned-signed half (x + 65536 * y) (omega arith))

@@ -1,4 +1,3 @@
-pub mod Rows
 pub mod Marking
 pub mod Valuing
 pub mod Loading

@@ -14,23 +14,22 @@ use lib.Dec.{eqb}
 use borrow.Author.Tests.{eqb-false}
 use Rattle.calculus.specs.Syntax.{Ty, Term}
 use Rattle.format.specs.Table.{Sort, type-sort, term-sort, Use, unused, plain, refers, Row, table, rowIn, rowOf}
-use Rattle.format.specs.Cell.{IsBytes, pair, Cell, cellAt, cellBytes}
+use Rattle.format.specs.Cell.{IsBytes, Cell, cellAt, cellBytes}
 use Rattle.format.specs.Tree.{Tree, raw, node, branch, grow, treeAt}
 use Rattle.format.specs.Terms.{plainOf, toType, toTerm}
 use Rattle.format.specs.Book.{sortIs, hasSort}
-use Rattle.format.proofs.Tests.{FieldOk, CellOk, cellFault-says, sortIs-says}
+use Rattle.format.proofs.Tests.{FieldOk, CellOk, cellFault-says, sortIs-says, All, _also_, view, cell-fits}
 use Rattle.format.proofs.Opening.{branch-lower, treeAt-grow}
 use Rattle.cells.specs.Coded.{CellFits, rowFrom}
 use Rattle.cells.specs.declared.Cell.{Cell as Struct}
 use Rattle.cells.specs.declared.Entry.{Entry}
-use Rattle.cells.specs.Held.{IsCell, mark, HoldsType, h-int, h-top, h-arrow, h-inter, h-field, Same}
+use Rattle.cells.specs.Held.{IsCell, mark, valueMark, HoldsType, h-int, h-top, h-arrow, h-inter, h-field, Same}
 use Rattle.cells.specs.Held.{HoldsTerm, h-var, h-lit, h-unit, h-anno, h-app, h-lam, h-merge, h-fix, h-rcd, h-proj}
 use Rattle.cells.proofs.Held.{same-cell, same-type, same-term, Written, written, term-one}
-use Rattle.loading.proofs.Rows.{All, _also_, view}
 use Rattle.loading.proofs.Marking.{small}
 use Rattle.loading.proofs.Valuing.{values-fit}
 use Rattle.loading.specs.Loaded.{Loadable, Loaded, LoadsNext, TypeCell, t-int, t-top, t-arrow, t-inter, t-field, Markable, Marks}
-use Rattle.loading.specs.Loaded.{valueMark, Valued, TermCell, t-merge, t-record, t-other, Valuable, Values}
+use Rattle.loading.specs.Loaded.{Valued, TermCell, t-merge, t-record, t-other, Valuable, Values}
 
 -- Field x of cell i, opened to the tree t: a reference holds what it opens to.
 abbrev Held : List ℕ → ℕ → Use → ℕ → Tree → Type 0
@@ -201,14 +200,6 @@ term-row k y r e u = go (y .sort) refl
     go (suc (suc zero)) q = absurd (u q)
     go (suc (suc (suc n))) q = sym (ap (λ (x : Row). x .sort) (Option·some-injective _ r (rw q at e)))
 
--- the fields of a cell are two bytes each
-pair-fits : (s : List ℕ) → IsBytes s → (j : ℕ) → pair s j < 65536
-pair-fits s y j = omega (arith, y j, y (j + 1))
-
-cell-fits : (s : List ℕ) → IsBytes s → (i : ℕ) → (cellAt s i .a < 65536) × (cellAt s i .b < 65536) × (cellAt s i .c < 65536)
-unfolding cellAt
-cell-fits s y i = (pair-fits s y (8 * i + 2), pair-fits s y (8 * i + 4), pair-fits s y (8 * i + 6))
-
 -- Cell i before it is written: t as it was read, y its row as the code found it.
 pub record Read (b s : List ℕ) (i : ℕ) (t : Cell) (y : Entry) : Type 0 where
   pub next : LoadsNext b s i
@@ -242,18 +233,18 @@ module _ {b s : List ℕ} {i : ℕ} {t : Cell} {y : Entry} (n : Read b s i t y) 
   pub valuable : (y .sort ≡ 2 → ⊥) → Valuable s t
   valuable q = record { term = toTerm (treeAt b i); names = term-cell q }
 
-  fields-fit : (t .a < 65536) × (t .b < 65536) × (t .c < 65536)
+  fields-fit : (t .label < 256) × (t .a < 65536) × (t .b < 65536) × (t .c < 65536)
   fields-fit = rw (n .cell) (cell-fits b (n .bytes) i)
 
   third-fits : {c : ℕ} → NewThird s t y c → c < 65536
   third-fits (of-type q h) = omega (arith, small (toType (treeAt b i)), h .is i (toType (treeAt b i)) (type-cell q))
-  third-fits (of-term q h) = values-fit (term-cell q) (fields-fit .2) h
+  third-fits (of-term q h) = values-fit (term-cell q) (fields-fit .3) h
 
   pub room : 8 * i + 8 ≤ length s
   room = omega (arith, n .next .done .long, n .next .few)
 
   pub fits : {z : Struct} → z .a ≡ t .a → z .b ≡ t .b → NewThird s t y (z .c) → CellFits z
-  fits p q h = record { a = rw p (fields-fit .0); b = rw q (fields-fit .1); c = third-fits h }
+  fits p q h = record { a = rw p (fields-fit .1); b = rw q (fields-fit .2); c = third-fits h }
 
   -- what the cell holds once it is written
   holds : {s′ : List ℕ} {c : ℕ} → NewThird s t y c → Loaded b s′ i

@@ -9,9 +9,9 @@ use mathlib.Core.List.{List}
 use Rattle.calculus.specs.Syntax.{Term}
 use Rattle.calculus.specs.Decide.{value?}
 use Rattle.format.specs.Cell.{Cell, cellAt}
-use Rattle.cells.specs.Held.{HoldsTerm, h-var, h-lit, h-unit, h-anno, h-app, h-lam, h-merge, h-fix, h-rcd, h-proj}
+use Rattle.cells.specs.Held.{valueMark, HoldsTerm, h-var, h-lit, h-unit, h-anno, h-app, h-lam, h-merge, h-fix, h-rcd, h-proj}
 use Rattle.cells.proofs.Held.{lit-at, unit-at, lam-at}
-use Rattle.loading.specs.Loaded.{valueMark, SomeValued, SaysValue, TermCell, t-merge, t-record, t-other, Values}
+use Rattle.loading.specs.Loaded.{SomeValued, SaysValue, TermCell, t-merge, t-record, t-other, Values}
 use Rattle.loading.proofs.Marking.{both-marked, one-or-none}
 
 -- ---- a term that is held, by the kind of its cell

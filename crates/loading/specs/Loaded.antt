@@ -1,7 +1,7 @@
 -- A book's cells in a buffer, ready for typing and for the run. Assumes nothing.
 use Prim.Native.Nat.{ℕ, _+_, _*_, _≤_, _<_}
 use mathlib.Core.Path.{_≡_}
-use mathlib.Core.Bool.{true, cond}
+use mathlib.Core.Bool.{true}
 use mathlib.Core.Logic.{_⊎_}
 use mathlib.Core.Option.{none}
 use mathlib.Core.List.{List}
@@ -9,12 +9,11 @@ use lib.ListN.{length}
 use Rattle.format.specs.Table.{type-sort, term-sort}
 use Rattle.calculus.specs.Syntax.{Ty, int, top, arrow, inter, field}
 use Rattle.calculus.specs.Syntax.{Term, merge, rcd}
-use Rattle.calculus.specs.Decide.{value?}
 use Rattle.format.specs.Cell.{Cell, cellAt}
 use Rattle.format.specs.Tree.{treeAt}
 use Rattle.format.specs.Terms.{toType, toTerm}
 use Rattle.format.specs.Book.{cellFault, hasSort}
-use Rattle.cells.specs.Held.{mark, HoldsType, HoldsTerm}
+use Rattle.cells.specs.Held.{mark, valueMark, HoldsType, HoldsTerm}
 
 -- The n cells before a book's trailer, which rows 5 to 8 do not meet, and a buffer of 8,192 cells.
 pub record Loadable (b s : List ℕ) (n : ℕ) : Type 0 where
@@ -22,10 +21,6 @@ pub record Loadable (b s : List ℕ) (n : ℕ) : Type 0 where
   pub few : n ≤ 4095
   pub sound : (i : ℕ) → i < n → cellFault b i ≡ none
   pub long : length s ≡ 65536
-
--- 1 of a value, else 0
-abbrev pub valueMark : Term → ℕ
-valueMark e = cond (value? e) 1 0
 
 -- Each cell holds what it opens to in the book, and refers where it refers there. A merge and a record carry in field c, which neither
 -- names, whether they are values.

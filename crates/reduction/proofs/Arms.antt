@@ -25,10 +25,11 @@ use Rattle.emission.specs.declared.Laid.{Laid}
 use Rattle.emission.specs.declared.Laid.the-variants.{Next, Full}
 use Rattle.emission.proofs.Compose.{Placed, placed, no-room, placed-space, term-positive, refer-last, refer-stands, refer-ready, refer-fits}
 use Rattle.emission.proofs.Compose.{emits-two, full-first, full-second}
-use Rattle.emission.proofs.Fields.{fields-fit, type-field, term-field, field-stands, ready-term, emits-term}
+use Rattle.format.proofs.Tests.{cell-fits}
+use Rattle.emission.proofs.Emitting.{uses}
+use Rattle.emission.proofs.Fields.{type-field, term-field, field-stands, ready-term, emits-term}
 use Rattle.reading.specs.Reads.{ReadingReady, EmitsReading}
 use Rattle.reduction.specs.Steps.{SaysValue, MarkedTerm, NextReady, NextAt, FirstReady, SecondReady, ApplyReady, EmitsNext}
-use Rattle.reduction.proofs.Rows.{uses}
 use Rattle.reduction.proofs.Two.{filled, last-of, last-two, emits-last}
 use Rattle.reduction.proofs.Nexts.{no-answer, Stepped, anno-reads, anno-steps, app-first, app-second, merge-first, merge-second, rcd-steps, proj-projects, proj-steps}
 use Rattle.reduction.proofs.Nexts.{unit-projects, projected}
@@ -147,7 +148,7 @@ module _ {s d : List ℕ} {i m : ℕ} {t : Cell} {y : Entry} (j : FirstStarted s
       part-last ea eb ec =
           let k = part-placed first-own in
           let o = rest-placed first-own in
-          let small : t .b < 65536 = rw (j .cell) (fields-fit s (j .bytes) i .1) in
+          let small : t .b < 65536 = rw (j .cell) (cell-fits s (j .bytes) i .2) in
           last-of (placed-space (rest-ready .space) o) (k .fits) ea (rw eb (refer-fits (useOf (y .b)) (t .b) z small (o .fits))) ec
 
       pub part-emits : {e : List ℕ} {n b : ℕ} {k : Laid} → n ≡ labelBy (useOf (y .label)) (t .label) → b ≡ referBy (useOf (y .b)) (t .b) z

@@ -1,5 +1,4 @@
 pub mod Values
-pub mod Rows
 pub mod Sources
 pub mod Puts
 pub mod Two

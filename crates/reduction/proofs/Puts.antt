@@ -1,6 +1,6 @@
 -- A body with a source put in, by the cell of the body and the row of its kind: what each call needs, and what it leaves. Over kind and
 -- field; that the trees of a term and its fields agree is one line a kind. Assumes nothing.
-use Prim.Native.Nat.{ℕ, zero, suc, _+_, _*_, _/_, _%_, _≤_, _<_}
+use Prim.Native.Nat.{ℕ, zero, suc, _+_, _*_, _≤_, _<_}
 use native.Mathlib.Numerals.{add-one}
 use native.Mathlib.Omega.{arith}
 use mathlib.Core.Path.{_≡_, refl, _∙_}
@@ -10,12 +10,12 @@ use mathlib.Core.Option.{some}
 use mathlib.Core.List.{List}
 use lib.Dec.{eqb}
 use borrow.Author.Tests.{eq-eqb, ne-eqb}
-use Rattle.calculus.specs.Syntax.{Term, var, lit, put}
+use Rattle.calculus.specs.Syntax.{Term, var, put}
 use Rattle.format.specs.Table.{Use, Row, table, rowIn, rowOf}
-use Rattle.format.specs.Cell.{IsBytes, Cell, cellAt, half, signed}
-use Rattle.format.specs.Tree.{Tree, raw, node}
+use Rattle.format.specs.Cell.{IsBytes, Cell, cellAt}
+use Rattle.format.specs.Tree.{Tree, node}
 use Rattle.format.specs.Terms.{fromTerm}
-use Rattle.format.proofs.Numbers.{unsigned-signed}
+use Rattle.format.proofs.Tests.{number, cell-fits}
 use Rattle.cells.specs.Held.{IsCell}
 use Rattle.cells.specs.Held.{HoldsTerm, h-var, h-lit, h-unit, h-anno, h-app, h-lam, h-merge, h-fix, h-rcd, h-proj}
 use Rattle.cells.specs.Coded.{useOf, rowFrom}
@@ -27,11 +27,11 @@ use Rattle.emission.specs.declared.Laid.{Laid}
 use Rattle.emission.specs.declared.Laid.the-variants.{Next, Full}
 use Rattle.emission.proofs.Compose.{Placed, placed, no-room, placed-space, Stands, s-unused, s-plain, s-refers, refer-stands, refer-ready, refer-fits}
 use Rattle.emission.proofs.Compose.{type-positive, term-positive, emits-node, full-first, full-second, full-third}
-use Rattle.emission.proofs.Fields.{fields-fit, type-field, emits-term}
+use Rattle.emission.proofs.Emitting.{uses}
+use Rattle.emission.proofs.Fields.{type-field, emits-term}
 use Rattle.reduction.specs.Steps.{Puts, SourceReady, EmitsSource, inside, PutField, p-unused, p-plain, p-type, p-term}
 use Rattle.reduction.specs.Steps.{FieldPutReady, EmitsPutField, PutReady, EmitsPut}
 use Rattle.reduction.specs.declared.Source.{Source}
-use Rattle.reduction.proofs.Rows.{uses}
 
 -- ---- binders
 
@@ -150,15 +150,6 @@ record Opened (s : List ℕ) (i k : ℕ) (t : Cell) (y : Entry) (g : ℕ) (x e :
   holds-b : PutField s i k x (useOf (y .b)) (t .b) b
   holds-c : PutField s i k x (useOf (y .c)) (t .c) c
 
--- a number is stored again as it was read
-number : (x y : ℕ) → x < 65536 → y < 65536 → fromTerm (lit (signed half (x + 65536 * y))) ≡ node 17 0 (raw 0) (raw x) (raw y)
-unfolding fromTerm
-number x y f g =
-    rw (unsigned-signed half (x + 65536 * y) (omega arith))
-    (let p : (x + 65536 * y) % 65536 ≡ x = omega arith in
-    let q : (x + 65536 * y) / 65536 ≡ y = omega arith in
-    cc)
-
 module _ {s d : List ℕ} {i k m : ℕ} {p : Source} {t : Cell} {y : Entry} {g : ℕ} (j : Started s d i k m p t y g) (x : Term) where
   by-row : {kind l a b c : ℕ} {r : Row} {e : Term} {f h o : Tree} → IsCell s i kind l a b c → rowOf kind ≡ some r
       → fromTerm (put k x e) ≡ node kind (labelBy (r .label) l) f h o
@@ -181,8 +172,8 @@ module _ {s d : List ℕ} {i k m : ℕ} {p : Source} {t : Cell} {y : Entry} {g :
   unfolding fromTerm put table rowIn rowOf
   opened (h-var q) = absurd (j .inner (rw (j .cell, q .is)))
   opened (h-lit {b = b} {c = c} q z) =
-      let f = rw (q .is) at (fields-fit s (j .bytes) i) in
-      by-row q refl (rw z (number b c (f .1) (f .2))) p-unused p-plain p-plain
+      let f = rw (q .is) at (cell-fits s (j .bytes) i) in
+      by-row q refl (rw z (number b c (f .2) (f .3))) p-unused p-plain p-plain
   opened (h-unit q) = by-row q refl refl p-unused p-unused p-unused
   opened (h-anno q u v f h) = by-row q refl refl (p-term u f) (p-type v h) p-unused
   opened (h-app q u v f h) = by-row q refl refl (p-term u f) (p-term v h) p-unused
@@ -207,8 +198,8 @@ module _ {s d : List ℕ} {i k m : ℕ} {p : Source} {t : Cell} {y : Entry} {g :
   pub less : {n : ℕ} → 2 * i + 1 ≡ n → (putMeasure (y .a) (t .a) < n) × (putMeasure (y .b) (t .b) < n) × (putMeasure (y .c) (t .c) < n)
   less e = (put-less (y .a) (own .holds-a) e, put-less (y .b) (own .holds-b) e, put-less (y .c) (own .holds-c) e)
 
-  fits : (t .a < 65536) × (t .b < 65536) × (t .c < 65536)
-  fits = rw (j .cell) (fields-fit s (j .bytes) i)
+  fits : (t .label < 256) × (t .a < 65536) × (t .b < 65536) × (t .c < 65536)
+  fits = rw (j .cell) (cell-fits s (j .bytes) i)
 
   -- the source, at the next free cell
   abbrev source-at : {e : List ℕ} {n : ℕ} → Space e n → SourceReady s e n p
@@ -305,9 +296,9 @@ module _ {s d f a h : List ℕ} {i k m x v w : ℕ} {p : Source} {t : Cell} {y :
       record {
         long = placed-space (third-ready (j .started) (j .first) (j .second) .source .space) (all-placed .2) .long;
         fits = record {
-          a = rw ea (refer-fits (useOf (y .a)) (t .a) x (l .0) (all-placed .0 .fits));
-          b = rw eb (refer-fits (useOf (y .b)) (t .b) v (l .1) (all-placed .1 .fits));
-          c = rw ec (refer-fits (useOf (y .c)) (t .c) w (l .2) (all-placed .2 .fits));
+          a = rw ea (refer-fits (useOf (y .a)) (t .a) x (l .1) (all-placed .0 .fits));
+          b = rw eb (refer-fits (useOf (y .b)) (t .b) v (l .2) (all-placed .1 .fits));
+          c = rw ec (refer-fits (useOf (y .c)) (t .c) w (l .3) (all-placed .2 .fits));
         };
       }
 

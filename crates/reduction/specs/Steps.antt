@@ -13,15 +13,11 @@ use Rattle.format.specs.Cell.{cellAt}
 use Rattle.format.specs.Table.{Use, unused, plain, refers, type-sort, term-sort}
 use Rattle.format.specs.Tree.{Tree, raw}
 use Rattle.format.specs.Terms.{fromType, fromTerm}
-use Rattle.cells.specs.Held.{HoldsType, HoldsTerm}
+use Rattle.cells.specs.Held.{valueMark, HoldsType, HoldsTerm}
 use Rattle.cells.specs.Coded.{useOf}
 use Rattle.emission.specs.Emits.{Space, Emits}
 use Rattle.emission.specs.declared.Laid.{Laid}
 use Rattle.reduction.specs.declared.Source.{Source}
-
--- 1 of a value, else 0
-abbrev pub valueMark : Term → ℕ
-valueMark e = cond (value? e) 1 0
 
 -- Among the first n cells, merges and records carry in field c, which neither names, whether they are values.
 pub record ValuesMarked (s : List ℕ) (n : ℕ) : Type 0 where

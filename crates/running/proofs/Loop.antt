@@ -127,7 +127,7 @@ going-more {l} {n} {c} {k} {w₀} {w} {v} {r} {x} h g s q = by (s .says (p .term
 pub going-ready : {l n c k : ℕ} {s w₀ w : List ℕ} → TypedLies w₀ n → length s ≡ 65536 → AllGoing l n w₀ w c k → StepReady s w c
 going-ready h b g =
     let p = g (h .term) (h .type) (h .lies) (h .typed) in
-    record { long = b; term = p .term; lies = p .lies; type = p .type; typed = p .typed }
+    record { long = b; at = record { term = p .term; lies = p .lies; type = p .type; typed = p .typed } }
 
 pub going-long : {l n c k : ℕ} {w₀ w : List ℕ} → TypedLies w₀ n → AllGoing l n w₀ w c k → length w ≡ length w₀
 going-long h g = g (h .term) (h .type) (h .lies) (h .typed) .lies .long ∙ sym (h .lies .long)

@@ -36,7 +36,7 @@ use Rattle.emission.specs.declared.Laid.the-variants as Out
 use Rattle.emission.proofs.Fields.{ready-term, emits-term}
 use Rattle.loading.specs.Loaded.{Loaded}
 use Rattle.reduction.specs.Steps.{SaysValue, NextReady, EmitsNext}
-use Rattle.running.specs.Turns.{Lies, StepReady, TurnOf, t-value, t-spent, t-room, t-next, Steps}
+use Rattle.running.specs.Turns.{Lies, TurnOf, t-value, t-spent, t-room, t-next, Steps}
 use Rattle.running.specs.declared.State.{State}
 use Rattle.running.specs.declared.Turn.the-variants.{Next, Ended}
 use Rattle.running.proofs.Lying.{positive, held, marked, lies-emitted}

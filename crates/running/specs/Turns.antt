@@ -33,13 +33,17 @@ pub record Lies (w : List ℕ) (n : ℕ) (e : Term) : Type 0 where
   pub fits : TermFits e
   pub lies : take (8 * n) w ≡ lay 0 (fromTerm e)
 
--- A buffer of 8,192 cells to load into, and a typed term that lies in the work buffer.
-pub record StepReady (s w : List ℕ) (n : ℕ) : Type 0 where
-  pub long : length s ≡ 65536
+-- A typed term lies so.
+pub record TypedLies (w : List ℕ) (n : ℕ) : Type 0 where
   pub term : Term
   pub lies : Lies w n term
   pub type : Ty
   pub typed : Typed [] term type
+
+-- The same, and a buffer of 8,192 cells to load into.
+pub record StepReady (s w : List ℕ) (n : ℕ) : Type 0 where
+  pub long : length s ≡ 65536
+  pub at : TypedLies w n
 
 -- One turn of e, which lies in n cells, after k steps of at most l: r is the answer, and v the work buffer then. "value when the term is
 -- one; else spent when exactly the limit has been taken; else no room when the successor's size exceeds 4,095"
@@ -64,12 +68,6 @@ pub record RunOf (v : List ℕ) (l : ℕ) (e : Term) (r : End) : Type 0 where
 
 pub record Runs (w v : List ℕ) (n l : ℕ) (r : End) : Type 0 where
   pub says : (e : Term) (A : Ty) → Lies w n e → Typed [] e A → RunOf v l e r
-
-pub record TypedLies (w : List ℕ) (n : ℕ) : Type 0 where
-  pub term : Term
-  pub lies : Lies w n term
-  pub type : Ty
-  pub typed : Typed [] term type
 
 pub record SomeLies (w : List ℕ) (n : ℕ) : Type 0 where
   pub term : Term

@@ -29,20 +29,20 @@ slice-reshare-prefix-load c = search needs
 -- src/lib.rt:38:10
 slice-aggregate-load : tie.Need-slice-aggregate-load
 slice-aggregate-load c =
-    let l = c .before .before .before .pre .0 .lies in
+    let l = c .before .before .before .pre .0 .at .lies in
     sym (length-take-le _ _ (omega (arith, l .long, l .count, l .small)))
 
 -- src/lib.rt:38:5
 load-requires : tie.Need-load-requires
-load-requires c κs = loadable (c .before .before .before .before .pre .0 .lies) (c .before .before .before .before .pre .0 .long)
+load-requires c κs = loadable (c .before .before .before .before .pre .0 .at .lies) (c .before .before .before .before .pre .0 .long)
 
 -- src/lib.rt:39:20
 sub-is-value : tie.Need-sub-is-value
-sub-is-value c = positive (c .before .before .before .before .before .before .before .before .pre .0 .lies)
+sub-is-value c = positive (c .before .before .before .before .before .before .before .before .pre .0 .at .lies)
 
 -- src/lib.rt:39:8
 is-value-requires : tie.Need-is-value-requires
-is-value-requires c κs = marked (c .before .before .before .before .before .before .before .before .pre .0 .lies) (c .before .before .before .load .ensures)
+is-value-requires c κs = marked (c .before .before .before .before .before .before .before .before .pre .0 .at .lies) (c .before .before .before .load .ensures)
 
 -- src/lib.rt:40:9
 same-length : tie.Need-same-length
@@ -70,12 +70,12 @@ returns-2 c = turn-spent (c .before .before .before .before .before .before .loa
 
 -- src/lib.rt:45:44
 sub-emit-next : tie.Need-sub-emit-next
-sub-emit-next c = positive (c .before .before .before .before .before .before .before .before .before .before .before .before .before .pre .0 .lies)
+sub-emit-next c = positive (c .before .before .before .before .before .before .before .before .before .before .before .before .before .pre .0 .at .lies)
 
 -- src/lib.rt:45:28
 emit-next-requires : tie.Need-emit-next-requires
 emit-next-requires c κs =
-    next-ready (c .before .before .before .before .before .before .before .before .load .ensures) (c .before .before .before .before .before .before .before .before .before .before .before .before .before .pre .0 .lies) (c .before .before .before .before .before .before .before .before .before .before .before .before .before .pre .0 .typed) (subst (SaysValue _ _) (c .before .before .before .if1 .left) (c .before .before .before .before .is-value .ensures))
+    next-ready (c .before .before .before .before .before .before .before .before .load .ensures) (c .before .before .before .before .before .before .before .before .before .before .before .before .before .pre .0 .at .lies) (c .before .before .before .before .before .before .before .before .before .before .before .before .before .pre .0 .at .typed) (subst (SaysValue _ _) (c .before .before .before .if1 .left) (c .before .before .before .before .is-value .ensures))
 
 -- src/lib.rt:45:23
 enum-known-m : tie.Need-enum-known-m
@@ -104,13 +104,13 @@ enum-told c = search needs
 
 -- src/lib.rt:48:25
 sub-emit-field : tie.Need-sub-emit-field
-sub-emit-field c = positive (c .before .before .before .before .before .before .before .before .before .before .before .before .before .before .before .before .before .before .before .before .pre .0 .lies)
+sub-emit-field c = positive (c .before .before .before .before .before .before .before .before .before .before .before .before .before .before .before .before .before .before .before .before .pre .0 .at .lies)
 
 -- src/lib.rt:48:5
 emit-field-requires : tie.Need-emit-field-requires
 emit-field-requires c κs =
     ready-term (λ i. c .before .before .before .before .before .before .before .before .before .before .before .before .before .slice-known3 .given i .fits)
-    (record { long = c .before .before .before .before .before .before .emit-next .kept .1 .0 ∙ c .before .before .before .before .before .before .before .before .before .before .before .before .before .before .before .before .before .before .before .before .pre .0 .lies .long; used = zero-le }) (held (c .before .before .before .before .before .before .before .before .before .before .before .before .before .before .before .before .before .before .before .before .pre .0 .lies) (c .before .before .before .before .before .before .before .before .before .before .before .before .before .before .before .load .ensures))
+    (record { long = c .before .before .before .before .before .before .emit-next .kept .1 .0 ∙ c .before .before .before .before .before .before .before .before .before .before .before .before .before .before .before .before .before .before .before .before .pre .0 .at .lies .long; used = zero-le }) (held (c .before .before .before .before .before .before .before .before .before .before .before .before .before .before .before .before .before .before .before .before .pre .0 .at .lies) (c .before .before .before .before .before .before .before .before .before .before .before .before .before .before .before .load .ensures))
 
 -- src/lib.rt:32:1
 same-length-7 : tie.Need-same-length-7
@@ -124,7 +124,7 @@ same-length-8 c = search needs
 returns-4 : tie.Need-returns-4
 returns-4 c =
     turn-room (c .before .before .before .before .before .before .before .before .before .before .before .before .before .before .before .before .before .before .load .ensures) (subst (SaysValue _ _) (c .before .before .before .before .before .before .before .before .before .before .before .before .before .if1 .left) (c .before .before .before .before .before .before .before .before .before .before .before .before .before .before .is-value .ensures)) (c .before .before .before .before .before .before .before .before .before .emit-next .ensures)
-    (λ i. c .before .before .before .before .before .before .before .before .before .before .before .before .before .before .before .before .slice-known3 .given i .fits) (c .before .before .before .before .before .before .before .before .before .emit-next .kept .1 .0 ∙ c .before .before .before .before .before .before .before .before .before .before .before .before .before .before .before .before .before .before .before .before .before .before .before .pre .0 .lies .long)
+    (λ i. c .before .before .before .before .before .before .before .before .before .before .before .before .before .before .before .before .slice-known3 .given i .fits) (c .before .before .before .before .before .before .before .before .before .emit-next .kept .1 .0 ∙ c .before .before .before .before .before .before .before .before .before .before .before .before .before .before .before .before .before .before .before .before .before .before .before .pre .0 .at .lies .long)
     (omega (arith, c .before .before .before .before .before .before .before .before .before .before .before .before .before .before .before .before .before .before .before .before .before .before .before .pre .1, c .before .before .before .before .before .before .before .before .before .before .before .before .if2 .left)) (c .before .before .before .before .before .enum-told .given .1) (c .before .before .emit-field .ensures)
 
 pub step-spec : {M : Type 1} → statement M
