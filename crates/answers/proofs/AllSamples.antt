@@ -15,7 +15,7 @@ use Rattle.format.specs.Terms.{fromType, fromTerm, plainOf, toType, toTerm}
 use Rattle.format.specs.Book.{sizeLimit, firstBad, rowFault, cellFault, cellsFinding, rootFinding, cellsForm, formFinding, follow, opened, trailer, book}
 use Rattle.answers.specs.Answer.{bad-buffer, spent, room, refused, Result, result}
 use Rattle.answers.specs.Engine.{IsWork, zeros, laid}
-use Rattle.answers.specs.Definition.{definition, turnedBack, afterTyping, afterForm, shown, full?, firstStop, ended, evaluate, told}
+use Rattle.answers.specs.Definition.{definition, turnedBack, afterTyping, afterForm, shown, full?, firstStop, ended, evaluate, told, reported}
 use Rattle.answers.specs.Definition.{judge, check, run}
 use Rattle.answers.specs.Samples as Samples
 use Rattle.answers.specs.Samples.{Call, Sample, called, expected, Holds, Every, samples}
@@ -38,7 +38,7 @@ answered s = by (s .call)
   where
     by : Call → Result
     by Samples.check = afterForm (s .book) shown (formFinding (s .book))
-    by (Samples.run l) = afterForm (s .book) (λ (A : Ty). told (evaluate sizeLimit l 0 (opened (s .book)))) (formFinding (s .book))
+    by (Samples.run l) = afterForm (s .book) (reported (s .book) l) (formFinding (s .book))
 
 -- the one computation
 computed : map answered samples ≡ map expected samples
@@ -51,7 +51,7 @@ as-answered s w k = by (s .call) refl
   where
     by : (c : Call) → s .call ≡ c → called definition (s .call) (s .book) w ≡ answered s
     by Samples.check e = rw (e, called, answered) (in-work (s .book) w shown k)
-    by (Samples.run l) e = rw (e, called, answered) (in-work (s .book) w (λ (A : Ty). told (evaluate sizeLimit l 0 (opened (s .book)))) k)
+    by (Samples.run l) e = rw (e, called, answered) (in-work (s .book) w (reported (s .book) l) k)
 
 each : (ss : List Sample) → map answered ss ≡ map expected ss → Every (Holds definition) ss
 each [] e = tt

@@ -23,7 +23,7 @@ use Rattle.format.proofs.Tests.{formFinding-says, opened-fits, opened-small}
 use Rattle.format.proofs.RoundTrip.{term-laid, TermLaid}
 use Rattle.answers.specs.Answer.{Refusal, bad-buffer, malformed, ill-typed, Stop, refused, accepted, stopped, stepsOf, Result, result}
 use Rattle.answers.specs.Engine.{Engine, workLength, IsWork, IsLimit, zeros}
-use Rattle.answers.specs.Definition.{definition, check, run, judge, afterForm, afterTyping, turnedBack, shown, told, evaluate}
+use Rattle.answers.specs.Definition.{definition, check, run, judge, afterForm, afterTyping, turnedBack, shown, told, evaluate, reported}
 use Rattle.answers.specs.Demands.{Accepts, Runs, Demand2, Demand3For, Demand3}
 use Rattle.answers.proofs.AllSamples.{in-work}
 use Rattle.answers.proofs.Fits.{reaches-fits}
@@ -145,7 +145,7 @@ definition-runs b w l bytes k a =
       stop = _;
       steps = _;
       term = _;
-      says = outcome b w (λ A. told (evaluate sizeLimit l 0 (opened b))) (t .1 .0) k (t .0) (t .1 .1);
+      says = outcome b w (reported b l) (t .1 .0) k (t .0) (t .1 .1);
       taken = r .taken;
       reached = r .reached;
       small = r .small;
@@ -166,7 +166,7 @@ turned-alike b w g h e = go (eqb (length w) workLength)
 definition-turns-back : (b w : List ℕ) (l : ℕ) → Judged b → ¬ Accepts definition b → run b w l ≡ check b w
 unfolding run check
 definition-turns-back b w l (inl t) n = absurd (n (typed-accepts b t))
-definition-turns-back b w l (inr x) n = turned-alike b w (λ A. told (evaluate sizeLimit l 0 (opened b))) shown (x .2 _ ∙ sym (x .2 shown))
+definition-turns-back b w l (inr x) n = turned-alike b w (reported b l) shown (x .2 _ ∙ sym (x .2 shown))
 
 pub demand2 : Demand2 definition
 unfolding check shown

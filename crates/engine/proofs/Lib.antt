@@ -1,4 +1,5 @@
 pub mod Parts
 pub mod Typing
+pub mod Judging
 pub mod Checked
 pub mod Ran

@@ -1,31 +1,19 @@
--- What the run answers is the definition's; demands 2 and 3 follow. Assumes nothing.
+-- The root laid down and run; what the definition answers to a run means what demands 2 and 3 say. Assumes nothing.
 use Prim.Native.Nat.{ℕ, zero-le}
-use mathlib.Core.Path.{_≡_, refl, sym, _∙_, ap, subst}
-use mathlib.Core.Logic.{_≢_, _⊎_, inl, inr}
-use mathlib.Core.Option.{Option, none, some}
-use mathlib.Core.List.{List, []}
+use mathlib.Core.Path.{_≡_, sym, subst}
+use mathlib.Core.Logic.{_≢_, inl, inr}
+use mathlib.Core.List.{List}
 use native.Mathlib.Omega.{arith}
-use borrow.Author.Tests.{ne-eqb}
-use lib.ListN.{length}
-use Rattle.calculus.specs.Syntax.{Ty, Term, size}
-use Rattle.calculus.specs.Infer as Infer
-use Rattle.calculus.specs.Infer.{infer}
-use Rattle.calculus.proofs.Inference.{infer-says}
+use Rattle.calculus.specs.Syntax.{Term, size}
 use Rattle.format.specs.Cell.{IsBytes}
-use Rattle.format.specs.Book.{Finding, formFinding, opened, rootOf, follow, sizeLimit, termBook}
-use Rattle.format.proofs.Tests.{formFinding-says, opened-small, opened-fits}
-use Rattle.answers.specs.Answer.{Result, result, stopped, refused, malformed, ill-typed}
-use Rattle.answers.specs.Engine.{IsWork, workLength, zeros, laid}
-use Rattle.answers.specs.Definition.{run, judge, afterForm, afterTyping, turnedBack, told, evaluate, ended, Ended}
+use Rattle.format.specs.Book.{opened}
+use Rattle.answers.specs.Answer.{Result, result}
+use Rattle.answers.specs.Definition.{run, judge, told, reported}
 use Rattle.answers.specs.Demands as Demands
-use Rattle.answers.proofs.AllSamples.{in-work}
 use Rattle.answers.proofs.Demands.{typed-accepts, definition-runs, demand3}
-use Rattle.outcome.specs.Numbers.{answerOf, refusalAnswer}
-use Rattle.outcome.specs.declared.Refusal.{Refusal}
-use Rattle.outcome.specs.declared.Refusal.the-variants.{Buffer}
-use Rattle.outcome.specs.declared.Stop.{Stop}
+use Rattle.outcome.specs.Numbers.{answerOf}
 use Rattle.outcome.specs.declared.Outcome.{Outcome}
-use Rattle.outcome.specs.declared.Outcome.the-variants.{Refused, Stopped}
+use Rattle.outcome.specs.declared.Outcome.the-variants.{Stopped}
 use Rattle.emission.specs.Emits.{FieldReady, EmitsField}
 use Rattle.emission.specs.declared.Laid.{Laid}
 use Rattle.emission.specs.declared.Laid.the-variants.{Next, Full}
@@ -34,11 +22,8 @@ use Rattle.running.specs.Turns.{Lies, TypedLies, SomeLies, Runs, Closes}
 use Rattle.running.specs.declared.End.{End}
 use Rattle.running.proofs.Lying.{lies-emitted}
 use Rattle.running.proofs.Turns.{WholeOrFull, whole-or-full}
-use Rattle.book.specs.Form.{FormCheck, FormsAs}
-use Rattle.book.specs.declared.Form.{Form}
-use Rattle.book.specs.declared.Form.the-variants as Form
-use Rattle.engine.specs.Check.{Begins, Formed}
-use Rattle.engine.specs.Run.{Ran, RootAt, SomeRoot, RunsRoot, RunsTyped}
+use Rattle.engine.specs.Check.{Gives}
+use Rattle.engine.specs.Run.{Ran, RootAt, SomeRoot, RunsRoot}
 
 -- ---- the root, laid down and run
 
@@ -79,57 +64,28 @@ module _ {s w : List ℕ} {i : ℕ} (bytes : IsBytes s) where
         unfolding told
         root-runs x =
             record {
-              answer = λ e p.
+              says = λ e p.
                   let k = y .says e (p .type) (root-lies q e p) (p .typed) in
-                  k .answer ∙ sym (ap (λ (o : Ended). told o .answer) (k .ends));
-              left = λ e p.
-                  let k = y .says e (p .type) (root-lies q e p) (p .typed) in
-                  x .says (k .term) (k .lies) ∙ sym (ap (λ (o : Ended). told o .left) (k .ends));
+                  rw (k .ends) (record { answer = k .answer; left = x .says (k .term) (k .lies) });
             }
 
--- ---- the rows, as in the check
+-- ---- what the definition answers, and so its meaning
 
-module _ {b w v : List ℕ} {l : ℕ} {r : Outcome} (bytes : IsBytes b) (a : answerOf r ≡ run b w l .answer) (e : v ≡ run b w l .left) where
-  ran-as : Ran b w v l r
-  ran-as =
+module _ {b w v : List ℕ} {l : ℕ} {r : Outcome} (bytes : IsBytes b) where
+  meaning : Gives v r (run b w l) → Ran b w v l r
+  meaning g =
       record {
-        answer = a;
-        left = e;
+        answer = g .answer;
+        left = g .left;
         runs = λ k f A t.
-            subst (λ (x : Result). Demands.Runs (opened b) l x) (sym (same a e))
+            subst (λ (x : Result). Demands.Runs (opened b) l x) (sym (same g))
             (definition-runs b w l bytes k (typed-accepts b (f, (A, t))));
         agree = λ p. demand3 b bytes p;
       }
     where
-      same : {x : Result} → answerOf r ≡ x .answer → v ≡ x .left → result (answerOf r) v ≡ x
-      same p q = rw (p, q)
+      same : {x : Result} → Gives v r x → result (answerOf r) v ≡ x
+      same h = rw (h .answer, h .left)
 
-pub run-row-1 : {b w : List ℕ} {l : ℕ} → IsBytes b → length w ≢ 65536 → Ran b w w l (Refused Buffer)
-unfolding run judge
-run-row-1 {b} {w} bytes n = ran-as bytes (rw (ne-eqb (length w) 65536 n, judge)) (rw (ne-eqb (length w) 65536 n, judge))
-
-pub run-rows-2-to-10 : {b w v : List ℕ} {l : ℕ} {q : Refusal} {x : Form} → IsBytes b → IsWork w → v ≡ zeros workLength → FormCheck b x →
-    x ≡ Form.Malformed q → Ran b w v l (Refused q)
-unfolding run afterForm turnedBack
-run-rows-2-to-10 {b} {w} {v} {l} {q} {x} bytes k z f e = go (formFinding b) refl (f .says)
-  where
-    go : (y : Option Finding) → formFinding b ≡ y → FormsAs b x y → Ran b w v l (Refused q)
-    go none g h = let n : _≡_ {A = ℕ} 0 1 = cc in absurd (omega arith)
-    go (some y) g h =
-        let p : run b w l ≡ turnedBack (malformed (y .fault)) (y .cell) = in-work b w (λ A. told (evaluate sizeLimit l 0 (opened b))) k ∙ rw g in
-        let s : q ≡ h .0 = cc in
-        ran-as bytes (ap refusalAnswer s ∙ h .2 ∙ sym (ap (λ (u : Result). u .answer) p)) (z ∙ sym (ap (λ (u : Result). u .left) p))
-
-pub run-past-row-10 : {b u w v : List ℕ} {i l : ℕ} {r : Outcome} → IsBytes b → IsWork w → Formed b u i → RunsTyped b v l r → Ran b w v l r
-unfolding run afterForm
-run-past-row-10 {b} {w = w} {l = l} bytes k f t =
-    let p : run b w l ≡ afterTyping b (λ A. told (evaluate sizeLimit l 0 (opened b))) (infer [] (opened b)) =
-    in-work b w (λ A. told (evaluate sizeLimit l 0 (opened b))) k ∙ rw (formFinding-says b .1 (f .form)) in
-    ran-as bytes (t .answer ∙ sym (ap (λ (u : Result). u .answer) p)) (t .left ∙ sym (ap (λ (u : Result). u .left) p))
-
-pub run-malformed : {b w v : List ℕ} {l : ℕ} {q : Refusal} {x : Form} → IsBytes b → Begins b w v x → x ≡ Form.Malformed q → Ran b w v l (Refused q)
-run-malformed {b} {w} {v} {l} {q} bytes (inl o) e =
-    let s = o .says in
-    let p : q ≡ Buffer = cc in
-    rw (p, o .left) (run-row-1 bytes (o .other))
-run-malformed bytes (inr o) e = run-rows-2-to-10 bytes (o .work) (o .left) (o .form) e
+  pub ran-as : Gives v r (judge b w (reported b l)) → Ran b w v l r
+  unfolding run
+  ran-as g = meaning g

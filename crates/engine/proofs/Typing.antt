@@ -1,4 +1,4 @@
--- From a loaded book to typing's answer, and from there to the check's. Assumes nothing.
+-- From a loaded book to what typing finds of its root, and from there to what both calls answer. Assumes nothing.
 use Prim.Native.Nat.{ℕ, zero, suc, _+_, _*_, _-_, _≤_, _<_}
 use mathlib.Core.Path.{_≡_, refl, sym, _∙_, ap, subst, subst⁻¹}
 use mathlib.Core.Bool.{Bool, true, false}
@@ -22,12 +22,11 @@ use Rattle.format.proofs.Trees.{type-cells}
 use Rattle.format.specs.Book.{count, hasSort, WellFormed, rootOf, follow, opened, typeBook, book, sizeLimit}
 use Rattle.format.proofs.Tests.{opened-small, opened-fits}
 use Rattle.format.proofs.RoundTrip.{book-length}
-use Rattle.answers.specs.Answer.{refused, accepted, ill-typed}
-use Rattle.answers.specs.Definition.{afterTyping, turnedBack, shown}
+use Rattle.answers.specs.Answer.{Result, refused, accepted, ill-typed}
+use Rattle.answers.specs.Definition.{afterTyping, turnedBack, shown, reported}
 use Rattle.answers.specs.Engine.{workLength, zeros, laid}
 use Rattle.outcome.specs.Numbers.{refusalAnswer}
 use Rattle.outcome.specs.declared.Refusal.{Refusal}
-use Rattle.outcome.specs.declared.Outcome.the-variants.{Accepted}
 use Rattle.cells.specs.Held.{HoldsType, HoldsTerm, h-empty}
 use Rattle.loading.specs.Loaded.{Loaded}
 use Rattle.layout.specs.Lays.{RoomForBook, LaysBook}
@@ -37,8 +36,8 @@ use Rattle.typing.specs.declared.Found.the-variants.{Typed, Refused}
 use Rattle.outcome.specs.declared.Outcome.{Outcome}
 use Rattle.outcome.specs.declared.Outcome.the-variants as Out
 use Rattle.cells.proofs.Held.{same-term}
-use Rattle.engine.specs.Check.{Formed, Types}
-use Rattle.engine.specs.Run.{RootAt, RunsRoot, RunsTyped}
+use Rattle.engine.specs.Check.{FindsRoot, finds, refuses, Formed, AfterTyping}
+use Rattle.engine.specs.Run.{RootAt, RunsRoot}
 use Rattle.engine.proofs.Parts.{cell-part, tree-part}
 
 -- a way from i on through cell y
@@ -89,40 +88,17 @@ module _ (b s : List ℕ) (bytes : IsBytes b) (f : WellFormed b) (l : Loaded (ta
       (λ i h. l .second i h ∙ ap (λ (t : Cell). t .b) (cell-part b (count b) i h))
       p (rootOf b) (f .formed .rooted)
 
-  module _ {t : List ℕ} {r : Found} (d : Finds s t (count b) 0 (rootOf b) r) where
-    answered : Answered s t (count b) (size (opened b)) (rootOf b) r (infer [] (opened b))
-    answered = d .says [] (opened b) h-empty root-held
-
-    -- the code's two cases are typing's
-    typed-case : {c k : ℕ} → r ≡ Typed c k → (A : Ty) × (infer [] (opened b) ≡ Infer.found A) × HoldsType t c A
-    typed-case {c} {k} e = go (infer [] (opened b)) refl answered
-      where
-        go : (x : Infer.Found) → infer [] (opened b) ≡ x → Answered s t (count b) (size (opened b)) (rootOf b) r x →
-            (A : Ty) × (infer [] (opened b) ≡ Infer.found A) × HoldsType t c A
-        go (Infer.found A) q a =
-            let z : a .0 ≡ c = cc in
-            (A, q, subst (λ (j : ℕ). HoldsType t j A) z (a .7))
-        go (Infer.refused w p) q a = let z : _≡_ {A = ℕ} 0 1 = cc in absurd (omega arith)
-
-    -- the book's cells are as they were
-    root-kept : {c k : ℕ} → r ≡ Typed c k → HoldsTerm t (rootOf b) (opened b)
-    root-kept {c} {k} e = go (infer [] (opened b)) answered
-      where
-        go : (x : Infer.Found) → Answered s t (count b) (size (opened b)) (rootOf b) r x → HoldsTerm t (rootOf b) (opened b)
-        go (Infer.found A) a = same-term (a .5) (f .formed .rooted) root-held
-        go (Infer.refused w p) a = let z : _≡_ {A = ℕ} 0 1 = cc in absurd (omega arith)
-
-    refused-case : {q : Refusal} → r ≡ Refused q → (w : Infer.Reason) × (p : List ℕ) × (infer [] (opened b) ≡ Infer.refused w p)
-        × (refusalAnswer q ≡ refused (ill-typed w) (follow b (rootOf b) p))
-    refused-case {q} e = go (infer [] (opened b)) refl answered
-      where
-        go : (x : Infer.Found) → infer [] (opened b) ≡ x → Answered s t (count b) (size (opened b)) (rootOf b) r x →
-            (w : Infer.Reason) × (p : List ℕ) × (infer [] (opened b) ≡ Infer.refused w p)
-            × (refusalAnswer q ≡ refused (ill-typed w) (follow b (rootOf b) p))
-        go (Infer.found A) y a = let z : _≡_ {A = ℕ} 0 1 = cc in absurd (omega arith)
-        go (Infer.refused w p) y a =
-            let z : q ≡ a .0 = cc in
-            (w, p, y, ap refusalAnswer z ∙ a .2 ∙ ap (λ (i : ℕ). refused (ill-typed w) i) (way-alike p))
+  -- what typing answers of the root: the book's cells are as they were
+  pub root-found : {t : List ℕ} {r : Found} → Finds s t (count b) 0 (rootOf b) r → FindsRoot b t (rootOf b) r
+  root-found {t} {r} d = go (infer [] (opened b)) refl (d .says [] (opened b) h-empty root-held)
+    where
+      go : (x : Infer.Found) → infer [] (opened b) ≡ x → Answered s t (count b) (size (opened b)) (rootOf b) r x → FindsRoot b t (rootOf b) r
+      go (Infer.found A) e a =
+          let q : r ≡ Typed (a .0) (a .1) = cc in
+          finds q e (a .7) (same-term (a .5) (f .formed .rooted) root-held)
+      go (Infer.refused w p) e a =
+          let q : r ≡ Refused (a .0) = cc in
+          refuses q e (a .2 ∙ ap (λ (i : ℕ). refused (ill-typed w) i) (way-alike p))
 
 drop-zeros : (k n : ℕ) → drop k (zeros n) ≡ zeros (n - k)
 unfolding zeros
@@ -152,66 +128,56 @@ book-room {b} {w = w} {A = A} bytes f e h k =
     let l : length w ≡ workLength = ap length k ∙ length-zeros workLength in
     record { type = A; holds = h; fits = omega arith; numbered = n }
 
--- what the check's two cases answer and leave
-found-types : {b v w : List ℕ} {A : Ty} {n : ℕ} → size-type A ≤ sizeLimit → infer [] (opened b) ≡ Infer.found A → n ≡ size-type A →
-    w ≡ zeros workLength → v ≡ sets w 0 (typeBook A) → Types b v (Accepted n)
-unfolding afterTyping shown
-found-types {A = A} h e k z q =
-    let l : length (typeBook A) ≤ workLength = omega (arith, book-length (fromType A), type-cells A) in
-    record {
-      answer = rw e (ap accepted k);
-      left = rw e (q ∙ ap (λ (u : List ℕ). sets u 0 (typeBook A)) z ∙ laid-in-zeros (typeBook A) l);
-    }
-
-refused-types : {b v p : List ℕ} {w : Infer.Reason} {q : Refusal} → infer [] (opened b) ≡ Infer.refused w p →
-    refusalAnswer q ≡ refused (ill-typed w) (follow b (rootOf b) p) → v ≡ zeros workLength → Types b v (Out.Refused q)
-unfolding afterTyping turnedBack
-refused-types e a z = record { answer = rw e a; left = rw e z }
-
--- the call of typing, and what its answer is good for
-module _ {b w s t : List ℕ} {i : ℕ} {r : Found} (p : Formed b w i) (bytes : IsBytes b) (l : Loaded (take (8 * count b) b) s (count b))
-    (d : Finds s t (count b) 0 i r) where
-  at-root : Finds s t (count b) 0 (rootOf b) r
-  at-root = subst (λ (j : ℕ). Finds s t (count b) 0 j r) (p .root) d
-
-  found-of : {c k : ℕ} → r ≡ Typed c k → (A : Ty) × (infer [] (opened b) ≡ Infer.found A) × HoldsType t c A
-  found-of e = typed-case b s bytes (p .form) l at-root e
+-- what follows from what was found
+module _ {b w t : List ℕ} {i : ℕ} {r : Found} (p : Formed b w i) (bytes : IsBytes b) (d : FindsRoot b t i r) where
+  found-of : {c k : ℕ} → r ≡ Typed c k → (A : Ty) × (infer [] (opened b) ≡ Infer.found A) × HoldsType t c A × HoldsTerm t i (opened b)
+  found-of {c} {k} e = go d
+    where
+      go : FindsRoot b t i r → (A : Ty) × (infer [] (opened b) ≡ Infer.found A) × HoldsType t c A × HoldsTerm t i (opened b)
+      go (finds {A = A} {c = x} q f h g) =
+          let z : x ≡ c = cc in
+          (A, f, subst (λ (j : ℕ). HoldsType t j A) z h, g)
+      go (refuses q f a) = let z : _≡_ {A = ℕ} 0 1 = cc in absurd (omega arith)
 
   pub room-of : {c k : ℕ} → r ≡ Typed c k → RoomForBook t w c
-  room-of e = let a = found-of e in book-room bytes (p .form) (a .1) (a .2) (p .cleared)
+  room-of e = let a = found-of e in book-room bytes (p .book .form) (a .1) (a .2) (p .cleared)
 
-  pub types-found : {v : List ℕ} {c k n : ℕ} → r ≡ Typed c k → LaysBook t w v c n → Types b v (Accepted n)
-  types-found e y =
+  pub check-found : {v : List ℕ} {c k n : ℕ} → r ≡ Typed c k → LaysBook t w v c n → AfterTyping b shown v (Out.Accepted n)
+  unfolding afterTyping shown
+  check-found {v} {c} {k} {n} e y =
       let a = found-of e in
-      found-types (omega (arith, typed-size (infer-says [] (opened b) (a .0) .0 (a .1)), opened-small b bytes (p .form))) (a .1)
-      (y .size (a .0) (a .2)) (p .cleared) (y .lays (a .0) (a .2))
+      let h : size-type (a .0) ≤ sizeLimit =
+      omega (arith, typed-size (infer-says [] (opened b) (a .0) .0 (a .1)), opened-small b bytes (p .book .form)) in
+      let l : length (typeBook (a .0)) ≤ workLength = omega (arith, book-length (fromType (a .0)), type-cells (a .0)) in
+      rw (a .1)
+      (record {
+        answer = ap accepted (y .size (a .0) (a .2));
+        left = y .lays (a .0) (a .2) ∙ ap (λ (u : List ℕ). sets u 0 (typeBook (a .0))) (p .cleared) ∙ laid-in-zeros (typeBook (a .0)) l;
+      })
 
-  pub types-refused : {q : Refusal} → r ≡ Refused q → Types b w (Out.Refused q)
-  types-refused e =
-      let a = refused-case b s bytes (p .form) l at-root e in
-      refused-types (a .2) (a .3) (p .cleared)
-
-  -- the same for a run: the root is still held, and what its run answers is the book's
   pub root-of : {c k : ℕ} → r ≡ Typed c k → RootAt t w i (opened b)
   root-of e =
       let a = found-of e in
       record {
         long = ap length (p .cleared) ∙ length-zeros workLength;
-        holds = subst⁻¹ (λ (j : ℕ). HoldsTerm t j (opened b)) (p .root) (root-kept b s bytes (p .form) l at-root e);
-        small = opened-small b bytes (p .form);
-        fits = opened-fits b bytes (p .form);
+        holds = a .3;
+        small = opened-small b bytes (p .book .form);
+        fits = opened-fits b bytes (p .book .form);
         type = a .0;
         typed = infer-says [] (opened b) (a .0) .0 (a .1);
       }
 
-  pub runs-found : {v : List ℕ} {c k m : ℕ} {o : Outcome} → r ≡ Typed c k → RunsRoot t w v i m o → RunsTyped b v m o
+  pub run-found : {v : List ℕ} {c k m : ℕ} {o : Outcome} → r ≡ Typed c k → RunsRoot t w v i m o → AfterTyping b (reported b m) v o
   unfolding afterTyping
-  runs-found e y =
-      let a = found-of e in
-      record { answer = rw (a .1) (y .answer (opened b) (root-of e)); left = rw (a .1) (y .left (opened b) (root-of e)) }
+  run-found e y = let a = found-of e in rw (a .1) (y .says (opened b) (root-of e))
 
-  pub runs-refused : {q : Refusal} {m : ℕ} → r ≡ Refused q → RunsTyped b w m (Out.Refused q)
+  -- a refusal is answered alike by both calls
+  pub ill-typed-book : {q : Refusal} (g : Ty → Result) → r ≡ Refused q → AfterTyping b g w (Out.Refused q)
   unfolding afterTyping turnedBack
-  runs-refused e =
-      let a = refused-case b s bytes (p .form) l at-root e in
-      record { answer = rw (a .2) (a .3); left = rw (a .2) (p .cleared) }
+  ill-typed-book {q} g e = go d
+    where
+      go : FindsRoot b t i r → AfterTyping b g w (Out.Refused q)
+      go (finds u f h k) = let z : _≡_ {A = ℕ} 0 1 = cc in absurd (omega arith)
+      go (refuses {q = x} u f a) =
+          let z : q ≡ x = cc in
+          rw f (record { answer = ap refusalAnswer z ∙ a; left = p .cleared })

@@ -5,16 +5,16 @@ use mathlib.Core.List.{List, []}
 use lib.ListN.{length}
 use Rattle.calculus.specs.Syntax.{Ty, Term, size}
 use Rattle.calculus.specs.Typing.{Typed}
-use Rattle.calculus.specs.Infer.{infer}
 use Rattle.format.specs.Terms.{TermFits}
 use Rattle.format.specs.Book.{WellFormed, opened, sizeLimit}
-use Rattle.answers.specs.Answer.{Result, result}
+use Rattle.answers.specs.Answer.{result}
 use Rattle.answers.specs.Engine.{IsWork}
-use Rattle.answers.specs.Definition.{definition, run, afterTyping, told, evaluate}
+use Rattle.answers.specs.Definition.{definition, run, told, evaluate}
 use Rattle.answers.specs.Demands.{Accepts, Runs, Demand3For}
 use Rattle.outcome.specs.Numbers.{answerOf}
 use Rattle.outcome.specs.declared.Outcome.{Outcome}
 use Rattle.cells.specs.Held.{HoldsTerm}
+use Rattle.engine.specs.Check.{Gives}
 
 -- The book b, the work buffer w as lent and v as left, the limit and the answer r.
 pub record Ran (b w v : List ℕ) (limit : ℕ) (r : Outcome) : Type 0 where
@@ -40,10 +40,4 @@ pub record SomeRoot (s w : List ℕ) (i : ℕ) : Type 0 where
   pub root : RootAt s w i term
 
 pub record RunsRoot (s w v : List ℕ) (i limit : ℕ) (r : Outcome) : Type 0 where
-  pub answer : (e : Term) → RootAt s w i e → answerOf r ≡ told (evaluate sizeLimit limit 0 e) .answer
-  pub left : (e : Term) → RootAt s w i e → v ≡ told (evaluate sizeLimit limit 0 e) .left
-
--- What typing and the run have to answer of a well-formed book.
-pub record RunsTyped (b v : List ℕ) (limit : ℕ) (r : Outcome) : Type 0 where
-  pub answer : answerOf r ≡ afterTyping b (λ A. told (evaluate sizeLimit limit 0 (opened b))) (infer [] (opened b)) .answer
-  pub left : v ≡ afterTyping b (λ A. told (evaluate sizeLimit limit 0 (opened b))) (infer [] (opened b)) .left
+  pub says : (e : Term) → RootAt s w i e → Gives v r (told (evaluate sizeLimit limit 0 e))

@@ -12,8 +12,9 @@ use running::close;
 use running::run_on;
 use typing::Found;
 use typing::find;
-ghost use Rattle.engine.specs.Check.{Begins, Checked, Formed, Types};
-ghost use Rattle.engine.specs.Run.{Ran, SomeRoot, RunsRoot, RunsTyped};
+ghost use Rattle.answers.specs.Definition.{shown, reported};
+ghost use Rattle.engine.specs.Check.{Begins, Checked, Findable, FindsRoot, Formed, AfterTyping};
+ghost use Rattle.engine.specs.Run.{Ran, SomeRoot, RunsRoot};
 
 // Rows 1 to 10, for both calls: a work buffer of another length is left as it is; else it is zeroed, and the book's bytes are tested.
 fn begin(book: &[u8], work: &mut [u8]) -> Form
@@ -26,16 +27,23 @@ fn begin(book: &[u8], work: &mut [u8]) -> Form
     check_form(book)
 }
 
-// A well-formed book: its cells are loaded into a buffer of their own, where typing adds cells; the type found is laid down.
-fn check_types(book: &[u8], work: &mut [u8], root: usize) -> Outcome
-    requires { ⌜ Formed (now book) (now work) root ⌝ }
-    ensures { λ r. ⌜ Types (now (book .entry)) (now (work .exit)) r ⌝ }
+// A well-formed book's cells are loaded into a buffer, where typing adds cells, and the root's type is found.
+fn find_root(book: &[u8], buffer: &mut [u8], root: usize) -> Found
+    requires { ⌜ Findable (now book) (now buffer) root ⌝ }
+    ensures { λ r. ⌜ FindsRoot (now (book .entry)) (now (buffer .exit)) root r ⌝ }
 {
     let n = book.len() / 8 - 1;
-    let cells = &book[..8 * n];
+    load(&book[..8 * n], buffer, n);
+    find(buffer, n, 0, root)
+}
+
+// A well-formed book: the type found is laid down.
+fn check_types(book: &[u8], work: &mut [u8], root: usize) -> Outcome
+    requires { ⌜ Formed (now book) (now work) root ⌝ }
+    ensures { λ r. ⌜ AfterTyping (now (book .entry)) shown (now (work .exit)) r ⌝ }
+{
     let mut buffer = [0u8; 65536];
-    load(cells, &mut buffer, n);
-    match find(&mut buffer, n, 0, root) {
+    match find_root(book, &mut buffer, root) {
         Found::Refused(refusal) => Outcome::Refused(refusal),
         Found::Typed(t, _) => Outcome::Accepted(lay_type_book(&buffer, work, t)),
     }
@@ -68,13 +76,10 @@ fn run_root(s: &[u8], work: &mut [u8], root: usize, limit: u32) -> Outcome
 // A well-formed book: typed as the check types it, and run.
 fn run_types(book: &[u8], work: &mut [u8], root: usize, limit: u32) -> Outcome
     requires { ⌜ Formed (now book) (now work) root ⌝ }
-    ensures { λ r. ⌜ RunsTyped (now (book .entry)) (now (work .exit)) limit r ⌝ }
+    ensures { λ r. ⌜ AfterTyping (now (book .entry)) (reported (now (book .entry)) limit) (now (work .exit)) r ⌝ }
 {
-    let n = book.len() / 8 - 1;
-    let cells = &book[..8 * n];
     let mut buffer = [0u8; 65536];
-    load(cells, &mut buffer, n);
-    match find(&mut buffer, n, 0, root) {
+    match find_root(book, &mut buffer, root) {
         Found::Refused(fault) => Outcome::Refused(fault),
         Found::Typed(_, _) => run_root(&buffer, work, root, limit),
     }

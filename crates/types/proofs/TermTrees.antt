@@ -12,6 +12,7 @@ use Rattle.calculus.specs.Syntax.{Ty, Term, var, lit, unit, anno, app, lam, mer
 use Rattle.calculus.specs.Decide.{sameType, sameTerm}
 use Rattle.calculus.proofs.Bools.{T-true, T-false, and-says, eqb-says}
 use Rattle.calculus.proofs.Tests.{sameTerm-says, sameType-says}
+use Rattle.format.proofs.Tests.{cell-fits}
 use Rattle.format.specs.Cell.{IsBytes, Cell, cellAt, half, signed, unsigned}
 use Rattle.format.proofs.Numbers.{unsigned-signed}
 use Rattle.cells.specs.Held.{HoldsType, HoldsTerm, h-var, h-lit, h-unit, h-anno, h-app, h-lam, h-merge, h-fix, h-rcd, h-proj}
@@ -52,11 +53,9 @@ pub record Small (x : Cell) : Type 0 where
   pub c : x .c < 65536
 
 pub small : {x : Cell} (s : List ℕ) (i : ℕ) → IsBytes s → x ≡ cellAt s i → Small x
-unfolding cellAt
-small s i y e = rw e record {
-  b = omega (arith, y (8 * i + 4), y (8 * i + 4 + 1));
-  c = omega (arith, y (8 * i + 6), y (8 * i + 6 + 1));
-}
+small s i y e =
+    let f = cell-fits s y i in
+    rw e record { b = f .2; c = f .3 }
 
 -- the number that fields b and c hold
 abbrev pub numberOf : Cell → ℤ

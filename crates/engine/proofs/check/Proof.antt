@@ -1,7 +1,8 @@
 -- `engine::check` meets its contract: each return's rows are the definition's, and what the definition answers means what demand 2 says.
 -- Assumes nothing.
 use borrow.Author.Needs.{needs}
-use Rattle.engine.proofs.Checked.{checked-malformed, begun, past-row-10}
+use Rattle.engine.proofs.Judging.{turned-back, past-row-10, begun}
+use Rattle.engine.proofs.Checked.{checked-as}
 use Rattle.engine.proofs.check.Statement.{statement}
 use Rattle.engine.proofs.check.Tie as tie
 
@@ -22,7 +23,8 @@ same-length c = search needs
 
 returns : tie.Need-returns
 returns c =
-    checked-malformed (λ i. c .before .before .before .before .before .before .before .before .shared-slice-known .given i .fits) (c .before .before .before .before .before .begin .ensures) (c .before .refusal .given .1)
+    checked-as (λ i. c .before .before .before .before .before .before .before .before .shared-slice-known .given i .fits)
+    (turned-back _ _ _ (c .before .before .before .before .before .begin .ensures) (c .before .refusal .given .1))
 
 same-length-2 : tie.Need-same-length-2
 same-length-2 c = search needs
@@ -30,7 +32,8 @@ same-length-2 c = search needs
 returns-2 : tie.Need-returns-2
 returns-2 c =
     let k = begun (c .before .before .before .before .before .before .before .before .before .begin .ensures) (c .before .before .before .before .before .root .given .1) in
-    past-row-10 (λ i. c .before .before .before .before .before .before .before .before .before .before .before .before .shared-slice-known .given i .fits) (k .0) (k .1) (c .before .before .check-types .ensures)
+    checked-as (λ i. c .before .before .before .before .before .before .before .before .before .before .before .before .shared-slice-known .given i .fits)
+    (past-row-10 _ _ _ k (c .before .before .check-types .ensures))
 
 pub check-spec : {M : Type 1} → statement M
 check-spec =

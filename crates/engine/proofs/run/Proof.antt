@@ -1,8 +1,8 @@
 -- `engine::run` meets its contract: each return's rows are the definition's; demands 2 and 3 follow.
 -- Assumes nothing.
 use borrow.Author.Needs.{needs}
-use Rattle.engine.proofs.Checked.{begun}
-use Rattle.engine.proofs.Ran.{run-malformed, run-past-row-10}
+use Rattle.engine.proofs.Judging.{turned-back, past-row-10, begun}
+use Rattle.engine.proofs.Ran.{ran-as}
 use Rattle.engine.proofs.run.Statement.{statement}
 use Rattle.engine.proofs.run.Tie as tie
 
@@ -23,7 +23,8 @@ same-length c = search needs
 
 returns : tie.Need-returns
 returns c =
-    run-malformed (λ i. c .before .before .before .before .before .before .before .before .shared-slice-known .given i .fits) (c .before .before .before .before .before .begin .ensures) (c .before .fault .given .1)
+    ran-as (λ i. c .before .before .before .before .before .before .before .before .shared-slice-known .given i .fits)
+    (turned-back _ _ _ (c .before .before .before .before .before .begin .ensures) (c .before .fault .given .1))
 
 same-length-2 : tie.Need-same-length-2
 same-length-2 c = search needs
@@ -31,7 +32,8 @@ same-length-2 c = search needs
 returns-2 : tie.Need-returns-2
 returns-2 c =
     let k = begun (c .before .before .before .before .before .before .before .before .before .begin .ensures) (c .before .before .before .before .before .root .given .1) in
-    run-past-row-10 (λ i. c .before .before .before .before .before .before .before .before .before .before .before .before .shared-slice-known .given i .fits) (k .0) (k .1) (c .before .before .run-types .ensures)
+    ran-as (λ i. c .before .before .before .before .before .before .before .before .before .before .before .before .shared-slice-known .given i .fits)
+    (past-row-10 _ _ _ k (c .before .before .run-types .ensures))
 
 pub run-spec : {M : Type 1} → statement M
 run-spec =

@@ -10,42 +10,33 @@ use Rattle.emission.proofs.emit_field.Reads as emit-field-reads
 use Rattle.running.proofs.close.Reads as close-reads
 use Rattle.running.proofs.run_on.Reads as run-on-reads
 
--- src/lib.rt:50:25
 emit-field-requires : tie.Need-emit-field-requires
 emit-field-requires c κs = root-ready (λ i. c .before .before .shared-slice-known .given i .fits) (c .before .before .before .pre)
 
--- src/lib.rt:50:20
 enum-known-n : tie.Need-enum-known-n
 enum-known-n c = search needs
 
--- src/lib.rt:51:33
 enum-told : tie.Need-enum-told
 enum-told c = search needs
 
--- src/lib.rt:51:9
 same-length : tie.Need-same-length
 same-length c = search needs
 
--- src/lib.rt:51:9
 returns : tie.Need-returns
 returns c =
     absurd (not-full (λ i. c .before .before .before .before .before .before .before .shared-slice-known .given i .fits) (c .before .before .before .before .emit-field .ensures) (c .before .before .before .before .before .before .before .before .pre) (c .enum-told .given .1))
 
--- src/lib.rt:53:9
 run-on-requires : tie.Need-run-on-requires
 run-on-requires c κs =
     root-typed (λ i. c .before .before .before .before .before .before .before .before .before .shared-slice-known .given i .fits) (c .before .before .before .before .before .before .emit-field .ensures) (c .before .before .n .given .1) (c .before .before .before .before .before .before .before .before .before .before .pre)
 
--- src/lib.rt:55:5
 close-requires : tie.Need-close-requires
 close-requires c κs =
     end-lies (λ i. c .before .before .before .before .before .before .before .before .before .before .before .before .before .shared-slice-known .given i .fits) (c .before .before .before .before .before .before .before .before .before .before .emit-field .ensures) (c .before .before .before .before .before .before .n .given .1) (c .before .before .before .run-on .ensures) (c .before .before .before .before .before .before .before .before .before .before .before .before .before .before .pre)
 
--- src/lib.rt:46:1
 same-length-2 : tie.Need-same-length-2
 same-length-2 c = search needs
 
--- src/lib.rt:46:1
 returns-2 : tie.Need-returns-2
 returns-2 c =
     root-runs (λ i. c .before .before .before .before .before .before .before .before .before .before .before .before .before .before .before .before .shared-slice-known .given i .fits) (c .before .before .before .before .before .before .before .before .before .before .before .before .before .emit-field .ensures) (c .before .before .before .before .before .before .before .before .before .n .given .1) (c .before .before .before .before .before .before .run-on .ensures) (c .before .before .close .ensures)

@@ -5,19 +5,15 @@ use borrow.Author.Needs.{needs}
 use Rattle.exports.proofs.cerealbank_check.Statement.{statement}
 use Rattle.exports.proofs.cerealbank_check.Tie as tie
 
--- src/lib.rt:40:10
 check-requires : tie.Need-check-requires
 check-requires c κs = search needs
 
--- src/lib.rt:40:5
 pack-requires : tie.Need-pack-requires
 pack-requires c κs = search needs
 
--- src/lib.rt:36:1
 same-length : tie.Need-same-length
 same-length c = search needs
 
--- src/lib.rt:36:1
 returns : tie.Need-returns
 returns c =
     let k = c .before .before .before .check .ensures in

@@ -5,19 +5,15 @@ use borrow.Author.Needs.{needs}
 use Rattle.exports.proofs.cerealbank_run.Statement.{statement}
 use Rattle.exports.proofs.cerealbank_run.Tie as tie
 
--- src/lib.rt:48:10
 run-requires : tie.Need-run-requires
 run-requires c κs = search needs
 
--- src/lib.rt:48:5
 pack-requires : tie.Need-pack-requires
 pack-requires c κs = search needs
 
--- src/lib.rt:44:1
 same-length : tie.Need-same-length
 same-length c = search needs
 
--- src/lib.rt:44:1
 returns : tie.Need-returns
 returns c =
     let k = c .before .before .before .run .ensures in

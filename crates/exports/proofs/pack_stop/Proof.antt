@@ -3,63 +3,48 @@ use borrow.Author.Needs.{needs}
 use Rattle.exports.proofs.pack_stop.Statement.{statement}
 use Rattle.exports.proofs.pack_stop.Tie as tie
 
--- src/lib.rt:19:21
 enum-known-s : tie.Need-enum-known-s
 enum-known-s c = search needs
 
--- src/lib.rt:19:27
 mul-result : tie.Need-mul-result
 mul-result c = search needs
 
--- src/lib.rt:19:46
 cast-result : tie.Need-cast-result
 cast-result c = search needs
 
--- src/lib.rt:19:27
 add-result : tie.Need-add-result
 add-result c = search needs
 
--- src/lib.rt:20:21
 enum-known-s-2 : tie.Need-enum-known-s-2
 enum-known-s-2 c = search needs
 
--- src/lib.rt:20:27
 mul-result-2 : tie.Need-mul-result-2
 mul-result-2 c = search needs
 
--- src/lib.rt:20:46
 cast-result-2 : tie.Need-cast-result-2
 cast-result-2 c = search needs
 
--- src/lib.rt:20:27
 add-result-2 : tie.Need-add-result-2
 add-result-2 c = search needs
 
--- src/lib.rt:21:20
 enum-known-s-3 : tie.Need-enum-known-s-3
 enum-known-s-3 c = search needs
 
--- src/lib.rt:21:26
 mul-result-3 : tie.Need-mul-result-3
 mul-result-3 c = search needs
 
--- src/lib.rt:21:45
 cast-result-3 : tie.Need-cast-result-3
 cast-result-3 c = search needs
 
--- src/lib.rt:21:26
 add-result-3 : tie.Need-add-result-3
 add-result-3 c = search needs
 
--- src/lib.rt:15:1
 returns : tie.Need-returns
 returns c = rw (c .before .s .given .1)
 
--- src/lib.rt:15:1
 returns-2 : tie.Need-returns-2
 returns-2 c = rw (c .before .s2 .given .1)
 
--- src/lib.rt:15:1
 returns-3 : tie.Need-returns-3
 returns-3 c = rw (c .before .s3 .given .1)
 

@@ -9,43 +9,33 @@ use Rattle.running.proofs.close.Lts as lts
 use Rattle.cells.proofs.write_cell.Reads as write-cell-reads
 use Rattle.layout.proofs.clear.Reads as clear-reads
 
--- src/lib.rt:76:59
 sub-clear : tie.Need-sub-clear
 sub-clear c = positive (c .before .before .pre .lies)
 
--- src/lib.rt:76:5
 write-cell-requires : tie.Need-write-cell-requires
 write-cell-requires c κs = search needs
 
--- src/lib.rt:77:23
 add-clear : tie.Need-add-clear
 add-clear c = search needs
 
--- src/lib.rt:77:18
 mul-clear : tie.Need-mul-clear
 mul-clear c = search needs
 
--- src/lib.rt:77:11
 sub-clear-2 : tie.Need-sub-clear-2
 sub-clear-2 c = search needs
 
--- src/lib.rt:77:11
 part-clear-start : tie.Need-part-clear-start
 part-clear-start c = search needs
 
--- src/lib.rt:77:11
 part-clear-end : tie.Need-part-clear-end
 part-clear-end c = search needs
 
--- src/lib.rt:77:5
 clear-requires : tie.Need-clear-requires
 clear-requires c κs = search needs
 
--- src/lib.rt:72:1
 same-length : tie.Need-same-length
 same-length c = search needs
 
--- src/lib.rt:72:1
 returns : tie.Need-returns
 returns c = record { says = λ e l. closed e l (c .before .before .before .before .before .before .write-cell .ensures) (c .before .before .clear .ensures) }
 

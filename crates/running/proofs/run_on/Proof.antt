@@ -19,45 +19,36 @@ Inv-loop w₀ n limit s₀ state₀ w s state =
 abbrev μ-loop : tie.MeasureT-loop
 μ-loop w₀ n limit s₀ state₀ w s state = limit - state .steps
 
--- src/lib.rt:59:5
 loop-holds : tie.Need-loop-holds Inv-loop μ-loop
 loop-holds c = (length-replicate {A = ℕ} 65536 0, zero-le, going-first _ _ _)
 
--- src/lib.rt:60:20
 slice-aggregate-step : tie.Need-slice-aggregate-step Inv-loop μ-loop
 slice-aggregate-step c = search needs
 
--- src/lib.rt:60:15
 step-requires : tie.Need-step-requires Inv-loop μ-loop
 step-requires c κs =
     let i = c .before .before .loop .inv in
     (going-ready (c .before .before .before .before .pre) (i .0) (i .2), i .1)
 
--- src/lib.rt:61:24
 enum-known-next : tie.Need-enum-known-next Inv-loop μ-loop
 enum-known-next c = search needs
 
--- src/lib.rt:59:5
 loop-less : tie.Need-loop-less Inv-loop μ-loop
 loop-less c =
     let m = going-more (c .before .before .before .before .before .before .before .before .before .before .before .pre) (c .before .before .before .before .before .before .before .before .before .loop .inv .2) (c .before .before .before .before .before .before .step .ensures) (c .before .next .given .1) in
     omega (arith, m .0, m .1)
 
--- src/lib.rt:59:5
 loop-again : tie.Need-loop-again Inv-loop μ-loop
 loop-again c =
     let m = going-more (c .before .before .before .before .before .before .before .before .before .before .before .pre) (c .before .before .before .before .before .before .before .before .before .loop .inv .2) (c .before .before .before .before .before .before .step .ensures) (c .before .next .given .1) in
     (c .before .before .before .before .before .before .step .kept .0 ∙ c .before .before .before .before .before .before .before .before .before .loop .inv .0, omega (arith, m .0, m .1), going-next (c .before .before .before .before .before .before .before .before .before .loop .inv .2) (c .before .before .before .before .before .before .step .ensures) (c .before .next .given .1))
 
--- src/lib.rt:64:25
 enum-known-stop : tie.Need-enum-known-stop Inv-loop μ-loop
 enum-known-stop c = search needs
 
--- src/lib.rt:65:17
 same-length : tie.Need-same-length Inv-loop μ-loop
 same-length c = c .before .before .before .before .before .before .step .kept .1 .0 ∙ going-long (c .before .before .before .before .before .before .before .before .before .before .before .pre) (c .before .before .before .before .before .before .before .before .before .loop .inv .2)
 
--- src/lib.rt:65:17
 returns : tie.Need-returns Inv-loop μ-loop
 returns c = going-ends (c .before .before .before .before .before .before .before .before .before .loop .inv .2) (c .before .before .before .before .before .before .step .ensures) (c .before .stop .given .1)
 

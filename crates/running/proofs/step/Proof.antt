@@ -18,82 +18,63 @@ use Rattle.loading.proofs.load.Reads as load-reads
 use Rattle.reduction.proofs.emit_next.Reads as emit-next-reads
 use Rattle.reduction.proofs.is_value.Reads as is-value-reads
 
--- src/lib.rt:38:15
 mul-load : tie.Need-mul-load
 mul-load c = search needs
 
--- src/lib.rt:38:10
 slice-reshare-prefix-load : tie.Need-slice-reshare-prefix-load
 slice-reshare-prefix-load c = search needs
 
--- src/lib.rt:38:10
 slice-aggregate-load : tie.Need-slice-aggregate-load
 slice-aggregate-load c =
     let l = c .before .before .before .pre .0 .at .lies in
     sym (length-take-le _ _ (omega (arith, l .long, l .count, l .small)))
 
--- src/lib.rt:38:5
 load-requires : tie.Need-load-requires
 load-requires c κs = loadable (c .before .before .before .before .pre .0 .at .lies) (c .before .before .before .before .pre .0 .long)
 
--- src/lib.rt:39:20
 sub-is-value : tie.Need-sub-is-value
 sub-is-value c = positive (c .before .before .before .before .before .before .before .before .pre .0 .at .lies)
 
--- src/lib.rt:39:8
 is-value-requires : tie.Need-is-value-requires
 is-value-requires c κs = marked (c .before .before .before .before .before .before .before .before .pre .0 .at .lies) (c .before .before .before .load .ensures)
 
--- src/lib.rt:40:9
 same-length : tie.Need-same-length
 same-length c = search needs
 
--- src/lib.rt:40:9
 same-length-2 : tie.Need-same-length-2
 same-length-2 c = search needs
 
--- src/lib.rt:40:9
 returns : tie.Need-returns
 returns c = turn-value (c .before .before .before .before .before .load .ensures) (subst (SaysValue _ _) (c .if1 .taken) (c .before .is-value .ensures))
 
--- src/lib.rt:43:9
 same-length-3 : tie.Need-same-length-3
 same-length-3 c = search needs
 
--- src/lib.rt:43:9
 same-length-4 : tie.Need-same-length-4
 same-length-4 c = search needs
 
--- src/lib.rt:43:9
 returns-2 : tie.Need-returns-2
 returns-2 c = turn-spent (c .before .before .before .before .before .before .load .ensures) (subst (SaysValue _ _) (c .before .if1 .left) (c .before .before .is-value .ensures)) (c .if2 .taken)
 
--- src/lib.rt:45:44
 sub-emit-next : tie.Need-sub-emit-next
 sub-emit-next c = positive (c .before .before .before .before .before .before .before .before .before .before .before .before .before .pre .0 .at .lies)
 
--- src/lib.rt:45:28
 emit-next-requires : tie.Need-emit-next-requires
 emit-next-requires c κs =
     next-ready (c .before .before .before .before .before .before .before .before .load .ensures) (c .before .before .before .before .before .before .before .before .before .before .before .before .before .pre .0 .at .lies) (c .before .before .before .before .before .before .before .before .before .before .before .before .before .pre .0 .at .typed) (subst (SaysValue _ _) (c .before .before .before .if1 .left) (c .before .before .before .before .is-value .ensures))
 
--- src/lib.rt:45:23
 enum-known-m : tie.Need-enum-known-m
 enum-known-m c = search needs
 
--- src/lib.rt:46:52
 add-t25 : tie.Need-add-t25
 add-t25 c = search needs
 
--- src/lib.rt:46:9
 same-length-5 : tie.Need-same-length-5
 same-length-5 c = search needs
 
--- src/lib.rt:46:9
 same-length-6 : tie.Need-same-length-6
 same-length-6 c = search needs
 
--- src/lib.rt:46:9
 returns-3 : tie.Need-returns-3
 returns-3 c =
     turn-next (c .before .before .before .before .before .before .before .before .before .before .before .before .before .before .load .ensures) (subst (SaysValue _ _) (c .before .before .before .before .before .before .before .before .before .if1 .left) (c .before .before .before .before .before .before .before .before .before .before .is-value .ensures)) (c .before .before .before .before .before .emit-next .ensures)
@@ -102,25 +83,20 @@ returns-3 c =
 enum-told : tie.Need-enum-told
 enum-told c = search needs
 
--- src/lib.rt:48:25
 sub-emit-field : tie.Need-sub-emit-field
 sub-emit-field c = positive (c .before .before .before .before .before .before .before .before .before .before .before .before .before .before .before .before .before .before .before .before .pre .0 .at .lies)
 
--- src/lib.rt:48:5
 emit-field-requires : tie.Need-emit-field-requires
 emit-field-requires c κs =
     ready-term (λ i. c .before .before .before .before .before .before .before .before .before .before .before .before .before .slice-known3 .given i .fits)
     (record { long = c .before .before .before .before .before .before .emit-next .kept .1 .0 ∙ c .before .before .before .before .before .before .before .before .before .before .before .before .before .before .before .before .before .before .before .before .pre .0 .at .lies .long; used = zero-le }) (held (c .before .before .before .before .before .before .before .before .before .before .before .before .before .before .before .before .before .before .before .before .pre .0 .at .lies) (c .before .before .before .before .before .before .before .before .before .before .before .before .before .before .before .load .ensures))
 
--- src/lib.rt:32:1
 same-length-7 : tie.Need-same-length-7
 same-length-7 c = search needs
 
--- src/lib.rt:32:1
 same-length-8 : tie.Need-same-length-8
 same-length-8 c = search needs
 
--- src/lib.rt:32:1
 returns-4 : tie.Need-returns-4
 returns-4 c =
     turn-room (c .before .before .before .before .before .before .before .before .before .before .before .before .before .before .before .before .before .before .load .ensures) (subst (SaysValue _ _) (c .before .before .before .before .before .before .before .before .before .before .before .before .before .if1 .left) (c .before .before .before .before .before .before .before .before .before .before .before .before .before .before .is-value .ensures)) (c .before .before .before .before .before .before .before .before .before .emit-next .ensures)

@@ -17,62 +17,48 @@ Inv-loop book₀ kind label both k i₀ book i = (i ≤ k) × (length book ≡ 3
 abbrev μ-loop : tie.MeasureT-loop
 μ-loop book₀ kind label both k i₀ book i = k - i
 
--- src/main.rt:34:5
 write-cell-requires : tie.Need-write-cell-requires Inv-loop μ-loop
 write-cell-requires c κs = (omega arith, search needs)
 
--- src/main.rt:36:5
 loop-holds : tie.Need-loop-holds Inv-loop μ-loop
 loop-holds c = omega arith
 
--- src/main.rt:38:26
 add-write-cell : tie.Need-add-write-cell Inv-loop μ-loop
 add-write-cell c = omega arith
 
--- src/main.rt:38:9
 write-cell-requires-2 : tie.Need-write-cell-requires-2 Inv-loop μ-loop
 write-cell-requires-2 c κs = (
   omega arith,
   record { a = omega arith; b = ⊎-elim (λ w. omega arith) (λ w. omega arith) (c .before .if1 .came); c = omega arith },
 )
 
--- src/main.rt:39:9
 add-i : tie.Need-add-i Inv-loop μ-loop
 add-i c = omega arith
 
--- src/main.rt:36:5
 loop-less : tie.Need-loop-less Inv-loop μ-loop
 loop-less c = omega arith
 
--- src/main.rt:36:5
 loop-again : tie.Need-loop-again Inv-loop μ-loop
 loop-again c = omega arith
 
--- src/main.rt:41:22
 add-write-cell-2 : tie.Need-add-write-cell-2 Inv-loop μ-loop
 add-write-cell-2 c = omega arith
 
--- src/main.rt:41:60
 add-t22 : tie.Need-add-t22 Inv-loop μ-loop
 add-t22 c = omega arith
 
--- src/main.rt:41:5
 write-cell-requires-3 : tie.Need-write-cell-requires-3 Inv-loop μ-loop
 write-cell-requires-3 c κs = (omega arith, record { a = omega arith; b = omega arith; c = omega arith })
 
--- src/main.rt:42:10
 add-result : tie.Need-add-result Inv-loop μ-loop
 add-result c = omega arith
 
--- src/main.rt:42:5
 mul-result : tie.Need-mul-result Inv-loop μ-loop
 mul-result c = omega arith
 
--- src/main.rt:30:1
 same-length : tie.Need-same-length Inv-loop μ-loop
 same-length c = omega arith
 
--- src/main.rt:30:1
 returns : tie.Need-returns Inv-loop μ-loop
 returns c = omega arith
 

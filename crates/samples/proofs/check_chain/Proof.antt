@@ -11,39 +11,30 @@ use Rattle.io.proofs.large_buffer.Reads as large-buffer-reads
 use Rattle.samples.proofs.chain.Reads as chain-reads
 use Rattle.samples.proofs.print_outcome.Reads as print-outcome-reads
 
--- src/main.rt:49:20
 large-buffer-requires : tie.Need-large-buffer-requires
 large-buffer-requires c κs = search needs
 
--- src/main.rt:50:19
 slice-aggregate-chain : tie.Need-slice-aggregate-chain
 slice-aggregate-chain c = search needs
 
--- src/main.rt:50:9
 chain-requires : tie.Need-chain-requires
 chain-requires c κs = search needs
 
--- src/main.rt:51:25
 array-share-prefix-book : tie.Need-array-share-prefix-book
 array-share-prefix-book c = search needs
 
--- src/main.rt:51:25
 slice-aggregate-check : tie.Need-slice-aggregate-check
 slice-aggregate-check c = sym (length-take-le _ _ (c .before .before .chain .ensures))
 
--- src/main.rt:51:37
 slice-aggregate-check-2 : tie.Need-slice-aggregate-check-2
 slice-aggregate-check-2 c = search needs
 
--- src/main.rt:51:19
 check-requires : tie.Need-check-requires
 check-requires c κs = search needs
 
--- src/main.rt:51:5
 print-outcome-requires : tie.Need-print-outcome-requires
 print-outcome-requires c κs = search needs
 
--- src/main.rt:45:1
 returns : tie.Need-returns
 returns c = search needs
 
