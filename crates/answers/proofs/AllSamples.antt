@@ -12,7 +12,7 @@ use Rattle.format.specs.Table.{table, rowIn, rowOf}
 use Rattle.format.specs.Cell.{cellAt, cellBytes, signed, unsigned}
 use Rattle.format.specs.Tree.{cells, branch, grow, openWithin, treeAt, refer, lay}
 use Rattle.format.specs.Terms.{fromType, fromTerm, plainOf, toType, toTerm}
-use Rattle.format.specs.Book.{sizeLimit, firstBad, rowFault, cellFault, cellsFinding, rootFinding, cellsForm, formFinding, follow, opened, trailer, book}
+use Rattle.format.specs.Book.{firstBad, rowFault, cellFault, cellsFinding, rootFinding, cellsForm, formFinding, follow, opened, trailer, book}
 use Rattle.answers.specs.Answer.{bad-buffer, spent, room, refused, Result, result}
 use Rattle.answers.specs.Engine.{IsWork, zeros, laid}
 use Rattle.answers.specs.Definition.{definition, turnedBack, afterTyping, afterForm, shown, full?, firstStop, ended, evaluate, told, reported}

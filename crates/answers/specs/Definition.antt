@@ -7,12 +7,12 @@ use mathlib.Core.List.{List, []}
 use lib.Dec.{eqb, ltb}
 use lib.ListN.{length}
 use Rattle.calculus.specs.Syntax.{Ty, size-type, Term, size}
-use Rattle.calculus.specs.Infer.{Reason, Found, found, infer}
+use Rattle.calculus.specs.Infer.{Found, found, infer}
 use Rattle.calculus.specs.Infer as Infer
 use Rattle.calculus.specs.Decide.{value?}
 use Rattle.calculus.specs.Evaluate.{next}
-use Rattle.format.specs.Book.{Fault, Finding, sizeLimit, formFinding, rootOf, follow, opened, typeBook, termBook}
-use Rattle.answers.specs.Answer.{Refusal, bad-buffer, malformed, ill-typed, Stop, value, spent, room, Answer, refused, accepted, stopped, Result, result}
+use Rattle.format.specs.Book.{Finding, sizeLimit, formFinding, rootOf, follow, opened, typeBook, termBook}
+use Rattle.answers.specs.Answer.{Refusal, bad-buffer, malformed, ill-typed, Stop, value, spent, room, refused, accepted, stopped, Result, result}
 use Rattle.answers.specs.Engine.{Engine, workLength, zeros, laid}
 
 -- "all others zero the work buffer"

@@ -9,7 +9,7 @@ use Rattle.calculus.specs.Typing.{Typed}
 use Rattle.calculus.specs.Step.{Step, Reaches}
 use Rattle.format.specs.Cell.{IsBytes}
 use Rattle.format.specs.Book.{sizeLimit, WellFormed, opened, typeBook, termBook}
-use Rattle.answers.specs.Answer.{Stop, value, spent, room, Answer, accepted, stopped, stepsOf, Result, result}
+use Rattle.answers.specs.Answer.{Stop, value, spent, room, accepted, stopped, stepsOf, Result, result}
 use Rattle.answers.specs.Engine.{Engine, IsWork, IsLimit, laid}
 
 -- "accepted: a check with a work buffer of 65,536 bytes accepts"

@@ -1,7 +1,7 @@
 -- Typed reduction and the next step, as functions. A merge is read from its left half where that can be, else from its right: on typed
 -- terms the theorems of proofs/ leave no other answer. Assumes nothing.
 use Prim.Native.Nat.{ℕ}
-use mathlib.Core.Bool.{Bool, true, false, _&&_, cond}
+use mathlib.Core.Bool.{true, false, _&&_, cond}
 use mathlib.Core.Option.{Option, none, some}
 use lib.Dec.{eqb}
 use Rattle.calculus.specs.Syntax.{Ty, int, top, arrow, inter, field}

@@ -1,7 +1,7 @@
 -- Finding a type, as a function. What it finds is a theorem of proofs/: exactly what the rules derive. A refusal carries the way from
 -- the term to the part that it names, field by field: 0 for a, 1 for b of document 01's table. Assumes nothing.
 use Prim.Native.Nat.{ℕ}
-use mathlib.Core.Bool.{Bool, true, false, _&&_, _||_, cond}
+use mathlib.Core.Bool.{Bool, _&&_, _||_, cond}
 use mathlib.Core.Option.{Option, none, some}
 use mathlib.Core.List.{List, [], _∷_}
 use lib.Dec.{eqb}

@@ -1,7 +1,7 @@
 -- Typed reduction: source 001, figure 6, with records. Document 01's "reading a value under a type". Assumes nothing.
 use Prim.Native.Nat.{ℕ}
 use lib.IntN.{ℤ}
-use Rattle.calculus.specs.Syntax.{Ty, int, top, arrow, inter, field, Term, lit, unit, lam, merge, rcd, Value}
+use Rattle.calculus.specs.Syntax.{Ty, int, arrow, inter, field, Term, lit, unit, lam, merge, rcd, Value}
 use Rattle.calculus.specs.Subtyping.{TopLike, Ordinary, Below}
 
 -- Cast v A x: the value v, read under A, is x.

@@ -2,14 +2,14 @@
 -- adds. Its type cells carry in field c, which no type names, whether the type is top-like. Assumes nothing.
 use Prim.Native.Nat.{ℕ, _+_, _*_, _≤_, _<_}
 use mathlib.Core.Path.{_≡_}
-use mathlib.Core.Bool.{Bool, cond}
+use mathlib.Core.Bool.{cond}
 use mathlib.Core.List.{List, [], _∷_}
 use lib.IntN.{ℤ}
 use lib.ListN.{length, take}
 use Rattle.calculus.specs.Syntax.{Ty, int, top, arrow, inter, field}
 use Rattle.calculus.specs.Syntax.{Term, var, lit, unit, anno, app, lam, merge, fix, rcd, proj}
 use Rattle.calculus.specs.Decide.{topLike?, value?}
-use Rattle.format.specs.Cell.{Cell, cellAt, half, signed}
+use Rattle.format.specs.Cell.{cellAt, half, signed}
 
 -- Cell i of s lies within it and has these fields.
 pub record IsCell (s : List ℕ) (i k l a b c : ℕ) : Type 0 where

@@ -7,7 +7,7 @@ use lib.IntN.{ℤ}
 use Rattle.calculus.specs.Syntax.{Ty, Term, lit}
 use Rattle.format.specs.Table.{Sort, Use, refers, table, rowIn, rowOf}
 use Rattle.format.specs.Cell.{IsBytes, half, signed}
-use Rattle.format.specs.Tree.{Tree, raw, node, cells}
+use Rattle.format.specs.Tree.{Tree, cells}
 use Rattle.format.specs.Terms.{fromType, fromTerm}
 use Rattle.format.proofs.Tests.{number, cell-fits}
 use Rattle.cells.specs.Held.{IsCell, HoldsType, h-int, h-top, h-arrow, h-inter, h-field}

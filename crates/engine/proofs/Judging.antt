@@ -1,7 +1,7 @@
 -- Rows 1 to 10, for both calls: `judge`, whatever answers for the type found. Assumes nothing.
 use Prim.Native.Nat.{ℕ}
 use mathlib.Core.Path.{_≡_, refl, sym, _∙_, ap, subst}
-use mathlib.Core.Logic.{_≢_, _⊎_, inl, inr}
+use mathlib.Core.Logic.{_≢_, inl, inr}
 use mathlib.Core.Option.{Option, none, some}
 use mathlib.Core.List.{List, []}
 use native.Mathlib.Omega.{arith}
@@ -11,7 +11,7 @@ use Rattle.calculus.specs.Syntax.{Ty}
 use Rattle.calculus.specs.Infer.{infer}
 use Rattle.format.specs.Book.{Finding, formFinding, opened}
 use Rattle.format.proofs.Tests.{formFinding-says}
-use Rattle.answers.specs.Answer.{Result, malformed}
+use Rattle.answers.specs.Answer.{Result}
 use Rattle.answers.specs.Engine.{IsWork, workLength, zeros}
 use Rattle.answers.specs.Definition.{judge, afterForm, afterTyping, turnedBack}
 use Rattle.answers.proofs.AllSamples.{in-work}

@@ -1,18 +1,17 @@
 -- The part of cells before the trailer of a well-formed book has the book's cells, and what they open to. Assumes nothing.
-use Prim.Native.Nat.{ℕ, _+_, _*_, _-_, _/_, _≤_, _<_}
-use mathlib.Core.Path.{_≡_, refl, sym, _∙_, ap, subst, subst⁻¹}
-use mathlib.Core.Bool.{Bool, true}
+use Prim.Native.Nat.{ℕ, _+_, _*_, _≤_, _<_}
+use mathlib.Core.Path.{_≡_, _∙_}
 use mathlib.Core.Option.{none}
 use mathlib.Core.List.{List}
 use native.Mathlib.Omega.{arith}
-use lib.ListN.{length, getD, take}
+use lib.ListN.{length, take}
 use lib.Seq.{getD-take, length-take-le}
-use Rattle.format.specs.Table.{Use, unused, plain, refers, Row, Sort, term-sort}
-use Rattle.format.specs.Cell.{Cell, byte, pair, cellAt}
+use Rattle.format.specs.Table.{Use, unused, plain, refers, Sort}
+use Rattle.format.specs.Cell.{byte, pair, cellAt}
 use Rattle.format.specs.Tree.{treeAt}
-use Rattle.format.specs.Book.{count, cellFault, hasSort, WellFormed, rootOf}
+use Rattle.format.specs.Book.{count, cellFault, hasSort, WellFormed}
 use Rattle.format.proofs.Opening.{treeAt-same}
-use Rattle.format.proofs.Tests.{Each, FieldOk, CellOk, cellFault-says}
+use Rattle.format.proofs.Tests.{Each, FieldOk, cellFault-says}
 use Rattle.loading.specs.Loaded.{Loadable}
 
 module _ (b : List ℕ) (n : ℕ) where

@@ -1,25 +1,24 @@
 -- From a loaded book to what typing finds of its root, and from there to what both calls answer. Assumes nothing.
 use Prim.Native.Nat.{ℕ, zero, suc, _+_, _*_, _-_, _≤_, _<_}
-use mathlib.Core.Path.{_≡_, refl, sym, _∙_, ap, subst, subst⁻¹}
+use mathlib.Core.Path.{_≡_, refl, _∙_, ap, subst}
 use mathlib.Core.Bool.{Bool, true, false}
 use mathlib.Core.List.{List, [], _∷_, _++_}
 use native.Mathlib.Nat.{zero-add, sub-zero, zero-sub, suc-sub-suc}
 use native.Mathlib.Omega.{arith}
 use borrow.Author.Tests.{ltb-true}
 use lib.Dec.{ltb}
-use lib.ListN.{length, take, drop, replicate, length-replicate}
+use lib.ListN.{length, take, drop, length-replicate}
 use lib.Seq.{sets, sets-eq}
-use Rattle.calculus.specs.Syntax.{Ty, size-type, Term, size}
+use Rattle.calculus.specs.Syntax.{Ty, size-type, size}
 use Rattle.calculus.specs.Infer as Infer
 use Rattle.calculus.specs.Infer.{infer}
 use Rattle.calculus.proofs.Inference.{infer-says}
 use Rattle.calculus.proofs.Typing.{typed-size}
-use Rattle.format.specs.Table.{term-sort}
 use Rattle.format.specs.Cell.{IsBytes, Cell, cellAt}
-use Rattle.format.specs.Tree.{Tree, treeAt}
+use Rattle.format.specs.Tree.{Tree}
 use Rattle.format.specs.Terms.{toTerm, fromType}
 use Rattle.format.proofs.Trees.{type-cells}
-use Rattle.format.specs.Book.{count, hasSort, WellFormed, rootOf, follow, opened, typeBook, book, sizeLimit}
+use Rattle.format.specs.Book.{count, WellFormed, rootOf, follow, opened, typeBook, book, sizeLimit}
 use Rattle.format.proofs.Tests.{opened-small, opened-fits}
 use Rattle.format.proofs.RoundTrip.{book-length}
 use Rattle.answers.specs.Answer.{Result, refused, accepted, ill-typed}

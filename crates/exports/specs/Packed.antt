@@ -1,5 +1,5 @@
 -- An answer as one number of 64 bits: the upper half says which, the lower half its value. Assumes nothing.
-use Prim.Native.Nat.{ℕ, _+_, _*_, _%_, _^_}
+use Prim.Native.Nat.{ℕ, _+_, _*_, _%_}
 use mathlib.Core.Path.{_≡_}
 use mathlib.Core.List.{List}
 use Rattle.answers.specs.Answer.{Answer, refused, accepted, stopped, number, Stop, value, spent, room}

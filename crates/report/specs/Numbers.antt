@@ -1,6 +1,6 @@
 -- The numbers that are shown of an answer. Assumes nothing.
 use Prim.Native.Nat.{ℕ}
-use Rattle.answers.specs.Answer.{Answer, refused, accepted, stopped, number, stepsOf}
+use Rattle.answers.specs.Answer.{Answer, refused, accepted, stopped, number}
 
 -- "Answer: number and cell"
 abbrev pub rowOf : Answer → ℕ

@@ -1,21 +1,20 @@
 -- The trailer behind a term that lies in the work buffer, and zeros behind that: the term laid down. Assumes nothing.
-use Prim.Native.Nat.{ℕ, suc, _+_, _*_, _-_, _≤_, _<_}
-use mathlib.Core.Path.{_≡_, refl, sym, _∙_, ap, subst}
-use mathlib.Core.List.{List, [], _∷_, _++_, append-nil, append-assoc}
+use Prim.Native.Nat.{ℕ, _+_, _*_, _-_, _≤_}
+use mathlib.Core.Path.{_≡_, sym, _∙_, ap}
+use mathlib.Core.List.{List, [], _++_, append-nil}
 use native.Mathlib.Omega.{arith}
 use borrow.Rule.Slice.PartMut.{putMid, midOf, postOf, post-is}
-use lib.ListN.{length, take, drop, replicate, length-append, length-take, length-drop, length-replicate}
+use lib.ListN.{length, take, drop, replicate, length-append, length-take, length-drop}
 use lib.Seq.{sets, sets-eq, length-sets, take-at, drop-length, length-take-le}
-use Rattle.calculus.specs.Syntax.{Term, size}
+use Rattle.calculus.specs.Syntax.{Term}
 use Rattle.format.specs.Cell.{Cell, cellBytes}
 use Rattle.format.specs.Tree.{cells, lay}
 use Rattle.format.specs.Terms.{fromTerm}
 use Rattle.format.specs.Book.{book, termBook, trailer}
 use Rattle.format.proofs.Trees.{term-cells}
-use Rattle.format.proofs.Laying.{length-lay}
 use Rattle.format.proofs.RoundTrip.{book-length}
 use Rattle.answers.specs.Engine.{workLength, zeros, laid}
-use Rattle.running.specs.Turns.{Lies, Closes}
+use Rattle.running.specs.Turns.{Lies}
 
 abbrev trailerCell : ℕ → Cell
 trailerCell n = record { kind = 240; label = 1; a = n; b = n - 1; c = 0 }

@@ -1,23 +1,18 @@
 -- The loop of a run follows the definition: what is still to be evaluated from the term that lies in the work buffer is what was to be
 -- evaluated at first. Assumes nothing.
-use Prim.Native.Nat.{ℕ, zero, suc, _+_, _-_, _≤_, _<_}
-use mathlib.Core.Path.{_≡_, refl, sym, _∙_, ap, subst, subst⁻¹}
-use mathlib.Core.Bool.{Bool, true, false}
-use mathlib.Core.Option.{some}
+use Prim.Native.Nat.{ℕ, suc, _+_, _-_, _≤_, _<_}
+use mathlib.Core.Path.{_≡_, sym, _∙_, ap, subst}
 use mathlib.Core.List.{List, []}
 use native.Mathlib.Nat.{sub-zero}
 use native.Mathlib.Omega.{arith}
-use lib.Dec.{ltb}
 use lib.ListN.{length}
-use Rattle.calculus.specs.Syntax.{Ty, Term, size}
+use Rattle.calculus.specs.Syntax.{Ty, Term}
 use Rattle.calculus.specs.Typing.{Typed}
-use Rattle.calculus.specs.Decide.{value?}
-use Rattle.calculus.specs.Evaluate.{next}
 use Rattle.calculus.proofs.Soundness.{step-typed}
 use Rattle.calculus.proofs.Evaluation.{next-sound}
 use Rattle.format.specs.Book.{sizeLimit}
 use Rattle.answers.specs.Answer as Answer
-use Rattle.answers.specs.Definition.{Ended as Ending, ended, evaluate}
+use Rattle.answers.specs.Definition.{ended, evaluate}
 use Rattle.answers.proofs.Running.{evaluate-value, evaluate-spent, evaluate-room, evaluate-step}
 use Rattle.outcome.specs.declared.Stop.{Stop}
 use Rattle.outcome.specs.declared.Stop.the-variants.{Value, Spent, Room}

@@ -1,27 +1,23 @@
 -- A term that lies in the work buffer can be loaded, and is held then; what was emitted from cell 0 on lies there. Assumes nothing.
-use Prim.Native.Nat.{ℕ, suc, _+_, _*_, _-_, _≤_, _<_}
-use mathlib.Core.Path.{_≡_, refl, sym, _∙_, ap, subst, subst⁻¹}
+use Prim.Native.Nat.{ℕ, _+_, _*_, _-_, _≤_, _<_}
+use mathlib.Core.Path.{_≡_, refl, sym, _∙_, ap, subst}
 use mathlib.Core.Bool.{true}
-use mathlib.Core.Option.{none}
-use mathlib.Core.List.{List, [], _++_, append-nil}
-use native.Mathlib.Nat.{zero-add}
+use mathlib.Core.List.{List, [], append-nil}
 use native.Mathlib.Omega.{arith}
 use lib.ListN.{length, take, drop}
 use lib.Seq.{sets, sets-eq, length-sets, length-take-le, take-at}
 use Rattle.calculus.specs.Syntax.{Term, size}
-use Rattle.calculus.specs.Evaluate.{next}
 use Rattle.format.specs.Table.{refers, term-sort}
-use Rattle.format.specs.Cell.{cellAt}
-use Rattle.format.specs.Tree.{Tree, cells, lay, refer, treeAt}
+use Rattle.format.specs.Tree.{cells, lay, refer, treeAt}
 use Rattle.format.specs.Terms.{fromTerm, toTerm, TermFits}
-use Rattle.format.specs.Book.{sizeLimit, hasSort, cellFault}
+use Rattle.format.specs.Book.{sizeLimit, hasSort}
 use Rattle.format.proofs.Trees.{term-cells, term-back}
-use Rattle.format.proofs.Laying.{Part, Laid, laid, length-lay, root-last, root-opens, root-sorted}
+use Rattle.format.proofs.Laying.{Laid, laid, length-lay, root-last, root-opens, root-sorted}
 use Rattle.format.proofs.RoundTrip.{term-good}
 use Rattle.cells.specs.Held.{HoldsTerm}
 use Rattle.loading.specs.Loaded.{Loadable, Loaded}
 use Rattle.loading.proofs.Loading.{value-marked}
-use Rattle.reduction.specs.Steps.{ValuesMarked, MarkedTerm}
+use Rattle.reduction.specs.Steps.{MarkedTerm}
 use Rattle.running.specs.Turns.{Lies}
 
 module _ {w : List ℕ} {n : ℕ} {e : Term} (l : Lies w n e) where

@@ -1,7 +1,7 @@
 -- What each return of a step says. Assumes nothing.
 use Prim.Native.Nat.{ℕ, _+_, _*_, _-_, _≤_, _<_, zero-le}
 use mathlib.Core.Path.{_≡_, refl, sym, _∙_, ap, subst, subst⁻¹}
-use mathlib.Core.Bool.{Bool, true, false, true≢false}
+use mathlib.Core.Bool.{Bool, true, false}
 use mathlib.Core.Logic.{_⊎_, inl, inr}
 use mathlib.Core.Option.{some}
 use mathlib.Core.List.{List, []}
@@ -9,7 +9,7 @@ use native.Mathlib.Decide.{decLe}
 use native.Mathlib.Nat.{zero-add}
 use native.Mathlib.Omega.{arith}
 use borrow.Author.Tests.{lt-ltb, le-ltb}
-use lib.Dec.{T, ltb}
+use lib.Dec.{T}
 use lib.ListN.{length, take}
 use lib.Seq.{sets}
 use Rattle.calculus.specs.Syntax.{Ty, Term, size, IsValue}
@@ -17,7 +17,6 @@ use Rattle.calculus.specs.Typing.{Typed}
 use Rattle.calculus.specs.Step.{Step, r-zero, r-suc}
 use Rattle.calculus.specs.Decide.{value?}
 use Rattle.calculus.specs.Evaluate.{next}
-use Rattle.calculus.proofs.Bools.{T-true}
 use Rattle.calculus.proofs.Tests.{value?-says}
 use Rattle.calculus.proofs.Soundness.{progress}
 use Rattle.calculus.proofs.Evaluation.{next-sound, next-complete}
@@ -28,16 +27,15 @@ use Rattle.format.specs.Book.{sizeLimit}
 use Rattle.format.proofs.Trees.{term-cells}
 use Rattle.answers.proofs.Fits.{reaches-fits}
 use Rattle.outcome.specs.declared.Stop.the-variants.{Value, Spent, Room}
-use Rattle.emission.specs.Emits.{Space, Emits, FieldReady, EmitsField}
+use Rattle.emission.specs.Emits.{Emits, EmitsField}
 use Rattle.emission.specs.declared.Laid as Laid
 use Rattle.emission.specs.declared.Laid.{Laid}
 use Rattle.emission.specs.declared.Laid.the-variants.{Full}
 use Rattle.emission.specs.declared.Laid.the-variants as Out
-use Rattle.emission.proofs.Fields.{ready-term, emits-term}
+use Rattle.emission.proofs.Fields.{emits-term}
 use Rattle.loading.specs.Loaded.{Loaded}
 use Rattle.reduction.specs.Steps.{SaysValue, NextReady, EmitsNext}
 use Rattle.running.specs.Turns.{Lies, TurnOf, t-value, t-spent, t-room, t-next, Steps}
-use Rattle.running.specs.declared.State.{State}
 use Rattle.running.specs.declared.Turn.the-variants.{Next, Ended}
 use Rattle.running.proofs.Lying.{positive, held, marked, lies-emitted}
 

@@ -4,10 +4,6 @@ use native.Mathlib.Omega.{arith}
 use borrow.Author.Needs.{needs}
 use Rattle.desk.proofs.print_cells.Statement.{statement}
 use Rattle.desk.proofs.print_cells.Tie as tie
-use Rattle.desk.proofs.print_cells.Reads as reads
-use Rattle.desk.proofs.print_cells.Lts as lts
-use Rattle.cells.proofs.read_cell.Reads as read-cell-reads
-use Rattle.desk.proofs.print_cell.Reads as print-cell-reads
 
 abbrev Inv-loop : tie.InvT-loop
 Inv-loop work i₀ i = i ≤ 4096

@@ -5,10 +5,6 @@ use Rattle.engine.proofs.Typing.{room-of, check-found, ill-typed-book}
 use borrow.Author.Needs.{needs}
 use Rattle.engine.proofs.check_types.Statement.{statement}
 use Rattle.engine.proofs.check_types.Tie as tie
-use Rattle.engine.proofs.check_types.Reads as reads
-use Rattle.engine.proofs.check_types.Lts as lts
-use Rattle.engine.proofs.find_root.Reads as find-root-reads
-use Rattle.layout.proofs.lay_type_book.Reads as lay-type-book-reads
 
 slice-aggregate-find-root : tie.Need-slice-aggregate-find-root
 slice-aggregate-find-root c = search needs

@@ -7,10 +7,6 @@ use Rattle.engine.proofs.Typing.{ready, root-found}
 use borrow.Author.Needs.{needs}
 use Rattle.engine.proofs.find_root.Statement.{statement}
 use Rattle.engine.proofs.find_root.Tie as tie
-use Rattle.engine.proofs.find_root.Reads as reads
-use Rattle.engine.proofs.find_root.Lts as lts
-use Rattle.loading.proofs.load.Reads as load-reads
-use Rattle.typing.proofs.find.Reads as find-reads
 
 sub-n : tie.Need-sub-n
 sub-n c = search needs

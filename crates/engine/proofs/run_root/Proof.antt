@@ -4,11 +4,6 @@ use Rattle.engine.proofs.Ran.{root-ready, not-full, root-typed, end-lie
 use borrow.Author.Needs.{needs}
 use Rattle.engine.proofs.run_root.Statement.{statement}
 use Rattle.engine.proofs.run_root.Tie as tie
-use Rattle.engine.proofs.run_root.Reads as reads
-use Rattle.engine.proofs.run_root.Lts as lts
-use Rattle.emission.proofs.emit_field.Reads as emit-field-reads
-use Rattle.running.proofs.close.Reads as close-reads
-use Rattle.running.proofs.run_on.Reads as run-on-reads
 
 emit-field-requires : tie.Need-emit-field-requires
 emit-field-requires c κs = root-ready (λ i. c .before .before .shared-slice-known .given i .fits) (c .before .before .before .pre)

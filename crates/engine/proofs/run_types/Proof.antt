@@ -5,10 +5,6 @@ use Rattle.engine.proofs.Typing.{root-of, run-found, ill-typed-book}
 use borrow.Author.Needs.{needs}
 use Rattle.engine.proofs.run_types.Statement.{statement}
 use Rattle.engine.proofs.run_types.Tie as tie
-use Rattle.engine.proofs.run_types.Reads as reads
-use Rattle.engine.proofs.run_types.Lts as lts
-use Rattle.engine.proofs.find_root.Reads as find-root-reads
-use Rattle.engine.proofs.run_root.Reads as run-root-reads
 
 slice-aggregate-find-root : tie.Need-slice-aggregate-find-root
 slice-aggregate-find-root c = search needs

@@ -4,10 +4,6 @@ use Rattle.running.proofs.Closing.{closed}
 use borrow.Author.Needs.{needs}
 use Rattle.running.proofs.close.Statement.{statement}
 use Rattle.running.proofs.close.Tie as tie
-use Rattle.running.proofs.close.Reads as reads
-use Rattle.running.proofs.close.Lts as lts
-use Rattle.cells.proofs.write_cell.Reads as write-cell-reads
-use Rattle.layout.proofs.clear.Reads as clear-reads
 
 sub-clear : tie.Need-sub-clear
 sub-clear c = positive (c .before .before .pre .lies)

@@ -8,9 +8,6 @@ use borrow.Author.Needs.{needs}
 use Rattle.running.proofs.Loop.{AllGoing, going-first, going-next, going-ends, going-more, going-ready, going-long}
 use Rattle.running.proofs.run_on.Statement.{statement}
 use Rattle.running.proofs.run_on.Tie as tie
-use Rattle.running.proofs.run_on.Reads as reads
-use Rattle.running.proofs.run_on.Lts as lts
-use Rattle.running.proofs.step.Reads as step-reads
 
 abbrev Inv-loop : tie.InvT-loop
 Inv-loop w₀ n limit s₀ state₀ w s state =

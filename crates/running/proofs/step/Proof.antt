@@ -11,12 +11,6 @@ use Rattle.running.proofs.Turns.{turn-value, turn-spent, next-ready, tu
 use borrow.Author.Needs.{needs}
 use Rattle.running.proofs.step.Statement.{statement}
 use Rattle.running.proofs.step.Tie as tie
-use Rattle.running.proofs.step.Reads as reads
-use Rattle.running.proofs.step.Lts as lts
-use Rattle.emission.proofs.emit_field.Reads as emit-field-reads
-use Rattle.loading.proofs.load.Reads as load-reads
-use Rattle.reduction.proofs.emit_next.Reads as emit-next-reads
-use Rattle.reduction.proofs.is_value.Reads as is-value-reads
 
 mul-load : tie.Need-mul-load
 mul-load c = search needs

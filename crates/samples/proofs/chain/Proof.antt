@@ -7,9 +7,6 @@ use native.Mathlib.Omega.{arith}
 use lib.ListN.{length}
 use Rattle.samples.proofs.chain.Statement.{statement}
 use Rattle.samples.proofs.chain.Tie as tie
-use Rattle.samples.proofs.chain.Reads as reads
-use Rattle.samples.proofs.chain.Lts as lts
-use Rattle.cells.proofs.write_cell.Reads as write-cell-reads
 
 abbrev Inv-loop : tie.InvT-loop
 Inv-loop book₀ kind label both k i₀ book i = (i ≤ k) × (length book ≡ 32768)

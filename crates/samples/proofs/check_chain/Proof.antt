@@ -4,12 +4,6 @@ use lib.Seq.{length-take-le}
 use borrow.Author.Needs.{needs}
 use Rattle.samples.proofs.check_chain.Statement.{statement}
 use Rattle.samples.proofs.check_chain.Tie as tie
-use Rattle.samples.proofs.check_chain.Reads as reads
-use Rattle.samples.proofs.check_chain.Lts as lts
-use Rattle.engine.proofs.check.Reads as check-reads
-use Rattle.io.proofs.large_buffer.Reads as large-buffer-reads
-use Rattle.samples.proofs.chain.Reads as chain-reads
-use Rattle.samples.proofs.print_outcome.Reads as print-outcome-reads
 
 large-buffer-requires : tie.Need-large-buffer-requires
 large-buffer-requires c κs = search needs
