@@ -165,18 +165,12 @@ fn next_apply(s: &[u8], d: &mut [u8], i: usize, m: usize) -> Laid
             },
         );
     }
-    emit_opened(
-        s,
-        d,
-        f.a,
-        Source {
-            reading: true,
-            term: t.b,
-            under: f.b,
-        },
-        f.c,
-        m,
-    )
+    let argument = Source {
+        reading: true,
+        term: t.b,
+        under: f.b,
+    };
+    emit_opened(s, d, f.a, argument, f.c, m)
 }
 
 // The part in field a steps, the rest is copied.
@@ -277,18 +271,12 @@ fn next_fix(s: &[u8], d: &mut [u8], i: usize, m: usize) -> Laid
     ensures { λ r. ⌜ EmitsNext (now (s .entry)) (now (d .entry)) (now (d .exit)) i m r ⌝ }
 {
     let t = read_cell(s, i);
-    emit_opened(
-        s,
-        d,
-        t.a,
-        Source {
-            reading: false,
-            term: i,
-            under: 0,
-        },
-        t.b,
-        m,
-    )
+    let itself = Source {
+        reading: false,
+        term: i,
+        under: 0,
+    };
+    emit_opened(s, d, t.a, itself, t.b, m)
 }
 
 // A field read of a value: of the top value the top value, of a record its content.
