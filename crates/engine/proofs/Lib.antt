@@ -3,3 +3,4 @@ pub mod Typing
 pub mod Judging
 pub mod Checked
 pub mod Ran
+pub mod Demands

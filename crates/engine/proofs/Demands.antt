@@ -1,0 +1,47 @@
+-- Every engine that meets the contracts of the two public calls meets demands 2 and 3, whole. Assumes nothing.
+use Prim.Native.Nat.{ℕ}
+use mathlib.Core.Path.{_≡_, sym, _∙_, subst}
+use mathlib.Core.List.{List}
+use Rattle.format.specs.Cell.{IsBytes}
+use Rattle.format.specs.Book.{opened}
+use Rattle.answers.specs.Answer.{Answer, accepted, Result, result}
+use Rattle.answers.specs.Engine.{Engine, IsLimit}
+use Rattle.answers.specs.Definition.{definition, check, run}
+use Rattle.answers.specs.Demands.{Accepts, Runs, Demand2, Demand3}
+use Rattle.answers.proofs.Demands.{demand2, demand3-from-2}
+use Rattle.engine.specs.Demands.{MeetsContracts}
+
+whole : {a : Answer} {v : List ℕ} {x : Result} → a ≡ x .answer → v ≡ x .left → result a v ≡ x
+whole p q = rw (p, q)
+
+accepts-alike : (E F : Engine) (b : List ℕ) → ((w : List ℕ) → E .check b w ≡ F .check b w) → Accepts E b → Accepts F b
+accepts-alike E F b same a =
+    record {
+      work = a .work;
+      is-work = a .is-work;
+      size = a .size;
+      answers = subst (λ (x : Result). x .answer ≡ accepted (a .size)) (same (a .work)) (a .answers);
+    }
+
+module _ (E : Engine) (c : MeetsContracts E) where
+  -- the contracts leave no choice
+  check-fixed : (b w : List ℕ) → IsBytes b → E .check b w ≡ check b w
+  check-fixed b w y = let x = c .checks b w y in x .3 ∙ whole (x .2 .answer) (x .2 .left)
+
+  run-fixed : (b w : List ℕ) (l : ℕ) → IsBytes b → IsLimit l → E .run b w l ≡ run b w l
+  run-fixed b w l y i = let x = c .runs b w l y i in x .3 ∙ whole (x .2 .answer) (x .2 .left)
+
+  pub contracts-demand2 : Demand2 E
+  contracts-demand2 b y =
+      let d = demand2 b y in
+      let to = accepts-alike E definition b (λ w. check-fixed b w y) in
+      let from = accepts-alike definition E b (λ w. sym (check-fixed b w y)) in
+      record {
+        accepts = ((λ a. d .accepts .0 (to a)), λ t. from (d .accepts .1 t));
+        shows = λ A f t w k. check-fixed b w y ∙ d .shows A f t w k;
+        runs = λ a w l k i. subst (Runs (opened b) l) (sym (run-fixed b w l y i)) (d .runs (to a) w l k i);
+        turns-back = λ n w l i. run-fixed b w l y i ∙ d .turns-back (λ a. n (from a)) w l i ∙ sym (check-fixed b w y);
+      }
+
+  pub contracts-demand3 : Demand3 E
+  contracts-demand3 = demand3-from-2 E contracts-demand2
