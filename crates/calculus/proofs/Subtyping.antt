@@ -158,7 +158,7 @@ unless-topLike {A} B x f = go (topLike? B) (topLike?-says B)
     go true e = (λ t. b-top (e .0 tt), λ b. tt)
     go false e = f (e .1)
 
-size-positive : (A : Ty) → 1 ≤ size-type A
+pub size-positive : (A : Ty) → 1 ≤ size-type A
 unfolding size-type
 size-positive int = omega arith
 size-positive top = omega arith

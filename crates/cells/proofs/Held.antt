@@ -73,7 +73,7 @@ TypeView s i A (suc (suc (suc (suc zero)))) = TwoTypes s i inter A
 TypeView s i A (suc (suc (suc (suc (suc zero))))) = OneType s i A
 TypeView s i A (suc (suc (suc (suc (suc (suc k)))))) = ⊥
 
-kind-of : {s : List ℕ} {i k l a b c : ℕ} → IsCell s i k l a b c → cellAt s i .kind ≡ k
+pub kind-of : {s : List ℕ} {i k l a b c : ℕ} → IsCell s i k l a b c → cellAt s i .kind ≡ k
 kind-of p = rw (p .is)
 
 two-types : {s : List ℕ} {i k l a b c : ℕ} {A B : Ty} (f : Ty → Ty → Ty) → IsCell s i k l a b c → a < i → b < i → HoldsType s a A

@@ -1,11 +1,10 @@
 -- Trees emitted one after the other, and the cell behind them that refers to them, make one emitted tree. Over the uniform tree: no word
 -- of any kind. Assumes nothing.
 use Prim.Native.Nat.{ℕ, zero, suc, _+_, _*_, _-_, _≤_, _<_}
-use native.Mathlib.Nat.{add-zero, add-suc, suc-add}
 use native.Mathlib.Decide.{decLt}
 use native.Mathlib.Omega.{arith}
 use mathlib.Core.Path.{_≡_, refl, sym, ap, _∙_}
-use mathlib.Core.List.{List, [], _∷_, _++_}
+use mathlib.Core.List.{List, _++_}
 use lib.ListN.{length}
 use lib.Seq.{sets, length-sets}
 use Rattle.calculus.specs.Syntax.{Ty, int, top, arrow, inter, field}
@@ -15,16 +14,11 @@ use Rattle.format.specs.Cell.{cellBytes}
 use Rattle.format.specs.Tree.{Tree, raw, node, cells, refer, lay}
 use Rattle.format.specs.Terms.{fromType, fromTerm}
 use Rattle.format.specs.Book.{sizeLimit}
-use Rattle.format.proofs.Laying.{length-lay}
+use Rattle.format.proofs.Laying.{sets-append, length-lay}
 use Rattle.cells.specs.Coded.{useOf}
 use Rattle.emission.specs.Emits.{Space, Emits, Finishes, referBy, ReferReady}
 use Rattle.emission.specs.declared.Laid.{Laid}
 use Rattle.emission.specs.declared.Laid.the-variants.{Next, Full}
-
--- a run of stores, and then another behind it
-pub sets-append : (x y l : List ℕ) (i : ℕ) → sets l i (x ++ y) ≡ sets (sets l i x) (i + length x) y
-sets-append [] y l i = rw add-zero
-sets-append (a ∷ x) y l i = rw (add-suc, ← suc-add) (sets-append x y (sets l i (a ∷ [])) (suc i))
 
 behind : (x y l : List ℕ) {k : List ℕ} (i : ℕ) {j : ℕ} → k ≡ sets l i x → j ≡ i + length x → sets k j y ≡ sets l i (x ++ y)
 behind x y l i e f = rw (e, f) (sym (sets-append x y l i))

@@ -1,7 +1,7 @@
 -- A tree laid down in cells, read again: over kind and field, with no word of any one kind. What a tree needs for it is `Good`.
 -- Assumes nothing.
 use Prim.Native.Nat.{ℕ, zero, suc, _+_, _*_, _/_, _%_, _≤_, _<_}
-use native.Mathlib.Nat.{add-zero, add-assoc}
+use native.Mathlib.Nat.{add-zero, add-suc, suc-add, add-assoc}
 use native.Mathlib.Decide.{decLt}
 use native.Mathlib.Omega.{arith}
 use mathlib.Core.Path.{_≡_, refl, sym, _∙_}
@@ -9,13 +9,18 @@ use mathlib.Core.Bool.{true}
 use mathlib.Core.Option.{none, some}
 use mathlib.Core.List.{List, [], _∷_, _++_, append-assoc}
 use lib.ListN.{length, length-append}
-use lib.Seq.{getD-append-add}
+use lib.Seq.{getD-append-add, sets}
 use Rattle.format.specs.Table.{Sort, Use, unused, plain, refers, Row, rowOf}
 use Rattle.format.specs.Cell.{IsBytes, byte, pair, Cell, cellAt, cellBytes}
 use Rattle.format.specs.Tree.{Tree, raw, node, cells, branch, grow, treeAt, refer, lay}
 use Rattle.format.specs.Book.{hasSort, cellFault}
 use Rattle.format.proofs.Opening.{branch-lower, treeAt-grow}
 use Rattle.format.proofs.Tests.{sortIs-says, FieldOk, cellFault-says}
+
+-- a run of stores, and then another behind it
+pub sets-append : (x y l : List ℕ) (i : ℕ) → sets l i (x ++ y) ≡ sets (sets l i x) (i + length x) y
+sets-append [] y l i = rw add-zero
+sets-append (a ∷ x) y l i = rw (add-suc, ← suc-add) (sets-append x y (sets l i (a ∷ [])) (suc i))
 
 -- a number below n in a field that refers to nothing
 pub data Number (n : ℕ) : Use → ℕ → Type 0 where

@@ -1,11 +1,10 @@
 -- A held type laid down, by the parts of its cell: what each call of `lay_type` needs, and what the cell leaves that is written behind
 -- the parts. Assumes nothing.
-use Prim.Native.Nat.{ℕ, suc, _+_, _*_, _-_, _≤_, _<_}
-use native.Mathlib.Nat.{add-zero, add-suc, suc-add}
+use Prim.Native.Nat.{ℕ, _+_, _*_, _-_, _≤_, _<_}
 use native.Mathlib.Decide.{ℕ-discrete}
 use native.Mathlib.Omega.{arith}
 use mathlib.Core.Path.{_≡_, refl, sym, ap, _∙_}
-use mathlib.Core.List.{List, [], _∷_, _++_}
+use mathlib.Core.List.{List, _++_}
 use lib.Dec.{lit<}
 use lib.ListN.{length}
 use lib.Seq.{sets, length-sets}
@@ -14,16 +13,12 @@ use Rattle.format.specs.Cell.{Cell, cellAt, cellBytes}
 use Rattle.format.specs.Tree.{Tree, raw, node, cells, refer, lay}
 use Rattle.format.specs.Terms.{fromType}
 use Rattle.format.specs.Book.{trailer, book}
-use Rattle.format.proofs.Laying.{length-lay}
+use Rattle.calculus.proofs.Subtyping.{size-positive}
+use Rattle.format.proofs.Laying.{sets-append, length-lay}
 use Rattle.format.proofs.Trees.{type-cells}
 use Rattle.cells.specs.Held.{HoldsType}
 use Rattle.cells.proofs.Held.{type-kinds, int-at, top-at, TwoTypes, arrow-at, inter-at, field-at}
 use Rattle.layout.specs.Lays.{RoomAt, Puts, RoomFor, LaysType, RoomForBook, LaysBook}
-
--- a run of stores, and then another behind it
-pub sets-append : (x y l : List ℕ) (i : ℕ) → sets l i (x ++ y) ≡ sets (sets l i x) (i + length x) y
-sets-append [] y l i = rw add-zero
-sets-append (a ∷ x) y l i = rw (add-suc, ← suc-add) (sets-append x y (sets l i (a ∷ [])) (suc i))
 
 -- A tree laid down from cell m on; x is the next free cell.
 pub record LaysTree (d e : List ℕ) (m x : ℕ) (t : Tree) : Type 0 where
@@ -55,14 +50,6 @@ type-last m top = omega arith
 type-last m (arrow A B) = omega (arith, type-cells A, type-cells B)
 type-last m (inter A B) = omega (arith, type-cells A, type-cells B)
 type-last m (field l A) = omega (arith, type-cells A)
-
-pub size-positive : (A : Ty) → 1 ≤ size-type A
-unfolding size-type
-size-positive int = omega arith
-size-positive top = omega arith
-size-positive (arrow A B) = omega arith
-size-positive (inter A B) = omega arith
-size-positive (field l A) = omega arith
 
 -- what a call says of the type that its cell holds
 module _ {s d e : List ℕ} {i m r : ℕ} (l : LaysType s d e i m r) {A : Ty} (h : HoldsType s i A) where

@@ -19,14 +19,14 @@ use Rattle.calculus.proofs.Decisions.{topLike?-says, not-topLike}
 use Rattle.calculus.proofs.Tests.{cast-top, cast-arrow, cast-field, cast-merge}
 use Rattle.format.specs.Cell.{Cell, cellAt}
 use Rattle.cells.specs.Held.{HoldsType, h-int, h-top, h-arrow, h-inter, h-field, HoldsTerm}
-use Rattle.cells.proofs.Held.{TwoTypes, OneType, FunctionAt, OneTerm, int-at, arrow-at, inter-at, field-at, lit-at, lam-at, merge-at, rcd-at, type-one, term-one}
+use Rattle.cells.proofs.Held.{kind-of, TwoTypes, OneType, FunctionAt, OneTerm, int-at, arrow-at, inter-at, field-at, lit-at, lam-at, merge-at, rcd-at, type-one, term-one}
 use Rattle.types.specs.Says.{TypesAt, TypesSay}
 use Rattle.types.proofs.Parts.{and-both}
 use Rattle.types.proofs.Heads.{top-like, not-top-like}
 use Rattle.reading.specs.Reads.{isSome, ValueAndType, Readable, ProperAt, NoMerge, SingleAt, PartBy, FindsPart}
 use Rattle.reading.specs.declared.Part.{Part}
 use Rattle.reading.specs.declared.Part.the-variants.{At, Nothing}
-use Rattle.reading.proofs.Single.{kind-is, single-int, single-arrow, single-field, no-number, no-function, no-record, no-merge}
+use Rattle.reading.proofs.Single.{single-int, single-arrow, single-field, no-number, no-function, no-record, no-merge}
 
 -- Under any type.
 
@@ -64,7 +64,7 @@ pub ordinary-at : {s : List ℕ} {a : ℕ} {A : Ty} → HoldsType s a A → (cel
 ordinary-at (h-int p c) n = tt
 ordinary-at (h-top p c) n = tt
 ordinary-at (h-arrow p c u v x y) n = tt
-ordinary-at (h-inter p c u v x y) n = n (kind-is p)
+ordinary-at (h-inter p c u v x y) n = n (kind-of p)
 ordinary-at (h-field p c u x) n = tt
 
 -- y stands in cell a
@@ -232,11 +232,11 @@ record-reads l k A e n = rw (cast-field l A (rcd k e) n) (some-within (eqb l k) 
 
 pub field-left : {s : List ℕ} {a : ℕ} {A : Ty} → HoldsType s a A → Ordinary A → ¬ TopLike A → (cellAt s a .kind ≡ 1 → ⊥) → (cellAt s a .kind ≡ 3 → ⊥) →
     cellAt s a .kind ≡ 5
-field-left (h-int p c) o n f g = absurd (f (kind-is p))
+field-left (h-int p c) o n f g = absurd (f (kind-of p))
 field-left (h-top p c) o n f g = absurd (n tt)
-field-left (h-arrow p c u v x y) o n f g = absurd (g (kind-is p))
+field-left (h-arrow p c u v x y) o n f g = absurd (g (kind-of p))
 field-left (h-inter p c u v x y) o n f g = absurd o
-field-left (h-field p c u x) o n f g = kind-is p
+field-left (h-field p c u x) o n f g = kind-of p
 
 -- the content at p of the record at v under that of the record type at a, which is the type at q
 pub record Contents (s : List ℕ) (v a p q : ℕ) : Type 0 where

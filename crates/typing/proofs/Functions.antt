@@ -4,6 +4,7 @@ use native.Mathlib.Omega.{arith}
 use mathlib.Core.Path.{_≡_, refl, _∙_, ap}
 use mathlib.Core.List.{List, _∷_}
 use lib.ListN.{length}
+use Rattle.calculus.proofs.Subtyping.{size-positive}
 use Rattle.calculus.specs.Syntax.{Ty, arrow, Term, fix, size, size-type}
 use Rattle.calculus.specs.Infer as Infer
 use Rattle.calculus.specs.Infer.{infer}
@@ -16,7 +17,7 @@ use Rattle.typing.specs.declared.Found.{Found}
 use Rattle.typing.specs.declared.Found.the-variants.{Typed, Refused}
 use Rattle.typing.specs.Finding.{ReadyAt, Finds, ReadyFor, checkedHere, Checks, RoomFor, Adds, BinderBelow, Binds}
 use Rattle.typing.proofs.Answers.{Answer, checking, typed, turned, handed, carried, checked-carried}
-use Rattle.typing.proofs.Parts.{size-type-one, mark-one, Function, function, Noted, noted, ready-body}
+use Rattle.typing.proofs.Parts.{mark-one, Function, function, Noted, noted, ready-body}
 use Rattle.typing.proofs.Checking.{carried-on}
 
 -- ---- a function
@@ -42,7 +43,7 @@ module _ {s : List ℕ} {n c i : ℕ} {y : Cell} (p : ReadyAt s n c i 21) (o : y
     pub lam-asks : (y .a < i) × ReadyFor t m n (y .a) (y .c)
     lam-asks =
         let r = own-room in
-        let l = size-type-one (own .input) in
+        let l = size-positive (own .input) in
         let b : y .c < n = omega (arith, own .output-lower, p .ready .term-below) in (
           own .left .leads .lower,
           record {
@@ -125,7 +126,7 @@ module _ {s : List ℕ} {n c i : ℕ} {y : Cell} (p : ReadyAt s n c i 21) (o : y
             let z = own-passed in
             let v = z .of .view in
             let l = ap size (v .is) in
-            let r : k < 8192 = omega (arith, p .ready .room, z .less, size-type-one (v .input), size-type-one (v .output)) in
+            let r : k < 8192 = omega (arith, p .ready .room, z .less, size-positive (v .input), size-positive (v .output)) in
             record {
               long = z .same .long ∙ p .ready .long;
               room = r;
@@ -149,7 +150,7 @@ module _ {s : List ℕ} {n c i : ℕ} {y : Cell} (p : ReadyAt s n c i 21) (o : y
                     l,
                     refl,
                     omega (arith, z .more, a .counts),
-                    omega (arith, z .less, a .counts, size-type-one (v .input), size-type-one (v .output)),
+                    omega (arith, z .less, a .counts, size-positive (v .input), size-positive (v .output)),
                     same-trans (z .same) (a .same) (omega (arith, z .more)),
                     omega (arith, a .counts),
                     h-arrow (a .there) (ap (λ (x : Cell). x .c) j ∙ type-mark (z .output)) b o (same-type (a .same) b (z .input)) (same-type (a .same) o (z .output)),
@@ -179,7 +180,7 @@ module _ {s : List ℕ} {n c i : ℕ} {y : Cell} (p : ReadyAt s n c i 23) (o : y
     pub fix-asks : (y .a < i) × ReadyFor t m n (y .a) (y .b)
     fix-asks =
         let r = fix-room in
-        let l = size-type-one (fix-own .type) in (
+        let l = size-positive (fix-own .type) in (
           fix-own .left .leads .lower,
           record {
             ready = ready-body (p .ready) (fix-own .left) w (fix-own .holds) (omega arith);
@@ -199,6 +200,6 @@ module _ {s : List ℕ} {n c i : ℕ} {y : Cell} (p : ReadyAt s n c i 23) (o : y
               let l = same-term (w .same) (omega (arith, v .left .leads .lower)) (v .left .holds) in
               rw (v .is, checked-carried 0 (infer (v .type ∷ Γ) (v .term)) (v .type) (v .type))
               (carried-on (infer (v .type ∷ Γ) (v .term)) (v .type) (size (fix (v .term) (v .type))) (v .left .leads) b (w .same)
-              (omega (arith, w .counts)) (omega (arith, w .counts, size-type-one (v .type)))
+              (omega (arith, w .counts)) (omega (arith, w .counts, size-positive (v .type)))
               (checking f (w .holds (v .type) Γ (v .holds) g) l (same-type (w .same) (fix-binds .type-below) (v .holds))));
         }

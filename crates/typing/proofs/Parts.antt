@@ -5,7 +5,7 @@ use native.Mathlib.Omega.{arith}
 use mathlib.Core.Path.{_≡_, _∙_, ap}
 use mathlib.Core.Bool.{Bool, true, false, cond}
 use mathlib.Core.List.{List, _∷_}
-use Rattle.calculus.specs.Syntax.{Ty, int, top, arrow, inter, field, size-type}
+use Rattle.calculus.specs.Syntax.{Ty, int, top, arrow, inter, field}
 use Rattle.calculus.specs.Syntax.{Term, var, lit, unit, anno, app, lam, merge, fix, rcd, proj, size}
 use Rattle.calculus.specs.Infer.{infer}
 use Rattle.calculus.specs.Decide.{topLike?}
@@ -17,14 +17,6 @@ use Rattle.typing.specs.declared.Found.the-variants.{Typed}
 use Rattle.typing.specs.Finding.{Ready, ReadyAt, Finds, Binds}
 use Rattle.typing.proofs.Ways.{Leads, leads-a, leads-b}
 use Rattle.typing.proofs.Answers.{finding, IsFound, typed}
-
-pub size-type-one : (A : Ty) → 1 ≤ size-type A
-unfolding size-type
-size-type-one int = omega arith
-size-type-one top = omega arith
-size-type-one (arrow A B) = omega arith
-size-type-one (inter A B) = omega arith
-size-type-one (field l A) = omega arith
 
 pub size-one : (e : Term) → 1 ≤ size e
 unfolding size
