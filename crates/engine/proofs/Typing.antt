@@ -1,34 +1,36 @@
 -- From a loaded book to what typing finds of its root, and from there to what both calls answer. Assumes nothing.
-use Prim.Native.Nat.{ℕ, zero, suc, _+_, _*_, _-_, _≤_, _<_}
+use Prim.Native.Nat.{ℕ, zero, suc, _*_, _≤_, _<_}
 use mathlib.Core.Path.{_≡_, refl, _∙_, ap, subst}
 use mathlib.Core.Bool.{Bool, true, false}
-use mathlib.Core.List.{List, [], _∷_, _++_}
-use native.Mathlib.Nat.{zero-add, sub-zero, zero-sub, suc-sub-suc}
+use mathlib.Core.List.{List, [], _∷_}
 use native.Mathlib.Omega.{arith}
 use borrow.Author.Tests.{ltb-true}
 use lib.Dec.{ltb}
-use lib.ListN.{length, take, drop, length-replicate}
-use lib.Seq.{sets, sets-eq}
-use Rattle.calculus.specs.Syntax.{Ty, size-type, size}
+use lib.ListN.{length, take, length-replicate}
+use Rattle.calculus.specs.Syntax.{Ty, size}
 use Rattle.calculus.specs.Infer as Infer
 use Rattle.calculus.specs.Infer.{infer}
 use Rattle.calculus.proofs.Inference.{infer-says}
 use Rattle.calculus.proofs.Typing.{typed-size}
 use Rattle.format.specs.Cell.{IsBytes, Cell, cellAt}
-use Rattle.format.specs.Tree.{Tree}
+use Rattle.format.specs.Table.{refers, type-sort}
+use Rattle.format.specs.Tree.{Tree, cells}
 use Rattle.format.specs.Terms.{toTerm, fromType}
 use Rattle.format.proofs.Trees.{type-cells}
-use Rattle.format.specs.Book.{count, WellFormed, rootOf, follow, opened, typeBook, book, sizeLimit}
+use Rattle.format.specs.Book.{count, WellFormed, rootOf, follow, opened, book, sizeLimit}
 use Rattle.format.proofs.Tests.{opened-small, opened-fits}
-use Rattle.format.proofs.RoundTrip.{book-length}
 use Rattle.answers.specs.Answer.{Result, refused, accepted, ill-typed}
 use Rattle.answers.specs.Definition.{afterTyping, turnedBack, shown, reported}
-use Rattle.answers.specs.Engine.{workLength, zeros, laid}
+use Rattle.answers.specs.Engine.{workLength, zeros}
 use Rattle.outcome.specs.Numbers.{refusalAnswer}
 use Rattle.outcome.specs.declared.Refusal.{Refusal}
 use Rattle.cells.specs.Held.{HoldsType, HoldsTerm, h-empty}
 use Rattle.loading.specs.Loaded.{Loaded}
-use Rattle.layout.specs.Lays.{RoomForBook, LaysBook}
+use Rattle.emission.specs.Emits.{HeldField}
+use Rattle.emission.proofs.Compose.{type-positive}
+use Rattle.emission.proofs.Fields.{type-field}
+use Rattle.layout.specs.Lays.{LiesTree, LayReady, LaysDown, SomeTree, Closes}
+use Rattle.layout.proofs.Laid.{lay-ready}
 use Rattle.typing.specs.Finding.{Ready, Finds, Answered}
 use Rattle.typing.specs.declared.Found.{Found}
 use Rattle.typing.specs.declared.Found.the-variants.{Typed, Refused}
@@ -99,33 +101,12 @@ module _ (b s : List ℕ) (bytes : IsBytes b) (f : WellFormed b) (l : Loaded (ta
           let q : r ≡ Refused (a .0) = cc in
           refuses q e (a .2 ∙ ap (λ (i : ℕ). refused (ill-typed w) i) (way-alike p))
 
-drop-zeros : (k n : ℕ) → drop k (zeros n) ≡ zeros (n - k)
-unfolding zeros
-drop-zeros zero n = rw sub-zero
-drop-zeros (suc k) zero = rw zero-sub
-drop-zeros (suc k) (suc n) = drop-zeros k n ∙ rw suc-sub-suc
-
 length-zeros : (n : ℕ) → length (zeros n) ≡ n
 unfolding zeros
 length-zeros n = length-replicate {A = ℕ} n 0
 
-sets-zeros : (n : ℕ) (b : List ℕ) → length b ≤ n → sets (zeros n) 0 b ≡ b ++ zeros (n - length b)
-sets-zeros n b h =
-    let k : 0 + length b ≤ length (zeros n) = omega (arith, length-zeros n) in
-    sets-eq b (zeros n) 0 k ∙ ap (λ (l : List ℕ). b ++ l) (ap (λ (i : ℕ). drop i (zeros n)) (zero-add (length b)) ∙ drop-zeros (length b) n)
-
--- a book laid into zeros: the rest stays zero
-laid-in-zeros : (b : List ℕ) → length b ≤ workLength → sets (zeros workLength) 0 b ≡ laid b
-unfolding laid
-laid-in-zeros b h = sets-zeros workLength b h
-
--- a type that typing found has room in the work buffer
-book-room : {b t w : List ℕ} {A : Ty} {c : ℕ} → IsBytes b → WellFormed b → infer [] (opened b) ≡ Infer.found A → HoldsType t c A →
-    w ≡ zeros workLength → RoomForBook t w c
-book-room {b} {w = w} {A = A} bytes f e h k =
-    let n : size-type A ≤ sizeLimit = omega (arith, typed-size (infer-says [] (opened b) A .0 e), opened-small b bytes f) in
-    let l : length w ≡ workLength = ap length k ∙ length-zeros workLength in
-    record { type = A; holds = h; fits = omega arith; numbered = n }
+type-held : {t : List ℕ} {c : ℕ} {A : Ty} → HoldsType t c A → HeldField t (suc c) (refers type-sort) c (fromType A)
+type-held h = type-field h (omega arith)
 
 -- what follows from what was found
 module _ {b w t : List ℕ} {i : ℕ} {r : Found} (p : Formed b w i) (bytes : IsBytes b) (d : FindsRoot b t i r) where
@@ -138,27 +119,33 @@ module _ {b w t : List ℕ} {i : ℕ} {r : Found} (p : Formed b w i) (bytes : Is
           (A, f, subst (λ (j : ℕ). HoldsType t j A) z h, g)
       go (refuses q f a) = let z : _≡_ {A = ℕ} 0 1 = cc in absurd (omega arith)
 
-  pub room-of : {c k : ℕ} → r ≡ Typed c k → RoomForBook t w c
-  room-of e = let a = found-of e in book-room bytes (p .book .form) (a .1) (a .2) (p .cleared)
+  work-long : length w ≡ 65536
+  work-long = ap length (p .cleared) ∙ length-zeros workLength
 
-  pub check-found : {v : List ℕ} {c k n : ℕ} → r ≡ Typed c k → LaysBook t w v c n → AfterTyping b shown v (Out.Accepted n)
+  type-small : {A : Ty} → infer [] (opened b) ≡ Infer.found A → cells (fromType A) ≤ sizeLimit
+  type-small {A} e = omega (arith, type-cells A, typed-size (infer-says [] (opened b) A .0 e), opened-small b bytes (p .book .form))
+
+  pub type-ready : {c k : ℕ} → r ≡ Typed c k → LayReady t w 2 c
+  type-ready e = let a = found-of e in lay-ready work-long (type-held (a .2)) (type-positive (a .0)) (type-small (a .1))
+
+  type-lies : {v : List ℕ} {c n : ℕ} (A : Ty) → infer [] (opened b) ≡ Infer.found A → HoldsType t c A → LaysDown t v 2 c n → LiesTree v n (fromType A)
+  type-lies {c = c} A e h y = y .says (suc c) (fromType A) (type-held h) (type-positive A) (type-small e)
+
+  pub type-lain : {v : List ℕ} {c k n : ℕ} → r ≡ Typed c k → LaysDown t v 2 c n → SomeTree v n
+  type-lain e y = let a = found-of e in record { tree = fromType (a .0); lies = type-lies (a .0) (a .1) (a .2) y }
+
+  pub check-found : {v u : List ℕ} {c k n : ℕ} → r ≡ Typed c k → LaysDown t v 2 c n → Closes v u n → AfterTyping b shown u (Out.Accepted n)
   unfolding afterTyping shown
-  check-found {v} {c} {k} {n} e y =
+  check-found e y z =
       let a = found-of e in
-      let h : size-type (a .0) ≤ sizeLimit =
-      omega (arith, typed-size (infer-says [] (opened b) (a .0) .0 (a .1)), opened-small b bytes (p .book .form)) in
-      let l : length (typeBook (a .0)) ≤ workLength = omega (arith, book-length (fromType (a .0)), type-cells (a .0)) in
-      rw (a .1)
-      (record {
-        answer = ap accepted (y .size (a .0) (a .2));
-        left = y .lays (a .0) (a .2) ∙ ap (λ (u : List ℕ). sets u 0 (typeBook (a .0))) (p .cleared) ∙ laid-in-zeros (typeBook (a .0)) l;
-      })
+      let l = type-lies (a .0) (a .1) (a .2) y in
+      rw (a .1) (record { answer = ap accepted (l .count ∙ type-cells (a .0)); left = z .says (fromType (a .0)) l })
 
   pub root-of : {c k : ℕ} → r ≡ Typed c k → RootAt t w i (opened b)
   root-of e =
       let a = found-of e in
       record {
-        long = ap length (p .cleared) ∙ length-zeros workLength;
+        long = work-long;
         holds = a .3;
         small = opened-small b bytes (p .book .form);
         fits = opened-fits b bytes (p .book .form);

@@ -1,14 +1,12 @@
 // The public calls. For every book, every work buffer and every step limit the answer and each byte left in the work buffer are fixed.
 use book::Form;
 use book::check_form;
-use emission::Laid;
-use emission::emit_field;
 use layout::clear;
-use layout::lay_type_book;
+use layout::close;
+use layout::lay_down;
 use loading::load;
 use outcome::Outcome;
 use outcome::Refusal;
-use running::close;
 use running::run_on;
 use typing::Found;
 use typing::find;
@@ -45,7 +43,11 @@ fn check_types(book: &[u8], work: &mut [u8], root: usize) -> Outcome
     let mut buffer = [0u8; 65536];
     match find_root(book, &mut buffer, root) {
         Found::Refused(refusal) => Outcome::Refused(refusal),
-        Found::Typed(t, _) => Outcome::Accepted(lay_type_book(&buffer, work, t)),
+        Found::Typed(t, _) => {
+            let n = lay_down(&buffer, work, 2, t);
+            close(work, n);
+            Outcome::Accepted(n)
+        }
     }
 }
 
@@ -64,9 +66,7 @@ fn run_root(s: &[u8], work: &mut [u8], root: usize, limit: u32) -> Outcome
     requires { ⌜ SomeRoot (now s) (now work) root ⌝ }
     ensures { λ r. ⌜ RunsRoot (now (s .entry)) (now (work .entry)) (now (work .exit)) root limit r ⌝ }
 {
-    let Laid::Next(n) = emit_field(s, work, 3, root, 0) else {
-        return Outcome::Refused(Refusal::Size(root));
-    };
+    let n = lay_down(s, work, 3, root);
     let end = run_on(work, n, limit);
     let stop = end.stop;
     close(work, end.cells);

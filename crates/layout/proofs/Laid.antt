@@ -1,235 +1,113 @@
--- A held type laid down, by the parts of its cell: what each call of `lay_type` needs, and what the cell leaves that is written behind
--- the parts. Assumes nothing.
-use Prim.Native.Nat.{ℕ, _+_, _*_, _-_, _≤_, _<_}
-use native.Mathlib.Decide.{ℕ-discrete}
+-- A tree emitted from cell 0 on lies there, or is too large; with its trailer and zeros behind it, it is laid down as a book. Assumes
+-- nothing.
+use Prim.Native.Nat.{ℕ, _+_, _*_, _-_, _≤_, _<_, zero-le}
+use native.Mathlib.Decide.{decLe}
 use native.Mathlib.Omega.{arith}
-use mathlib.Core.Path.{_≡_, refl, sym, ap, _∙_}
-use mathlib.Core.List.{List, _++_}
-use lib.Dec.{lit<}
-use lib.ListN.{length}
-use lib.Seq.{sets, length-sets}
-use Rattle.calculus.specs.Syntax.{Ty, int, top, arrow, inter, field, size-type}
-use Rattle.format.specs.Cell.{Cell, cellAt, cellBytes}
-use Rattle.format.specs.Tree.{Tree, raw, node, cells, refer, lay}
-use Rattle.format.specs.Terms.{fromType}
-use Rattle.format.specs.Book.{trailer, book}
-use Rattle.calculus.proofs.Subtyping.{size-positive}
-use Rattle.format.proofs.Laying.{sets-append, length-lay}
-use Rattle.format.proofs.Trees.{type-cells}
-use Rattle.cells.specs.Held.{HoldsType}
-use Rattle.cells.proofs.Held.{type-kinds, int-at, top-at, TwoTypes, arrow-at, inter-at, field-at}
-use Rattle.layout.specs.Lays.{RoomAt, Puts, RoomFor, LaysType, RoomForBook, LaysBook}
+use native.Mathlib.Nat.{zero-add}
+use mathlib.Core.Path.{_≡_, refl, _∙_, ap, subst}
+use mathlib.Core.Logic.{_⊎_, inl, inr}
+use mathlib.Core.List.{List, [], _++_, append-nil}
+use borrow.Rule.Slice.PartMut.{putMid, midOf, postOf, post-is}
+use lib.ListN.{length, take, drop, replicate, length-append, length-take, length-drop}
+use lib.Seq.{sets, sets-eq, length-sets, take-at, drop-length, length-take-le}
+use Rattle.format.specs.Cell.{Cell, cellBytes}
+use Rattle.format.specs.Tree.{Tree, cells, lay}
+use Rattle.format.specs.Book.{sizeLimit, book, trailer}
+use Rattle.format.proofs.Laying.{length-lay}
+use Rattle.format.proofs.RoundTrip.{book-length}
+use Rattle.answers.specs.Engine.{workLength, zeros, laid}
+use Rattle.cells.specs.Coded.{useOf}
+use Rattle.emission.specs.Emits.{Emits, HeldField, EmitsField}
+use Rattle.emission.specs.declared.Laid.{Laid}
+use Rattle.emission.specs.declared.Laid.the-variants.{Next, Full}
+use Rattle.layout.specs.Lays.{LiesTree, LayReady, LaysDown}
 
--- A tree laid down from cell m on; x is the next free cell.
-pub record LaysTree (d e : List ℕ) (m x : ℕ) (t : Tree) : Type 0 where
-  pub next : x ≡ m + cells t
-  pub lays : e ≡ sets d (8 * m) (lay m t)
+-- ---- emitted from cell 0 on
 
--- a field that refers to nothing
-pub lay-raw : (d : List ℕ) (m : ℕ) → LaysTree d d m m (raw 0)
-unfolding lay cells
-lay-raw d m = record { next = omega arith; lays = refl }
+abbrev pub WholeOrFull : List ℕ → Laid → Tree → Type 0
+WholeOrFull e r t = ((r ≡ Next (cells t)) × LiesTree e (cells t) t) ⊎ ((sizeLimit < cells t) × (r ≡ Full))
 
--- two trees one after the other, and behind them the cell that refers to both
-pub lay-node : {d f g z : List ℕ} {m x y k l u v r : ℕ} {a b : Tree} → LaysTree d f m x a → LaysTree f g x y b → u ≡ refer m a → v ≡ refer x b
-    → Puts g z y k l u v r → LaysTree d z m r (node k l a b (raw 0))
-unfolding lay cells refer
-lay-node {d} {f} {g} {z} {m} {x} {y} {k} {l} {u} {v} {r} {a} {b} p q eu ev c =
-    let ex = p .next in
-    let h : 8 * x ≡ 8 * m + length (lay m a) = omega (arith, length-lay m a) in
-    let j : 8 * y ≡ 8 * m + length (lay m a) + length (lay x b) = omega (arith, q .next, length-lay m a, length-lay x b) in
-    let t = cellBytes (record { kind = k; label = l; a = u; b = v; c = 0 }) in
-    let n = sym (sets-append (lay m a) (lay x b ++ t) d (8 * m) ∙ sets-append (lay x b) t (sets d (8 * m) (lay m a)) (8 * m + length (lay m a))) in
-    record { next = omega (arith, q .next, c .next); lays = rw (← ex, ← eu, ← ev, c .puts, q .lays, p .lays, j, h) n }
+pub whole-or-full : {d e : List ℕ} {r : Laid} {t : Tree} → length d ≡ 65536 → 1 ≤ cells t → Emits d e 0 r t → WholeOrFull e r t
+whole-or-full {d} {e} {r} {t} h k m = go (decLe (cells t) sizeLimit)
+  where
+    same : 0 + cells t ≡ cells t
+    same = zero-add (cells t)
 
--- the last cell of a type laid down
-pub type-last : (m : ℕ) (A : Ty) → refer m (fromType A) ≡ m + size-type A - 1
-unfolding fromType refer cells size-type
-type-last m int = omega arith
-type-last m top = omega arith
-type-last m (arrow A B) = omega (arith, type-cells A, type-cells B)
-type-last m (inter A B) = omega (arith, type-cells A, type-cells B)
-type-last m (field l A) = omega (arith, type-cells A)
+    stands : cells t ≤ sizeLimit → e ≡ sets d 0 (lay 0 t) → LiesTree e (cells t) t
+    stands l q =
+        let x = lay 0 t in
+        let n : length x ≡ 8 * cells t = length-lay 0 t in
+        let y : 0 + length x ≤ length d = omega arith in
+        record {
+          long = ap length q ∙ length-sets d 0 x ∙ h;
+          count = refl;
+          some = k;
+          small = l;
+          lies = ap (take (8 * cells t)) (q ∙ sets-eq x d 0 y) ∙ take-at x (drop (0 + length x) d) (8 * cells t) n;
+        }
 
--- what a call says of the type that its cell holds
-module _ {s d e : List ℕ} {i m r : ℕ} (l : LaysType s d e i m r) {A : Ty} (h : HoldsType s i A) where
-  laid-tree : LaysTree d e m r (fromType A)
-  laid-tree = record { next = rw type-cells (l .next A h); lays = l .lays A h }
+    go : Dec (cells t ≤ sizeLimit) → WholeOrFull e r t
+    go (yes l) = let q = m .fits (omega (arith, same)) in inl (q .0 ∙ ap Next same, stands l (q .1))
+    go (no u) = inr (omega arith, m .full (omega (arith, same)))
 
-  laid-last : r - 1 ≡ refer m (fromType A)
-  laid-last = rw (type-last, ← l .next A h)
+-- a held tree that fits can be laid down
+pub lay-ready : {s d : List ℕ} {u x n : ℕ} {t : Tree} → length d ≡ 65536 → HeldField s n (useOf u) x t → 1 ≤ cells t → cells t ≤ sizeLimit →
+    LayReady s d u x
+lay-ready {n = n} {t} h f k l =
+    record { field = record { space = record { long = h; used = zero-le }; cell = n; tree = t; holds = f }; some = k; small = l }
 
-  laid-length : length e ≡ length d
-  laid-length = ap length (l .lays A h) ∙ length-sets d (8 * m) (lay m (fromType A))
+module _ {s d e : List ℕ} {u x : ℕ} {r : Laid} (p : LayReady s d u x) (q : EmitsField s d e u x 0 r) where
+  ends : {n : ℕ} (t : Tree) → HeldField s n (useOf u) x t → 1 ≤ cells t → WholeOrFull e r t
+  ends {n} t h k = whole-or-full (p .field .space .long) k (q .says n t h)
 
-laid-type : {s d e : List ℕ} {i m r : ℕ} → ((A : Ty) → HoldsType s i A → LaysTree d e m r (fromType A)) → LaysType s d e i m r
-laid-type f = record { next = λ A h. rw (← type-cells A) (f A h .next); lays = λ A h. f A h .lays }
+  pub not-full : r ≡ Full → ⊥
+  not-full f = go (ends (p .field .tree) (p .field .holds) (p .some))
+    where
+      go : WholeOrFull e r (p .field .tree) → ⊥
+      go (inl o) = let z : _≡_ {A = ℕ} 0 1 = cc in absurd (omega arith)
+      go (inr o) = omega (arith, o .0, p .small)
 
--- A type by its cell t: one without parts, a record type, and a type of two parts.
-record Plain (t : Cell) (A : Ty) : Type 0 where
-  tree : fromType A ≡ node (t .kind) 0 (raw 0) (raw 0) (raw 0)
-  size : size-type A ≡ 1
+  pub lays-down : {k : ℕ} → r ≡ Next k → LaysDown s e u x k
+  lays-down {k} g = record { says = λ n t h l m. go t m (ends t h l) }
+    where
+      go : (t : Tree) → cells t ≤ sizeLimit → WholeOrFull e r t → LiesTree e k t
+      go t m (inl o) =
+          let z : cells t ≡ k = cc in
+          subst (λ (c : ℕ). LiesTree e c t) z (o .1)
+      go t m (inr o) = absurd (omega (arith, o .0, m))
 
-record OfOne (s : List ℕ) (i : ℕ) (t : Cell) (A : Ty) : Type 0 where
-  part : Ty
-  tree : fromType A ≡ node 5 (t .label) (fromType part) (raw 0) (raw 0)
-  size : size-type A ≡ 1 + size-type part
-  lower : t .a < i
-  holds : HoldsType s (t .a) part
+-- ---- closed
 
-record OfTwo (s : List ℕ) (i : ℕ) (t : Cell) (A : Ty) : Type 0 where
-  first : Ty
-  second : Ty
-  tree : fromType A ≡ node (t .kind) 0 (fromType first) (fromType second) (raw 0)
-  size : size-type A ≡ 1 + size-type first + size-type second
-  first-lower : t .a < i
-  second-lower : t .b < i
-  holds-first : HoldsType s (t .a) first
-  holds-second : HoldsType s (t .b) second
+abbrev trailerCell : ℕ → Cell
+trailerCell n = record { kind = 240; label = 1; a = n; b = n - 1; c = 0 }
 
-plain : {s : List ℕ} {i : ℕ} {A : Ty} → HoldsType s i A → cellAt s i .kind < 3 → Plain (cellAt s i) A
-unfolding fromType size-type
-plain {s} {i} h k =
-    elim (ℕ-discrete (cellAt s i .kind) 1) [
-      | yes e ↦ record { tree = rw e (ap fromType (int-at h e)); size = ap size-type (int-at h e) }
-      | no n ↦
-          let e : cellAt s i .kind ≡ 2 = omega (arith, type-kinds h, n) in
-          record { tree = rw e (ap fromType (top-at h e)); size = ap size-type (top-at h e) }
-    ]
+-- the first n + 1 cells are then the tree's book
+book-front : {d e : List ℕ} {n : ℕ} {t : Tree} → LiesTree d n t → e ≡ sets d (8 * n) (cellBytes (trailerCell n)) → take (8 * (n + 1)) e ≡ book t
+unfolding cellBytes book trailer
+book-front {d} {e} {n} {t} l q =
+    let T = trailer n (n - 1) in
+    let h : 8 * n + 8 ≤ length d = omega (arith, l .long, l .small) in
+    let f : take (8 * n) d ++ T ≡ book t = ap (λ (x : List ℕ). x ++ T) (l .lies) ∙ ap (λ (x : ℕ). lay 0 t ++ trailer x (x - 1)) (l .count) in
+    let m : length (take (8 * n) d ++ T) ≡ 8 * (n + 1) =
+    length-append (take (8 * n) d) T ∙ ap (λ (x : ℕ). x + 8) (length-take-le (8 * n) d (omega arith)) ∙ omega arith in
+    ap (take (8 * (n + 1))) (q ∙ sets-eq T d (8 * n) h) ∙ take-at (take (8 * n) d ++ T) (drop (8 * n + 8) d) (8 * (n + 1)) m ∙ f
 
-of-one : {s : List ℕ} {i : ℕ} {A : Ty} → HoldsType s i A → cellAt s i .kind ≡ 5 → OfOne s i (cellAt s i) A
-unfolding fromType size-type
-of-one h k =
-    let p = field-at h k in
-    record { part = p .content; tree = ap fromType (p .is); size = ap size-type (p .is); lower = p .lower; holds = p .holds }
+-- nothing lies after a part that goes to the end
+nothing-after : (a : ℕ) (u : List ℕ) → a ≤ length u → postOf a (length u - a) u ≡ []
+nothing-after a u h = post-is a (length u) u h ∙ drop-length u
 
--- a function type and an intersection differ in the kind alone
-by-two : {s : List ℕ} {i : ℕ} {A : Ty} (k : ℕ) (f : Ty → Ty → Ty)
-    → ((B C : Ty) → fromType (f B C) ≡ node k 0 (fromType B) (fromType C) (raw 0))
-    → ((B C : Ty) → size-type (f B C) ≡ 1 + size-type B + size-type C)
-    → cellAt s i .kind ≡ k → TwoTypes s i f A → OfTwo s i (cellAt s i) A
-by-two k f tree size e p =
-    record {
-      first = p .first;
-      second = p .second;
-      tree = rw e (ap fromType (p .is) ∙ tree (p .first) (p .second));
-      size = ap size-type (p .is) ∙ size (p .first) (p .second);
-      first-lower = p .first-lower;
-      second-lower = p .second-lower;
-      holds-first = p .holds-first;
-      holds-second = p .holds-second;
-    }
+part-length : (a : ℕ) (u : List ℕ) → a ≤ length u → length (midOf a (length u - a) u) ≡ length u - a
+part-length a u h = simp (length-take, length-drop) (omega arith)
 
-of-two : {s : List ℕ} {i : ℕ} {A : Ty} → HoldsType s i A → 3 ≤ cellAt s i .kind → (cellAt s i .kind ≡ 5 → ⊥) → OfTwo s i (cellAt s i) A
-unfolding fromType size-type
-of-two {s} {i} h k u =
-    elim (ℕ-discrete (cellAt s i .kind) 3) [
-      | yes e ↦ by-two 3 arrow (λ B C. refl) (λ B C. refl) e (arrow-at h e)
-      | no n ↦
-          let e : cellAt s i .kind ≡ 4 = omega (arith, type-kinds h, n, u) in
-          by-two 4 inter (λ B C. refl) (λ B C. refl) e (inter-at h e)
-    ]
-
--- The parts of a type and then its cell, one after the other; t is the cell as it was read.
-module _ {s : List ℕ} {i : ℕ} {t : Cell} (e : t ≡ cellAt s i) where
-  none : {A : Ty} → t .kind < 3 → HoldsType s i A → Plain t A
-  none k h = rw e (plain h (rw e at k))
-
-  one : {A : Ty} → t .kind ≡ 5 → HoldsType s i A → OfOne s i t A
-  one k h = rw e (of-one h (rw e at k))
-
-  two : {A : Ty} → 3 ≤ t .kind → (t .kind ≡ 5 → ⊥) → HoldsType s i A → OfTwo s i t A
-  two k u h = rw e (of-two h (rw e at k) (λ f. u (rw e f)))
-
-  pub room-plain : {d : List ℕ} {m : ℕ} → t .kind < 3 → RoomFor s d i m → RoomAt d m 0 0
-  room-plain k r =
-      let p = none k (r .holds) in
-      record { fits = omega (arith, r .fits, p .size); first = lit< tt; second = lit< tt }
-
-  pub room-first : {d : List ℕ} {m : ℕ} → 3 ≤ t .kind → RoomFor s d i m → (t .a < i) × RoomFor s d (t .a) m
-  room-first k r = elim (ℕ-discrete (t .kind) 5) [
-    | yes f ↦
-        let p = one f (r .holds) in
-        (p .lower, record { type = p .part; holds = p .holds; fits = omega (arith, r .fits, p .size); numbered = omega (arith, r .numbered, p .size) })
-    | no u ↦
-        let p = two k u (r .holds) in (
-          p .first-lower,
-          record { type = p .first; holds = p .holds-first; fits = omega (arith, r .fits, p .size); numbered = omega (arith, r .numbered, p .size) },
-        )
-  ]
-
-  pub room-one : {d f : List ℕ} {m x : ℕ} → t .kind ≡ 5 → RoomFor s d i m → LaysType s d f (t .a) m x → RoomAt f x (x - 1) 0 × (1 ≤ x)
-  room-one {d} {f} {m} {x} k r l =
-      let p = one k (r .holds) in
-      let n = l .next (p .part) (p .holds) in
-      let z = size-positive (p .part) in
-      let g : length f ≡ length d = laid-length l (p .holds) in
-      (record { fits = omega (arith, r .fits, p .size); first = omega (arith, r .numbered, p .size); second = lit< tt }, omega arith)
-
-  pub room-second : {d f : List ℕ} {m x : ℕ} → 3 ≤ t .kind → (t .kind ≡ 5 → ⊥) → RoomFor s d i m → LaysType s d f (t .a) m x
-      → (t .b < i) × RoomFor s f (t .b) x
-  room-second {d} {f} k u r l =
-      let p = two k u (r .holds) in
-      let n = l .next (p .first) (p .holds-first) in
-      let g : length f ≡ length d = laid-length l (p .holds-first) in (
-        p .second-lower,
-        record { type = p .second; holds = p .holds-second; fits = omega (arith, r .fits, p .size); numbered = omega (arith, r .numbered, p .size) },
-      )
-
-  pub room-two : {d f g : List ℕ} {m x y : ℕ} → 3 ≤ t .kind → (t .kind ≡ 5 → ⊥) → RoomFor s d i m → LaysType s d f (t .a) m x
-      → LaysType s f g (t .b) x y → RoomAt g y (x - 1) (y - 1) × (1 ≤ x) × (1 ≤ y)
-  room-two {d} {f} {g} {m} {x} {y} k u r l q =
-      let p = two k u (r .holds) in
-      let n = l .next (p .first) (p .holds-first) in
-      let o = q .next (p .second) (p .holds-second) in
-      let z = size-positive (p .first) in
-      let v : length f ≡ length d = laid-length l (p .holds-first) in
-      let w : length g ≡ length f = laid-length q (p .holds-second) in (
-        record { fits = omega (arith, r .fits, p .size); first = omega (arith, r .numbered, p .size); second = omega (arith, r .numbered, p .size) },
-        omega arith,
-        omega arith,
-      )
-
-  pub lays-plain : {d f : List ℕ} {m r : ℕ} → t .kind < 3 → Puts d f m (t .kind) 0 0 0 r → LaysType s d f i m r
-  unfolding refer
-  lays-plain {d} {m = m} k q = laid-type λ A h. rw (none k h .tree) (lay-node (lay-raw d m) (lay-raw d m) refl refl q)
-
-  pub lays-one : {d f g : List ℕ} {m x r : ℕ} → t .kind ≡ 5 → LaysType s d f (t .a) m x → Puts f g x 5 (t .label) (x - 1) 0 r → LaysType s d g i m r
-  unfolding refer
-  lays-one {f = f} {x = x} k l q =
-      laid-type λ A h.
-      let p = one k h in
-      rw (p .tree) (lay-node (laid-tree l (p .holds)) (lay-raw f x) (laid-last l (p .holds)) refl q)
-
-  pub lays-two : {d f g z : List ℕ} {m x y r : ℕ} → 3 ≤ t .kind → (t .kind ≡ 5 → ⊥) → LaysType s d f (t .a) m x → LaysType s f g (t .b) x y
-      → Puts g z y (t .kind) 0 (x - 1) (y - 1) r → LaysType s d z i m r
-  lays-two k u l o q =
-      laid-type λ A h.
-      let p = two k u h in
-      let first = p .holds-first in
-      let second = p .holds-second in
-      rw (p .tree) (lay-node (laid-tree l first) (laid-tree o second) (laid-last l first) (laid-last o second) q)
-
--- A type's book: the type from cell 0 on, and the trailer, written as a cell is.
-pub room-type : {s d : List ℕ} {i : ℕ} → RoomForBook s d i → RoomFor s d i 0
-room-type r = record { type = r .type; holds = r .holds; fits = omega (arith, r .fits); numbered = omega (arith, r .numbered) }
-
-pub room-trailer : {s d f : List ℕ} {i n : ℕ} → RoomForBook s d i → LaysType s d f i 0 n → RoomAt f n n (n - 1) × (1 ≤ n)
-room-trailer {d = d} {f = f} r l =
-    let n = l .next (r .type) (r .holds) in
-    let z = size-positive (r .type) in
-    let g : length f ≡ length d = laid-length l (r .holds) in
-    (record { fits = omega (arith, r .fits); first = omega (arith, r .numbered); second = omega (arith, r .numbered) }, omega arith)
-
-pub lays-book : {s d f g : List ℕ} {i n r : ℕ} → LaysType s d f i 0 n → Puts f g n 0xf0 1 n (n - 1) r → LaysBook s d g i n
-unfolding book trailer cellBytes
-lays-book {d = d} {f = f} {n = n} l q =
-    record {
-      size = λ A h. omega (arith, l .next A h);
-      lays = λ A h.
-          let p = laid-tree l h in
-          let x = lay 0 (fromType A) in
-          let e : cells (fromType A) ≡ n = omega (arith, p .next) in
-          let j : 8 * n ≡ 0 + length x = omega (arith, length-lay 0 (fromType A)) in
-          q .puts ∙ rw (p .lays, j) (sym (rw e (sets-append x (trailer n (n - 1)) d 0)));
-    }
+pub closed : {d u z : List ℕ} {n : ℕ} (t : Tree) → LiesTree d n t → u ≡ sets d (8 * n) (cellBytes (trailerCell n)) →
+    z ≡ replicate (length (midOf (8 * (n + 1)) (length u - 8 * (n + 1)) u)) 0 → putMid (8 * (n + 1)) (length u - 8 * (n + 1)) u z ≡ laid (book t)
+unfolding laid zeros
+closed {d} {u} {z} {n} t l q p =
+    let a = 8 * (n + 1) in
+    let long : length u ≡ 65536 = ap length q ∙ length-sets d (8 * n) (cellBytes (trailerCell n)) ∙ l .long in
+    let h : a ≤ length u = omega (arith, l .small) in
+    let size-is : length (book t) ≡ a = book-length t ∙ omega (arith, l .count) in
+    let m : length (midOf a (length u - a) u) ≡ workLength - length (book t) = part-length a u h ∙ omega arith in
+    ap (λ (x : List ℕ). take a u ++ (z ++ x)) (nothing-after a u h)
+    ∙ ap (λ (x : List ℕ). take a u ++ x) (append-nil z ∙ p ∙ ap (λ (i : ℕ). replicate i 0) m)
+    ∙ ap (λ (x : List ℕ). x ++ replicate (workLength - length (book t)) 0) (book-front l q)

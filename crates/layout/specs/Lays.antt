@@ -1,46 +1,35 @@
--- Laying a held type down: what a call needs, and what it leaves. Assumes nothing.
-use Prim.Native.Nat.{ℕ, _+_, _*_, _≤_, _<_}
+-- Laying a held tree down, and closing it as a book: what a call needs, and what it leaves. Assumes nothing.
+use Prim.Native.Nat.{ℕ, _*_, _≤_}
 use mathlib.Core.Path.{_≡_}
 use mathlib.Core.List.{List}
-use lib.ListN.{length}
-use lib.Seq.{sets}
-use Rattle.calculus.specs.Syntax.{Ty, size-type}
-use Rattle.format.specs.Cell.{cellBytes}
-use Rattle.format.specs.Tree.{lay}
-use Rattle.format.specs.Terms.{fromType}
-use Rattle.format.specs.Book.{typeBook}
-use Rattle.cells.specs.Held.{HoldsType}
+use lib.ListN.{length, take}
+use Rattle.format.specs.Tree.{Tree, cells, lay}
+use Rattle.format.specs.Book.{sizeLimit, book}
+use Rattle.answers.specs.Engine.{laid}
+use Rattle.cells.specs.Coded.{useOf}
+use Rattle.emission.specs.Emits.{HeldField, FieldReady}
 
--- Room in d for a cell at n, whose fields a and b fit.
-pub record RoomAt (d : List ℕ) (n a b : ℕ) : Type 0 where
-  pub fits : 8 * n + 8 ≤ length d
-  pub first : a < 65536
-  pub second : b < 65536
+-- The tree lies in the first n cells of the buffer, children first and the root last. Of the bytes behind it nothing is decided.
+pub record LiesTree (d : List ℕ) (n : ℕ) (t : Tree) : Type 0 where
+  pub long : length d ≡ 65536
+  pub count : n ≡ cells t
+  pub some : 1 ≤ n
+  pub small : n ≤ sizeLimit
+  pub lies : take (8 * n) d ≡ lay 0 t
 
--- The cell stands at n; the answer is the next one.
-pub record Puts (d e : List ℕ) (n k l a b r : ℕ) : Type 0 where
-  pub next : r ≡ n + 1
-  pub puts : e ≡ sets d (8 * n) (cellBytes (record { kind = k; label = l; a = a; b = b; c = 0 }))
+-- A held field that refers, and room for its tree.
+pub record LayReady (s d : List ℕ) (u x : ℕ) : Type 0 where
+  pub field : FieldReady s d u x 0
+  pub some : 1 ≤ cells (field .tree)
+  pub small : cells (field .tree) ≤ sizeLimit
 
--- A type in s, and room for it in d from cell m on.
-pub record RoomFor (s d : List ℕ) (i m : ℕ) : Type 0 where
-  pub type : Ty
-  pub holds : HoldsType s i type
-  pub fits : 8 * (m + size-type type) ≤ length d
-  pub numbered : m + size-type type ≤ 65536
+pub record LaysDown (s d : List ℕ) (u x r : ℕ) : Type 0 where
+  pub says : (n : ℕ) (t : Tree) → HeldField s n (useOf u) x t → 1 ≤ cells t → cells t ≤ sizeLimit → LiesTree d r t
 
--- The type's cells, children first and the root last, stand in d from cell m on; the answer is the next free cell.
-pub record LaysType (s d e : List ℕ) (i m r : ℕ) : Type 0 where
-  pub next : (A : Ty) → HoldsType s i A → r ≡ m + size-type A
-  pub lays : (A : Ty) → HoldsType s i A → e ≡ sets d (8 * m) (lay m (fromType A))
+pub record SomeTree (d : List ℕ) (n : ℕ) : Type 0 where
+  pub tree : Tree
+  pub lies : LiesTree d n tree
 
--- A type's whole book, from byte 0.
-pub record LaysBook (s d e : List ℕ) (i r : ℕ) : Type 0 where
-  pub size : (A : Ty) → HoldsType s i A → r ≡ size-type A
-  pub lays : (A : Ty) → HoldsType s i A → e ≡ sets d 0 (typeBook A)
-
-pub record RoomForBook (s d : List ℕ) (i : ℕ) : Type 0 where
-  pub type : Ty
-  pub holds : HoldsType s i type
-  pub fits : 8 * (size-type type + 1) ≤ length d
-  pub numbered : size-type type ≤ 4095
+-- "bytes past the laid-down book are zero"
+pub record Closes (d e : List ℕ) (n : ℕ) : Type 0 where
+  pub says : (t : Tree) → LiesTree d n t → e ≡ laid (book t)

@@ -1,4 +1,3 @@
 pub mod Lying
 pub mod Turns
 pub mod Loop
-pub mod Closing

@@ -125,4 +125,4 @@ going-ready h b g =
     record { long = b; at = record { term = p .term; lies = p .lies; type = p .type; typed = p .typed } }
 
 pub going-long : {l n c k : ℕ} {w₀ w : List ℕ} → TypedLies w₀ n → AllGoing l n w₀ w c k → length w ≡ length w₀
-going-long h g = g (h .term) (h .type) (h .lies) (h .typed) .lies .long ∙ sym (h .lies .long)
+going-long h g = g (h .term) (h .type) (h .lies) (h .typed) .lies .tree .long ∙ sym (h .lies .tree .long)

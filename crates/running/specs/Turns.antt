@@ -1,22 +1,21 @@
 -- The turns of a run over the lent buffer: what a step needs, and what it answers and leaves. Assumes nothing.
-use Prim.Native.Nat.{ℕ, _+_, _*_, _≤_, _<_}
+use Prim.Native.Nat.{ℕ, _+_, _<_}
 use mathlib.Core.Path.{_≡_}
 use mathlib.Core.Bool.{true, false}
 use mathlib.Core.Option.{some}
 use mathlib.Core.List.{List, []}
 use lib.Dec.{ltb}
-use lib.ListN.{length, take}
+use lib.ListN.{length}
 use Rattle.calculus.specs.Syntax.{Ty, Term, size}
 use Rattle.calculus.specs.Typing.{Typed}
 use Rattle.calculus.specs.Decide.{value?}
 use Rattle.calculus.specs.Evaluate.{next}
-use Rattle.format.specs.Tree.{lay}
 use Rattle.format.specs.Terms.{fromTerm, TermFits}
-use Rattle.format.specs.Book.{sizeLimit, termBook}
+use Rattle.format.specs.Book.{sizeLimit}
 use Rattle.answers.specs.Answer as Answer
 use Rattle.answers.specs.Answer.{stopped}
-use Rattle.answers.specs.Engine.{laid}
 use Rattle.answers.specs.Definition.{ended, evaluate}
+use Rattle.layout.specs.Lays.{LiesTree}
 use Rattle.outcome.specs.Numbers.{stopAnswer}
 use Rattle.outcome.specs.declared.Stop.{Stop}
 use Rattle.outcome.specs.declared.Stop.the-variants.{Value, Spent, Room}
@@ -25,13 +24,10 @@ use Rattle.running.specs.declared.Turn.{Turn}
 use Rattle.running.specs.declared.Turn.the-variants.{Next, Ended}
 use Rattle.running.specs.declared.End.{End}
 
--- The term lies in the first n cells of the work buffer, laid down as a tree of its own. Of the bytes behind it nothing is decided.
+-- The term lies in the first n cells of the work buffer, as a tree of its own.
 pub record Lies (w : List ℕ) (n : ℕ) (e : Term) : Type 0 where
-  pub long : length w ≡ 65536
-  pub count : n ≡ size e
-  pub small : size e ≤ sizeLimit
+  pub tree : LiesTree w n (fromTerm e)
   pub fits : TermFits e
-  pub lies : take (8 * n) w ≡ lay 0 (fromTerm e)
 
 -- A typed term lies so.
 pub record TypedLies (w : List ℕ) (n : ℕ) : Type 0 where
@@ -68,11 +64,3 @@ pub record RunOf (v : List ℕ) (l : ℕ) (e : Term) (r : End) : Type 0 where
 
 pub record Runs (w v : List ℕ) (n l : ℕ) (r : End) : Type 0 where
   pub says : (e : Term) (A : Ty) → Lies w n e → Typed [] e A → RunOf v l e r
-
-pub record SomeLies (w : List ℕ) (n : ℕ) : Type 0 where
-  pub term : Term
-  pub lies : Lies w n term
-
--- The trailer behind the term, and zeros behind that.
-pub record Closes (w v : List ℕ) (n : ℕ) : Type 0 where
-  pub says : (e : Term) → Lies w n e → v ≡ laid (termBook e)

@@ -1,16 +1,13 @@
 // The turns of a run. The term reached lies laid down at the start of the work buffer; a step loads it into a buffer of 8,192 cells and
 // emits the successor over it. The state is small and goes by value.
-use cells::Cell;
-use cells::write_cell;
 use emission::Laid;
 use emission::emit_field;
-use layout::clear;
 use loading::load;
 use outcome::Stop;
 use reduction::emit_next;
 use reduction::is_value;
 ghost use Prim.Native.Nat.{_≤_};
-ghost use Rattle.running.specs.Turns.{StepReady, Steps, Runs, TypedLies, SomeLies, Closes};
+ghost use Rattle.running.specs.Turns.{StepReady, Steps, Runs, TypedLies};
 
 // The cells that the term takes, and the steps taken.
 pub struct State {
@@ -72,23 +69,4 @@ pub fn run_on(w: &mut [u8], n: usize, limit: u32) -> End
             }
         }
     }
-}
-
-// The term becomes a book of its own: its trailer behind it, and zeros behind that.
-pub fn close(w: &mut [u8], n: usize)
-    requires { ⌜ SomeLies (now w) n ⌝ }
-    ensures { λ _. ⌜ Closes (now (w .entry)) (now (w .exit)) n ⌝ }
-{
-    write_cell(
-        w,
-        n,
-        Cell {
-            kind: 240,
-            label: 1,
-            a: n,
-            b: n - 1,
-            c: 0,
-        },
-    );
-    clear(&mut w[8 * (n + 1)..]);
 }

@@ -1,7 +1,7 @@
 -- `engine::check_types` meets its contract: the type found is laid down. Assumes nothing.
 use Prim.Native.Nat.{ℕ}
 use lib.ListN.{length-replicate}
-use Rattle.engine.proofs.Typing.{room-of, check-found, ill-typed-book}
+use Rattle.engine.proofs.Typing.{type-ready, type-lain, check-found, ill-typed-book}
 use borrow.Author.Needs.{needs}
 use Rattle.engine.proofs.check_types.Statement.{statement}
 use Rattle.engine.proofs.check_types.Tie as tie
@@ -19,12 +19,16 @@ enum-known-refusal c = search needs
 enum-known-t : tie.Need-enum-known-t
 enum-known-t c = search needs
 
-slice-aggregate-lay-type-book : tie.Need-slice-aggregate-lay-type-book
-slice-aggregate-lay-type-book c = search needs
+slice-aggregate-lay-down : tie.Need-slice-aggregate-lay-down
+slice-aggregate-lay-down c = search needs
 
-lay-type-book-requires : tie.Need-lay-type-book-requires
-lay-type-book-requires c κs =
-    room-of (c .before .before .before .before .before .before .before .before .before .before .pre) (λ i. c .before .before .before .before .before .before .before .before .before .shared-slice-known .given i .fits) (c .before .before .before .before .before .before .find-root .ensures) (c .before .before .before .t .given .1)
+lay-down-requires : tie.Need-lay-down-requires
+lay-down-requires c κs =
+    type-ready (c .before .before .before .before .before .before .before .before .before .before .pre) (λ i. c .before .before .before .before .before .before .before .before .before .shared-slice-known .given i .fits) (c .before .before .before .before .before .before .find-root .ensures) (c .before .before .before .t .given .1)
+
+close-requires : tie.Need-close-requires
+close-requires c κs =
+    type-lain (c .before .before .before .before .before .before .before .before .before .before .before .before .before .before .pre) (λ i. c .before .before .before .before .before .before .before .before .before .before .before .before .before .shared-slice-known .given i .fits) (c .before .before .before .before .before .before .before .before .before .before .find-root .ensures) (c .before .before .before .before .before .before .before .t .given .1) (c .before .before .before .lay-down .ensures)
 
 returns : tie.Need-returns
 returns c =
@@ -35,7 +39,7 @@ same-length c = search needs
 
 returns-2 : tie.Need-returns-2
 returns-2 c =
-    check-found (c .before .before .before .before .before .before .before .before .before .before .before .before .before .pre) (λ i. c .before .before .before .before .before .before .before .before .before .before .before .before .shared-slice-known .given i .fits) (c .before .before .before .before .before .before .before .before .before .find-root .ensures) (c .before .before .before .before .before .before .t .given .1) (c .before .before .lay-type-book .ensures)
+    check-found (c .before .before .before .before .before .before .before .before .before .before .before .before .before .before .before .before .before .pre) (λ i. c .before .before .before .before .before .before .before .before .before .before .before .before .before .before .before .before .shared-slice-known .given i .fits) (c .before .before .before .before .before .before .before .before .before .before .before .before .before .find-root .ensures) (c .before .before .before .before .before .before .before .before .before .before .t .given .1) (c .before .before .before .before .before .before .lay-down .ensures) (c .before .before .close .ensures)
 
 pub check-types-spec : {M : Type 1} → statement M
 check-types-spec =
@@ -45,8 +49,9 @@ check-types-spec =
     find-root-requires
     enum-known-refusal
     enum-known-t
-    slice-aggregate-lay-type-book
-    lay-type-book-requires
+    slice-aggregate-lay-down
+    lay-down-requires
+    close-requires
     returns
     same-length
     returns-2)

@@ -6,7 +6,7 @@ use lib.Seq.{length-take-le}
 use native.Mathlib.Omega.{arith}
 use Rattle.emission.proofs.Fields.{ready-term}
 use Rattle.reduction.specs.Steps.{SaysValue}
-use Rattle.running.proofs.Lying.{loadable, positive, held, marked}
+use Rattle.running.proofs.Lying.{loadable, held, marked}
 use Rattle.running.proofs.Turns.{turn-value, turn-spent, next-ready, turn-next, turn-room}
 use borrow.Author.Needs.{needs}
 use Rattle.running.proofs.step.Statement.{statement}
@@ -21,13 +21,13 @@ slice-reshare-prefix-load c = search needs
 slice-aggregate-load : tie.Need-slice-aggregate-load
 slice-aggregate-load c =
     let l = c .before .before .before .pre .0 .at .lies in
-    sym (length-take-le _ _ (omega (arith, l .long, l .count, l .small)))
+    sym (length-take-le _ _ (omega (arith, l .tree .long, l .tree .small)))
 
 load-requires : tie.Need-load-requires
 load-requires c κs = loadable (c .before .before .before .before .pre .0 .at .lies) (c .before .before .before .before .pre .0 .long)
 
 sub-is-value : tie.Need-sub-is-value
-sub-is-value c = positive (c .before .before .before .before .before .before .before .before .pre .0 .at .lies)
+sub-is-value c = c .before .before .before .before .before .before .before .before .pre .0 .at .lies .tree .some
 
 is-value-requires : tie.Need-is-value-requires
 is-value-requires c κs = marked (c .before .before .before .before .before .before .before .before .pre .0 .at .lies) (c .before .before .before .load .ensures)
@@ -51,7 +51,7 @@ returns-2 : tie.Need-returns-2
 returns-2 c = turn-spent (c .before .before .before .before .before .before .load .ensures) (subst (SaysValue _ _) (c .before .if1 .left) (c .before .before .is-value .ensures)) (c .if2 .taken)
 
 sub-emit-next : tie.Need-sub-emit-next
-sub-emit-next c = positive (c .before .before .before .before .before .before .before .before .before .before .before .before .before .pre .0 .at .lies)
+sub-emit-next c = c .before .before .before .before .before .before .before .before .before .before .before .before .before .pre .0 .at .lies .tree .some
 
 emit-next-requires : tie.Need-emit-next-requires
 emit-next-requires c κs =
@@ -78,12 +78,12 @@ enum-told : tie.Need-enum-told
 enum-told c = search needs
 
 sub-emit-field : tie.Need-sub-emit-field
-sub-emit-field c = positive (c .before .before .before .before .before .before .before .before .before .before .before .before .before .before .before .before .before .before .before .before .pre .0 .at .lies)
+sub-emit-field c = c .before .before .before .before .before .before .before .before .before .before .before .before .before .before .before .before .before .before .before .before .pre .0 .at .lies .tree .some
 
 emit-field-requires : tie.Need-emit-field-requires
 emit-field-requires c κs =
     ready-term (λ i. c .before .before .before .before .before .before .before .before .before .before .before .before .before .slice-known3 .given i .fits)
-    (record { long = c .before .before .before .before .before .before .emit-next .kept .1 .0 ∙ c .before .before .before .before .before .before .before .before .before .before .before .before .before .before .before .before .before .before .before .before .pre .0 .at .lies .long; used = zero-le }) (held (c .before .before .before .before .before .before .before .before .before .before .before .before .before .before .before .before .before .before .before .before .pre .0 .at .lies) (c .before .before .before .before .before .before .before .before .before .before .before .before .before .before .before .load .ensures))
+    (record { long = c .before .before .before .before .before .before .emit-next .kept .1 .0 ∙ c .before .before .before .before .before .before .before .before .before .before .before .before .before .before .before .before .before .before .before .before .pre .0 .at .lies .tree .long; used = zero-le }) (held (c .before .before .before .before .before .before .before .before .before .before .before .before .before .before .before .before .before .before .before .before .pre .0 .at .lies) (c .before .before .before .before .before .before .before .before .before .before .before .before .before .before .before .load .ensures))
 
 same-length-7 : tie.Need-same-length-7
 same-length-7 c = search needs
@@ -94,7 +94,7 @@ same-length-8 c = search needs
 returns-4 : tie.Need-returns-4
 returns-4 c =
     turn-room (c .before .before .before .before .before .before .before .before .before .before .before .before .before .before .before .before .before .before .load .ensures) (subst (SaysValue _ _) (c .before .before .before .before .before .before .before .before .before .before .before .before .before .if1 .left) (c .before .before .before .before .before .before .before .before .before .before .before .before .before .before .is-value .ensures)) (c .before .before .before .before .before .before .before .before .before .emit-next .ensures)
-    (λ i. c .before .before .before .before .before .before .before .before .before .before .before .before .before .before .before .before .slice-known3 .given i .fits) (c .before .before .before .before .before .before .before .before .before .emit-next .kept .1 .0 ∙ c .before .before .before .before .before .before .before .before .before .before .before .before .before .before .before .before .before .before .before .before .before .before .before .pre .0 .at .lies .long)
+    (λ i. c .before .before .before .before .before .before .before .before .before .before .before .before .before .before .before .before .slice-known3 .given i .fits) (c .before .before .before .before .before .before .before .before .before .emit-next .kept .1 .0 ∙ c .before .before .before .before .before .before .before .before .before .before .before .before .before .before .before .before .before .before .before .before .before .before .before .pre .0 .at .lies .tree .long)
     (omega (arith, c .before .before .before .before .before .before .before .before .before .before .before .before .before .before .before .before .before .before .before .before .before .before .before .pre .1, c .before .before .before .before .before .before .before .before .before .before .before .before .if2 .left)) (c .before .before .before .before .before .enum-told .given .1) (c .before .before .emit-field .ensures)
 
 pub step-spec : {M : Type 1} → statement M

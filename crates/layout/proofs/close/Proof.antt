@@ -1,12 +1,11 @@
--- `running::close` meets its contract. Assumes nothing.
-use Rattle.running.proofs.Lying.{positive}
-use Rattle.running.proofs.Closing.{closed}
+-- `layout::close` meets its contract. Assumes nothing.
+use Rattle.layout.proofs.Laid.{closed}
 use borrow.Author.Needs.{needs}
-use Rattle.running.proofs.close.Statement.{statement}
-use Rattle.running.proofs.close.Tie as tie
+use Rattle.layout.proofs.close.Statement.{statement}
+use Rattle.layout.proofs.close.Tie as tie
 
 sub-clear : tie.Need-sub-clear
-sub-clear c = positive (c .before .before .pre .lies)
+sub-clear c = c .before .before .pre .lies .some
 
 write-cell-requires : tie.Need-write-cell-requires
 write-cell-requires c κs = search needs
@@ -33,7 +32,7 @@ same-length : tie.Need-same-length
 same-length c = search needs
 
 returns : tie.Need-returns
-returns c = record { says = λ e l. closed e l (c .before .before .before .before .before .before .write-cell .ensures) (c .before .before .clear .ensures) }
+returns c = record { says = λ t l. closed t l (c .before .before .before .before .before .before .write-cell .ensures) (c .before .before .clear .ensures) }
 
 pub close-spec : {M : Type 1} → statement M
 close-spec =

@@ -1,0 +1,41 @@
+-- `layout::lay_down` meets its contract: there is room, so the tree stands whole. Assumes nothing.
+use Rattle.layout.proofs.Laid.{not-full, lays-down}
+use borrow.Author.Needs.{needs}
+use Rattle.layout.proofs.lay_down.Statement.{statement}
+use Rattle.layout.proofs.lay_down.Tie as tie
+
+emit-field-requires : tie.Need-emit-field-requires
+emit-field-requires c κs =
+    c .before .before .before .pre .field
+
+enum-known-n : tie.Need-enum-known-n
+enum-known-n c = search needs
+
+enum-told : tie.Need-enum-told
+enum-told c = search needs
+
+same-length : tie.Need-same-length
+same-length c = search needs
+
+returns : tie.Need-returns
+returns c =
+    lays-down (c .before .before .before .before .before .before .before .before .before .pre) (c .before .before .before .before .before .emit-field .ensures) (c .before .n .given .1)
+
+same-length-2 : tie.Need-same-length-2
+same-length-2 c = search needs
+
+returns-2 : tie.Need-returns-2
+returns-2 c =
+    absurd (not-full (c .before .before .before .before .before .before .before .before .pre) (c .before .before .before .before .emit-field .ensures) (c .enum-told .given .1))
+
+pub lay-down-spec : {M : Type 1} → statement M
+lay-down-spec =
+    tie.close
+    (tie.spec
+    emit-field-requires
+    enum-known-n
+    enum-told
+    same-length
+    returns
+    same-length-2
+    returns-2)
