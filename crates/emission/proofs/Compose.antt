@@ -10,13 +10,15 @@ use lib.Seq.{sets, length-sets}
 use Rattle.calculus.specs.Syntax.{Ty, int, top, arrow, inter, field}
 use Rattle.calculus.specs.Syntax.{Term, var, lit, unit, anno, app, lam, merge, fix, rcd, proj}
 use Rattle.format.specs.Table.{Sort, Use, unused, plain, refers}
-use Rattle.format.specs.Cell.{cellBytes}
+use Rattle.format.specs.Cell.{Cell, cellBytes}
 use Rattle.format.specs.Tree.{Tree, raw, node, cells, refer, lay}
 use Rattle.format.specs.Terms.{fromType, fromTerm}
 use Rattle.format.specs.Book.{sizeLimit}
 use Rattle.format.proofs.Laying.{sets-append, length-lay}
 use Rattle.cells.specs.Coded.{useOf}
-use Rattle.emission.specs.Emits.{Space, Emits, Finishes, referBy, ReferReady}
+use Rattle.cells.specs.declared.Cell.{Cell as Struct}
+use Rattle.cells.specs.declared.Entry.{Entry}
+use Rattle.emission.specs.Emits.{labelBy, Space, Emits, LastReady, Finishes, referBy, ReferReady, rowCell, RowReady}
 use Rattle.emission.specs.declared.Laid.{Laid}
 use Rattle.emission.specs.declared.Laid.the-variants.{Next, Full}
 
@@ -117,15 +119,43 @@ refer-stands s-plain p = refl
 refer-stands (s-refers h) p = refer-last p h
 
 pub refer-ready : {d e : List ℕ} {m x y : ℕ} {t : Tree} (u : ℕ) → Stands (useOf u) x t → Placed d e m y t → ReferReady u y
-refer-ready zero h p = record { last = λ l. absurd (omega arith) }
-refer-ready (suc zero) h p = record { last = λ l. absurd (omega arith) }
-refer-ready (suc (suc zero)) (s-refers h) p = record { last = λ l. omega (arith, p .next) }
-refer-ready (suc (suc (suc u))) (s-refers h) p = record { last = λ l. omega (arith, p .next) }
+refer-ready zero h p = record { small = p .fits; last = λ l. absurd (omega arith) }
+refer-ready (suc zero) h p = record { small = p .fits; last = λ l. absurd (omega arith) }
+refer-ready (suc (suc zero)) (s-refers h) p = record { small = p .fits; last = λ l. omega (arith, p .next) }
+refer-ready (suc (suc (suc u))) (s-refers h) p = record { small = p .fits; last = λ l. omega (arith, p .next) }
 
 pub refer-fits : (u : Use) (x n : ℕ) → x < 65536 → n ≤ sizeLimit → referBy u x n < 65536
 refer-fits unused x n h g = omega arith
 refer-fits plain x n h g = h
 refer-fits (refers o) x n h g = omega arith
+
+-- the label that is written
+pub label-none : (u l : ℕ) → u ≡ 0 → 0 ≡ labelBy (useOf u) l
+label-none u l e = rw e
+
+pub label-kept : (u l : ℕ) → (u ≡ 0 → ⊥) → l ≡ labelBy (useOf u) l
+label-kept zero l n = absurd (n refl)
+label-kept (suc zero) l n = refl
+label-kept (suc (suc zero)) l n = refl
+label-kept (suc (suc (suc u))) l n = refl
+
+-- the last cell by its row, from the parts that are computed for it
+pub row-finished : (t : Cell) (y : Entry) (x v w : ℕ) {d e : List ℕ} {l a b c : ℕ} {r : Laid} → l ≡ labelBy (useOf (y .label)) (t .label)
+    → a ≡ referBy (useOf (y .a)) (t .a) x → b ≡ referBy (useOf (y .b)) (t .b) v → c ≡ referBy (useOf (y .c)) (t .c) w
+    → Finishes d e w (record { kind = t .kind; label = l; a = a; b = b; c = c }) r → Finishes d e w (rowCell t y x v w) r
+row-finished t y x v w el ea eb ec z = rw (el, ea, eb, ec) at z
+
+pub row-last : (t : Cell) (y : Entry) (x v w : ℕ) {d : List ℕ} {z : Struct} → RowReady d t y x v w → z .a ≡ referBy (useOf (y .a)) (t .a) x
+    → z .b ≡ referBy (useOf (y .b)) (t .b) v → z .c ≡ referBy (useOf (y .c)) (t .c) w → LastReady d z
+row-last t y x v w p ea eb ec =
+    record {
+      long = p .long;
+      fits = record {
+        a = rw ea (refer-fits (useOf (y .a)) (t .a) x (p .fits .0) (p .first .small));
+        b = rw eb (refer-fits (useOf (y .b)) (t .b) v (p .fits .1) (p .second .small));
+        c = rw ec (refer-fits (useOf (y .c)) (t .c) w (p .fits .2) (p .third .small));
+      };
+    }
 
 -- ---- composition
 
@@ -151,6 +181,22 @@ emits-node {d} {f} {g} {h} {e} {m} {x} {y} {z} {k} {l} {i} {j} {n} {r} {a} {b} {
         ∙ behind (lay x b) (lay y c ++ last) f (8 * x) (q .bytes) (omega (arith, q .next, length-lay x b))
         ∙ behind (lay m a) (lay x b ++ (lay y c ++ last)) d (8 * m) (p .bytes) (omega (arith, p .next, length-lay m a))
         ∙ rw (u, v, w, q .next, p .next)
+
+-- The same by the row of the last cell's kind.
+module _ (t : Cell) (y : Entry) {d f g h : List ℕ} {m x v w : ℕ} {a b c : Tree} (p : Placed d f m x a) (q : Placed f g x v b) (o : Placed g h v w c)
+    (sa : Stands (useOf (y .a)) (t .a) a) (sb : Stands (useOf (y .b)) (t .b) b) (sc : Stands (useOf (y .c)) (t .c) c) where
+  pub row-ready : Space d m → (t .a < 65536) × (t .b < 65536) × (t .c < 65536) → RowReady h t y x v w
+  row-ready s l =
+      record {
+        long = placed-space (placed-space (placed-space s p) q) o .long;
+        fits = l;
+        first = refer-ready (y .a) sa p;
+        second = refer-ready (y .b) sb q;
+        third = refer-ready (y .c) sc o;
+      }
+
+  pub emits-row : {e : List ℕ} {r : Laid} → Finishes h e w (rowCell t y x v w) r → Emits d e m r (node (t .kind) (labelBy (useOf (y .label)) (t .label)) a b c)
+  emits-row z = emits-node p q o (refer-stands sa p) (refer-stands sb q) (refer-stands sc o) z
 
 -- One of them does not fit, so the whole does not.
 pub full-first : {d e : List ℕ} {m k l : ℕ} {r : Laid} {a b c : Tree} → sizeLimit < m + cells a → r ≡ Full → Emits d e m r (node k l a b c)

@@ -7,17 +7,16 @@ use mathlib.Core.List.{List}
 use lib.ListN.{length}
 use Rattle.format.specs.Table.{Sort, type-sort, term-sort, refers, Row, rowOf}
 use Rattle.format.specs.Cell.{IsBytes, Cell, cellAt}
-use Rattle.format.specs.Tree.{Tree, node, refer}
+use Rattle.format.specs.Tree.{Tree, node}
 use Rattle.format.specs.Book.{sizeLimit}
 use Rattle.format.proofs.Tests.{cell-fits}
 use Rattle.cells.specs.Coded.{useOf, rowFrom}
-use Rattle.cells.specs.declared.Cell.{Cell as Struct}
 use Rattle.cells.specs.declared.Entry.{Entry}
-use Rattle.emission.specs.Emits.{labelBy, HeldField, f-unused, f-plain, f-refers, Emits, LastReady, Finishes, referBy, ReferReady, FieldReady, EmitsField}
+use Rattle.emission.specs.Emits.{labelBy, HeldField, f-unused, f-plain, f-refers, Emits, Finishes, rowCell, RowReady, FieldReady, EmitsField}
 use Rattle.emission.specs.declared.Laid.{Laid}
 use Rattle.emission.specs.declared.Laid.the-variants.{Next, Full}
-use Rattle.emission.proofs.Compose.{Placed, placed, no-room, placed-space, emits-raw, refer-stands, refer-ready, refer-fits}
-use Rattle.emission.proofs.Compose.{emits-node, full-first, full-second, full-third}
+use Rattle.emission.proofs.Compose.{Placed, placed, no-room, placed-space, emits-raw}
+use Rattle.emission.proofs.Compose.{row-ready, emits-row, full-first, full-second, full-third}
 use Rattle.emission.proofs.Fields.{field-stands}
 
 -- ---- the row of a kind, as the code has it
@@ -49,15 +48,9 @@ uses k y r e = go (y .sort) refl
     go (suc (suc zero)) q = by-sort type-sort (rw q at e)
     go (suc (suc (suc n))) q = by-sort term-sort (rw q at e)
 
--- the label that is written
-pub label-none : (u l : ℕ) → u ≡ 0 → 0 ≡ labelBy (useOf u) l
-label-none u l e = rw e
-
-pub label-kept : (u l : ℕ) → (u ≡ 0 → ⊥) → l ≡ labelBy (useOf u) l
-label-kept zero l n = absurd (n refl)
-label-kept (suc zero) l n = refl
-label-kept (suc (suc zero)) l n = refl
-label-kept (suc (suc (suc u))) l n = refl
+-- the fields of a cell that was read
+pub fields-fit : (s : List ℕ) (i : ℕ) {t : Cell} → IsBytes s → t ≡ cellAt s i → (t .a < 65536) × (t .b < 65536) × (t .c < 65536)
+fields-fit s i y e = let f = cell-fits s y i in rw e (f .1, f .2, f .3)
 
 -- ---- measures
 
@@ -111,16 +104,6 @@ pub record Went (s d e : List ℕ) (u v m x : ℕ) : Type 0 where
 pub went : {s d e : List ℕ} {u v m x : ℕ} {r : Laid} → EmitsField s d e u v m r → r ≡ Next x → Went s d e u v m x
 went p q = record { says = λ n t h. placed (p .says n t h) q }
 
-module _ {s d e : List ℕ} {u v m x n : ℕ} {t : Tree} (p : Went s d e u v m x) (h : HeldField s n (useOf u) v t) where
-  went-refers : ReferReady u x
-  went-refers = refer-ready u (field-stands h) (p .says n t h)
-
-  went-fits : v < 65536 → referBy (useOf u) v x < 65536
-  went-fits l = refer-fits (useOf u) v x l (p .says n t h .fits)
-
-  went-last : referBy (useOf u) v x ≡ refer m t
-  went-last = refer-stands (field-stands h) (p .says n t h)
-
 -- ---- the cell that `emit` reads
 
 -- t is cell i of the source, y its row
@@ -164,9 +147,6 @@ module _ {s d : List ℕ} {i m : ℕ} {t : Cell} {y : Entry} (j : Started s d i 
   pub less : {n : ℕ} → 2 * i + 1 ≡ n → (fieldMeasure (y .a) (t .a) < n) × (fieldMeasure (y .b) (t .b) < n) × (fieldMeasure (y .c) (t .c) < n)
   less e = (field-less (y .a) (own .holds-a) e, field-less (y .b) (own .holds-b) e, field-less (y .c) (own .holds-c) e)
 
-  fits : (t .label < 256) × (t .a < 65536) × (t .b < 65536) × (t .c < 65536)
-  fits = rw (j .cell) (cell-fits s (j .bytes) i)
-
   pub first-ready : FieldReady s d (y .a) (t .a) m
   first-ready = record { space = j .ready .space; cell = i; tree = own .a; holds = own .holds-a }
 
@@ -207,36 +187,18 @@ pub record Parts (s d f g h : List ℕ) (i m x v w : ℕ) (t : Cell) (y : Entry)
   pub third : Went s g h (y .c) (t .c) v w
 
 module _ {s d f g h : List ℕ} {i m x v w : ℕ} {t : Cell} {y : Entry} (k : Parts s d f g h i m x v w t y) where
-  pub refers-all : ReferReady (y .a) x × ReferReady (y .b) v × ReferReady (y .c) w
-  refers-all =
+  pub last-ready : RowReady h t y x v w
+  last-ready =
       let o = own (k .started) in
-      (went-refers (k .first) (o .holds-a), went-refers (k .second) (o .holds-b), went-refers (k .third) (o .holds-c))
+      row-ready t y (k .first .says i (o .a) (o .holds-a)) (k .second .says i (o .b) (o .holds-b)) (k .third .says i (o .c) (o .holds-c))
+      (field-stands (o .holds-a)) (field-stands (o .holds-b)) (field-stands (o .holds-c))
+      (k .started .ready .space) (fields-fit s i (k .started .bytes) (k .started .cell))
 
-  pub last-ready : {z : Struct} → z .a ≡ referBy (useOf (y .a)) (t .a) x → z .b ≡ referBy (useOf (y .b)) (t .b) v
-      → z .c ≡ referBy (useOf (y .c)) (t .c) w → LastReady h z
-  last-ready ea eb ec =
-      let o = own (k .started) in
-      let l = fits (k .started) in
-      record {
-        long = placed-space (third-ready (k .started) (k .first) (k .second) .space) (k .third .says i (o .c) (o .holds-c)) .long;
-        fits = record {
-          a = rw ea (went-fits (k .first) (o .holds-a) (l .1));
-          b = rw eb (went-fits (k .second) (o .holds-b) (l .2));
-          c = rw ec (went-fits (k .third) (o .holds-c) (l .3));
-        };
-      }
-
-  pub all-emit : {e : List ℕ} {l a b c : ℕ} {r : Laid} → l ≡ labelBy (useOf (y .label)) (t .label)
-      → a ≡ referBy (useOf (y .a)) (t .a) x
-      → b ≡ referBy (useOf (y .b)) (t .b) v
-      → c ≡ referBy (useOf (y .c)) (t .c) w
-      → Finishes h e w (record { kind = t .kind; label = l; a = a; b = b; c = c }) r
-      → EmitsField s d e 3 i m r
-  all-emit el ea eb ec z =
+  pub all-emit : {e : List ℕ} {r : Laid} → Finishes h e w (rowCell t y x v w) r → EmitsField s d e 3 i m r
+  all-emit z =
       record {
         says = λ n q hq. let o = opened (k .started) hq in
             rw (o .is)
-            (emits-node (k .first .says i (o .a) (o .holds-a)) (k .second .says i (o .b) (o .holds-b)) (k .third .says i (o .c) (o .holds-c))
-            (ea ∙ went-last (k .first) (o .holds-a)) (eb ∙ went-last (k .second) (o .holds-b)) (ec ∙ went-last (k .third) (o .holds-c))
-            (rw el at z));
+            (emits-row t y (k .first .says i (o .a) (o .holds-a)) (k .second .says i (o .b) (o .holds-b)) (k .third .says i (o .c) (o .holds-c))
+            (field-stands (o .holds-a)) (field-stands (o .holds-b)) (field-stands (o .holds-c)) z);
       }

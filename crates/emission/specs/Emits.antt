@@ -13,6 +13,7 @@ use Rattle.format.specs.Book.{sizeLimit}
 use Rattle.cells.specs.Held.{IsCell}
 use Rattle.cells.specs.Coded.{CellFits, useOf}
 use Rattle.cells.specs.declared.Cell.{Cell}
+use Rattle.cells.specs.declared.Entry.{Entry}
 use Rattle.emission.specs.declared.Laid.{Laid}
 use Rattle.emission.specs.declared.Laid.the-variants.{Next, Full}
 
@@ -56,9 +57,28 @@ referBy unused x next = 0
 referBy plain x next = x
 referBy (refers o) x next = next - 1
 
--- A tree that is referred to has a last cell.
+-- A tree that ends within the limit, and has a last cell if it is referred to.
 pub record ReferReady (u next : ℕ) : Type 0 where
+  pub small : next ≤ sizeLimit
   pub last : 2 ≤ u → 1 ≤ next
+
+-- The last cell of a tree of this kind, by its row, where the trees of its fields end before x, v and w.
+abbrev pub rowCell : Format.Cell → Entry → ℕ → ℕ → ℕ → Format.Cell
+rowCell t y x v w =
+    record {
+      kind = t .kind;
+      label = labelBy (useOf (y .label)) (t .label);
+      a = referBy (useOf (y .a)) (t .a) x;
+      b = referBy (useOf (y .b)) (t .b) v;
+      c = referBy (useOf (y .c)) (t .c) w;
+    }
+
+pub record RowReady (d : List ℕ) (t : Format.Cell) (y : Entry) (x v w : ℕ) : Type 0 where
+  pub long : length d ≡ 65536
+  pub fits : (t .a < 65536) × (t .b < 65536) × (t .c < 65536)
+  pub first : ReferReady (y .a) x
+  pub second : ReferReady (y .b) v
+  pub third : ReferReady (y .c) w
 
 -- A held field of a cell n and a buffer to emit it into.
 pub record FieldReady (s d : List ℕ) (u x m : ℕ) : Type 0 where

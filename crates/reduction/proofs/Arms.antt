@@ -20,17 +20,16 @@ use Rattle.cells.specs.Coded.{useOf, rowFrom}
 use Rattle.cells.specs.declared.Cell.{Cell as Struct}
 use Rattle.cells.specs.declared.Entry.{Entry}
 use Rattle.cells.proofs.Held.{term-within, TermAndType, TwoTerms, OneTerm, unit-at, anno-at, app-at, merge-at, proj-at}
-use Rattle.emission.specs.Emits.{labelBy, referBy, ReferReady, HeldField, f-unused, LastReady, Finishes, FieldReady, EmitsField}
+use Rattle.emission.specs.Emits.{labelBy, rowCell, RowReady, HeldField, f-unused, LastReady, Finishes, FieldReady, EmitsField}
 use Rattle.emission.specs.declared.Laid.{Laid}
 use Rattle.emission.specs.declared.Laid.the-variants.{Next, Full}
-use Rattle.emission.proofs.Compose.{Placed, placed, no-room, placed-space, term-positive, refer-last, refer-stands, refer-ready, refer-fits}
-use Rattle.emission.proofs.Compose.{emits-two, full-first, full-second}
-use Rattle.format.proofs.Tests.{cell-fits}
-use Rattle.emission.proofs.Emitting.{uses}
+use Rattle.emission.proofs.Compose.{Placed, placed, placed-raw, no-room, placed-space, term-positive, Stands, s-unused, s-refers}
+use Rattle.emission.proofs.Compose.{row-ready, emits-row, full-first, full-second}
+use Rattle.emission.proofs.Emitting.{uses, fields-fit}
 use Rattle.emission.proofs.Fields.{type-field, term-field, field-stands, ready-term, emits-term}
 use Rattle.reading.specs.Reads.{ReadingReady, EmitsReading}
 use Rattle.reduction.specs.Steps.{SaysValue, MarkedTerm, NextReady, NextAt, FirstReady, SecondReady, ApplyReady, EmitsNext}
-use Rattle.reduction.proofs.Two.{filled, last-of, last-two, emits-last}
+use Rattle.reduction.proofs.Two.{filled, last-two, emits-last}
 use Rattle.reduction.proofs.Nexts.{no-answer, Stepped, anno-reads, anno-steps, app-first, app-second, merge-first, merge-second, rcd-steps, proj-projects, proj-steps}
 use Rattle.reduction.proofs.Nexts.{unit-projects, projected}
 use Rattle.reduction.proofs.Opens.{unit-emits}
@@ -58,12 +57,15 @@ record InFirst (s : List ℕ) (i : ℕ) (t : Cell) (y : Entry) (g : Term) : Type
   steps : next from ≡ some to
   holds-rest : HeldField s i (useOf (y .b)) (t .b) rest
   is : fromTerm g ≡ node (t .kind) (labelBy (useOf (y .label)) (t .label)) (fromTerm to) rest (raw 0)
+  stands-first : Stands (useOf (y .a)) (t .a) (fromTerm to)
+  stands-third : Stands (useOf (y .c)) (t .c) (raw 0)
 
 module _ {s d : List ℕ} {i m : ℕ} {t : Cell} {y : Entry} (j : FirstStarted s d i m t y) where
   in-part : {kind l a b c : ℕ} {r : Row} {e g : Term} {f : Term → Term} {o : Tree} → IsCell s i kind l a b c → rowOf kind ≡ some r → a < i
       → HoldsTerm s a e → Stepped f e g → HeldField s i (r .b) b o
-      → ((x : Term) → fromTerm (f x) ≡ node kind (labelBy (r .label) l) (fromTerm x) o (raw 0)) → InFirst s i t y g
-  in-part {kind} {r = r} {e = e} {o = o} q w u h n b is =
+      → ((x : Term) → fromTerm (f x) ≡ node kind (labelBy (r .label) l) (fromTerm x) o (raw 0))
+      → ((x : Term) → Stands (r .a) a (fromTerm x)) → Stands (r .c) c (raw 0) → InFirst s i t y g
+  in-part {kind} {r = r} {e = e} {o = o} q w u h n b is first third =
       let c : t ≡ _ = j .cell ∙ q .is in
       let z = uses kind y r (rw c at (j .row) ∙ w) in
       record {
@@ -75,6 +77,8 @@ module _ {s d : List ℕ} {i m : ℕ} {t : Cell} {y : Entry} (j : FirstStarted s
         steps = n .steps;
         holds-rest = rw (c, ← z .b) b;
         is = rw (c, ← z .label, n .is) (is (n .to));
+        stands-first = rw (c, ← z .a) (first (n .to));
+        stands-third = rw (c, ← z .c) third;
       }
 
   no-value : {kind l a b c : ℕ} {e : Term} → IsCell s i kind l a b c → (kind ≡ 24 → ⊥) → HoldsTerm s a e → value? e ≡ false
@@ -86,16 +90,16 @@ module _ {s d : List ℕ} {i m : ℕ} {t : Cell} {y : Entry} (j : FirstStarted s
   in-first (h-lit q z) n = no-answer n
   in-first (h-unit q) n = no-answer n
   in-first (h-anno q u v f h) n =
-      in-part q refl u f (anno-steps (no-value q (λ k. omega arith) f) n) (type-field h v) (λ x. refl)
+      in-part q refl u f (anno-steps (no-value q (λ k. omega arith) f) n) (type-field h v) (λ x. refl) (λ x. s-refers (term-positive x)) s-unused
   in-first (h-app q u v f h) n =
-      in-part q refl u f (app-first (no-value q (λ k. omega arith) f) n) (term-field (j .bytes) h v) (λ x. refl)
+      in-part q refl u f (app-first (no-value q (λ k. omega arith) f) n) (term-field (j .bytes) h v) (λ x. refl) (λ x. s-refers (term-positive x)) s-unused
   in-first (h-lam q u v w f h o) n = no-answer n
   in-first (h-merge q u v f h) n =
-      in-part q refl u f (merge-first (no-value q (λ k. omega arith) f) n) (term-field (j .bytes) h v) (λ x. refl)
+      in-part q refl u f (merge-first (no-value q (λ k. omega arith) f) n) (term-field (j .bytes) h v) (λ x. refl) (λ x. s-refers (term-positive x)) s-unused
   in-first (h-fix q u v f h) n = absurd (j .ready .part (rw (q .is)))
-  in-first (h-rcd q u f) n = in-part q refl u f (rcd-steps n) f-unused (λ x. refl)
+  in-first (h-rcd q u f) n = in-part q refl u f (rcd-steps n) f-unused (λ x. refl) (λ x. s-refers (term-positive x)) s-unused
   in-first (h-proj q u f) n =
-      in-part q refl u f (proj-steps (no-value q (λ k. omega arith) f) n) f-unused (λ x. refl)
+      in-part q refl u f (proj-steps (no-value q (λ k. omega arith) f) n) f-unused (λ x. refl) (λ x. s-refers (term-positive x)) s-unused
 
   first-own : InFirst s i t y (j .ready .ready .successor)
   first-own = in-first (j .ready .ready .at .holds) (j .ready .ready .steps)
@@ -138,30 +142,22 @@ module _ {s d : List ℕ} {i m : ℕ} {t : Cell} {y : Entry} (j : FirstStarted s
       rest-placed : {g : Term} (o : InFirst s i t y g) → Placed f a x z (o .rest)
       rest-placed o = placed (w .says i (o .rest) (o .holds-rest)) v
 
-      pub rest-refers : ReferReady (y .b) z
-      rest-refers = refer-ready (y .b) (field-stands (first-own .holds-rest)) (rest-placed first-own)
+      nothing : {g : Term} (o : InFirst s i t y g) → Placed a a z z (raw 0)
+      nothing o = placed-raw a z 0 (rest-placed o .fits)
 
-      pub part-filled : 1 ≤ x
-      part-filled = filled (part-placed first-own) (term-positive (first-own .to))
+      pub part-last : RowReady a t y x z z
+      part-last =
+          let o = first-own in
+          row-ready t y (part-placed o) (rest-placed o) (nothing o) (o .stands-first) (field-stands (o .holds-rest)) (o .stands-third)
+          (j .ready .ready .space) (fields-fit s i (j .bytes) (j .cell))
 
-      pub part-last : {c : Struct} → c .a ≡ x - 1 → c .b ≡ referBy (useOf (y .b)) (t .b) z → c .c ≡ 0 → LastReady a c
-      part-last ea eb ec =
-          let k = part-placed first-own in
-          let o = rest-placed first-own in
-          let small : t .b < 65536 = rw (j .cell) (cell-fits s (j .bytes) i .2) in
-          last-of (placed-space (rest-ready .space) o) (k .fits) ea (rw eb (refer-fits (useOf (y .b)) (t .b) z small (o .fits))) ec
-
-      pub part-emits : {e : List ℕ} {n b : ℕ} {k : Laid} → n ≡ labelBy (useOf (y .label)) (t .label) → b ≡ referBy (useOf (y .b)) (t .b) z
-          → Finishes a e z (record { kind = t .kind; label = n; a = x - 1; b = b; c = 0 }) k
-          → EmitsNext s d e i m k
-      part-emits el eb c =
+      pub part-emits : {e : List ℕ} {k : Laid} → Finishes a e z (rowCell t y x z z) k → EmitsNext s d e i m k
+      part-emits c =
           record {
             says = λ e g h n.
                 let o = in-first h n in
                 rw (o .is)
-                (emits-two (part-placed o) (rest-placed o) (refer-last (part-placed o) (term-positive (o .to)))
-                (eb ∙ refer-stands (field-stands (o .holds-rest)) (rest-placed o))
-                (rw el at c));
+                (emits-row t y (part-placed o) (rest-placed o) (nothing o) (o .stands-first) (field-stands (o .holds-rest)) (o .stands-third) c);
           }
 
 -- ---- the part in field b steps, that in field a is a value

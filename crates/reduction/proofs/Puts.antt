@@ -19,15 +19,14 @@ use Rattle.format.proofs.Tests.{number, cell-fits}
 use Rattle.cells.specs.Held.{IsCell}
 use Rattle.cells.specs.Held.{HoldsTerm, h-var, h-lit, h-unit, h-anno, h-app, h-lam, h-merge, h-fix, h-rcd, h-proj}
 use Rattle.cells.specs.Coded.{useOf, rowFrom}
-use Rattle.cells.specs.declared.Cell.{Cell as Struct}
 use Rattle.cells.specs.declared.Entry.{Entry}
 use Rattle.cells.proofs.Held.{var-at}
-use Rattle.emission.specs.Emits.{labelBy, HeldField, f-unused, f-plain, Space, LastReady, Finishes, referBy, ReferReady, FieldReady, EmitsField}
+use Rattle.emission.specs.Emits.{labelBy, HeldField, f-unused, f-plain, Space, Finishes, rowCell, RowReady, FieldReady, EmitsField}
 use Rattle.emission.specs.declared.Laid.{Laid}
 use Rattle.emission.specs.declared.Laid.the-variants.{Next, Full}
-use Rattle.emission.proofs.Compose.{Placed, placed, no-room, placed-space, Stands, s-unused, s-plain, s-refers, refer-stands, refer-ready, refer-fits}
-use Rattle.emission.proofs.Compose.{type-positive, term-positive, emits-node, full-first, full-second, full-third}
-use Rattle.emission.proofs.Emitting.{uses}
+use Rattle.emission.proofs.Compose.{Placed, placed, no-room, placed-space, Stands, s-unused, s-plain, s-refers}
+use Rattle.emission.proofs.Compose.{type-positive, term-positive, row-ready, emits-row, full-first, full-second, full-third}
+use Rattle.emission.proofs.Emitting.{uses, fields-fit}
 use Rattle.emission.proofs.Fields.{type-field, emits-term}
 use Rattle.reduction.specs.Steps.{Puts, SourceReady, EmitsSource, inside, PutField, p-unused, p-plain, p-type, p-term}
 use Rattle.reduction.specs.Steps.{FieldPutReady, EmitsPutField, PutReady, EmitsPut}
@@ -198,9 +197,6 @@ module _ {s d : List ℕ} {i k m : ℕ} {p : Source} {t : Cell} {y : Entry} {g :
   pub less : {n : ℕ} → 2 * i + 1 ≡ n → (putMeasure (y .a) (t .a) < n) × (putMeasure (y .b) (t .b) < n) × (putMeasure (y .c) (t .c) < n)
   less e = (put-less (y .a) (own .holds-a) e, put-less (y .b) (own .holds-b) e, put-less (y .c) (own .holds-c) e)
 
-  fits : (t .label < 256) × (t .a < 65536) × (t .b < 65536) × (t .c < 65536)
-  fits = rw (j .cell) (cell-fits s (j .bytes) i)
-
   -- the source, at the next free cell
   abbrev source-at : {e : List ℕ} {n : ℕ} → Space e n → SourceReady s e n p
   source-at h = record { space = h; put-in = j .ready .source .put-in; puts = j .ready .source .puts }
@@ -272,50 +268,20 @@ pub record Parts (s d f a h : List ℕ) (i k m x v w : ℕ) (p : Source) (t : Ce
   pub third : Went s a h (y .c) (t .c) k v p w
 
 module _ {s d f a h : List ℕ} {i k m x v w : ℕ} {p : Source} {t : Cell} {y : Entry} {g : ℕ} (j : Parts s d f a h i k m x v w p t y g) where
-  all-placed : Placed d f m x (own (j .started) .a) × Placed f a x v (own (j .started) .b) × Placed a h v w (own (j .started) .c)
-  all-placed =
+  pub last-ready : RowReady h t y x v w
+  last-ready =
       let r = j .started .ready in
-      let o = own (j .started) in (
-        first-placed (j .started) (j .first),
-        second-placed (j .started) (j .first) (j .second),
-        j .third .says i (r .source .put-in) (o .c) (r .source .puts) (o .holds-c),
-      )
+      let o = own (j .started) in
+      row-ready t y (first-placed (j .started) (j .first)) (second-placed (j .started) (j .first) (j .second))
+      (j .third .says i (r .source .put-in) (o .c) (r .source .puts) (o .holds-c))
+      (put-stands (o .holds-a)) (put-stands (o .holds-b)) (put-stands (o .holds-c))
+      (r .source .space) (fields-fit s i (j .started .bytes) (j .started .cell))
 
-  pub refers-all : ReferReady (y .a) x × ReferReady (y .b) v × ReferReady (y .c) w
-  refers-all =
-      let o = own (j .started) in (
-        refer-ready (y .a) (put-stands (o .holds-a)) (all-placed .0),
-        refer-ready (y .b) (put-stands (o .holds-b)) (all-placed .1),
-        refer-ready (y .c) (put-stands (o .holds-c)) (all-placed .2),
-      )
-
-  pub last-ready : {z : Struct} → z .a ≡ referBy (useOf (y .a)) (t .a) x → z .b ≡ referBy (useOf (y .b)) (t .b) v
-      → z .c ≡ referBy (useOf (y .c)) (t .c) w → LastReady h z
-  last-ready ea eb ec =
-      let l = fits (j .started) in
-      record {
-        long = placed-space (third-ready (j .started) (j .first) (j .second) .source .space) (all-placed .2) .long;
-        fits = record {
-          a = rw ea (refer-fits (useOf (y .a)) (t .a) x (l .1) (all-placed .0 .fits));
-          b = rw eb (refer-fits (useOf (y .b)) (t .b) v (l .2) (all-placed .1 .fits));
-          c = rw ec (refer-fits (useOf (y .c)) (t .c) w (l .3) (all-placed .2 .fits));
-        };
-      }
-
-  pub all-put : {e : List ℕ} {l n q u : ℕ} {r : Laid} → l ≡ labelBy (useOf (y .label)) (t .label)
-      → n ≡ referBy (useOf (y .a)) (t .a) x
-      → q ≡ referBy (useOf (y .b)) (t .b) v
-      → u ≡ referBy (useOf (y .c)) (t .c) w
-      → Finishes h e w (record { kind = t .kind; label = l; a = n; b = q; c = u }) r
-      → EmitsPut s d e i k m p r
-  all-put el ea eb ec z =
+  pub all-put : {e : List ℕ} {r : Laid} → Finishes h e w (rowCell t y x v w) r → EmitsPut s d e i k m p r
+  all-put z =
       record {
         says = λ e b g b2. let o = opened (j .started) b g in
-            let pa = j .first .says i b (o .a) b2 (o .holds-a) in
-            let pb = j .second .says i b (o .b) b2 (o .holds-b) in
-            let pc = j .third .says i b (o .c) b2 (o .holds-c) in
             rw (o .is)
-            (emits-node pa pb pc (ea ∙ refer-stands (put-stands (o .holds-a)) pa) (eb ∙ refer-stands (put-stands (o .holds-b)) pb)
-            (ec ∙ refer-stands (put-stands (o .holds-c)) pc)
-            (rw el at z));
+            (emits-row t y (j .first .says i b (o .a) b2 (o .holds-a)) (j .second .says i b (o .b) b2 (o .holds-b)) (j .third .says i b (o .c) b2 (o .holds-c))
+            (put-stands (o .holds-a)) (put-stands (o .holds-b)) (put-stands (o .holds-c)) z);
       }

@@ -6,12 +6,10 @@ use cells::read_cell;
 use emission::Laid;
 use emission::emit_field;
 use emission::finish;
-use emission::refer;
+use emission::finish_row;
 use reading::emit_reading;
 ghost use mathlib.Core.Path.{_≡_};
 ghost use Prim.Native.Nat.{_<_};
-ghost use Rattle.emission.specs.Emits.{labelBy};
-ghost use Rattle.cells.specs.Coded.{useOf};
 ghost use Rattle.reduction.specs.Steps.{MarkedTerm, SaysValue, SourceReady, EmitsSource, inside};
 ghost use Rattle.reduction.specs.Steps.{FieldPutReady, EmitsPutField, PutReady, EmitsPut, OpenedReady, EmitsOpened};
 ghost use Rattle.reduction.specs.Steps.{NextReady, NextAt, FirstReady, SecondReady, ApplyReady, EmitsNext};
@@ -83,31 +81,7 @@ fn emit_put(s: &[u8], d: &mut [u8], i: usize, k: usize, p: Source, m: usize) -> 
     let Laid::Next(z) = put_field(s, d, e.c, t.c, k, p, y) else {
         return Laid::Full;
     };
-    let label = label_for(e.label, t.label);
-    let a = refer(e.a, t.a, x);
-    let b = refer(e.b, t.b, y);
-    let c = refer(e.c, t.c, z);
-    finish(
-        d,
-        z,
-        Cell {
-            kind: t.kind,
-            label,
-            a,
-            b,
-            c,
-        },
-    )
-}
-
-// The label of a cell, 0 where its kind names none.
-fn label_for(u: u8, label: u8) -> u8
-    ensures { λ r. ⌜ r ≡ labelBy (useOf u) label ⌝ }
-{
-    if u == 0 {
-        return 0;
-    }
-    label
+    finish_row(d, t, e, x, y, z)
 }
 
 // How many binders a variable skips in field a: a function and a fixpoint bind one.
@@ -186,19 +160,7 @@ fn next_first(s: &[u8], d: &mut [u8], i: usize, m: usize) -> Laid
     let Laid::Next(y) = emit_field(s, d, e.b, t.b, x) else {
         return Laid::Full;
     };
-    let label = label_for(e.label, t.label);
-    let b = refer(e.b, t.b, y);
-    finish(
-        d,
-        y,
-        Cell {
-            kind: t.kind,
-            label,
-            a: x - 1,
-            b,
-            c: 0,
-        },
-    )
+    finish_row(d, t, e, x, y, y)
 }
 
 // The part in field a is a value and is copied, the part in field b steps.

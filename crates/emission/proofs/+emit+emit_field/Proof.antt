@@ -1,12 +1,11 @@
 -- `emission::emit` and `emission::emit_field` meet their contracts, over kind and field. The measures: 2 i + 1 for cell i, one more for a
 -- field that refers to it, and 0 for a field that refers to nothing. Assumes nothing.
 use mathlib.Core.Path.{_∙_}
-use mathlib.Core.Logic.{⊎-elim}
 use borrow.Author.Needs.{needs}
 use Rattle.cells.specs.Coded.{asCell}
 use Rattle.emission.proofs.Emitting.{fieldMeasure, Started, Went, went, Parts, cell-within, less, first-ready, none-first}
-use Rattle.emission.proofs.Emitting.{second-ready, none-second, third-ready, none-third, refers-all, last-ready, all-emit}
-use Rattle.emission.proofs.Emitting.{label-none, label-kept, cell-less, cell-ready, cell-emits, none-emits}
+use Rattle.emission.proofs.Emitting.{second-ready, none-second, third-ready, none-third, last-ready, all-emit}
+use Rattle.emission.proofs.Emitting.{cell-less, cell-ready, cell-emits, none-emits}
 use Prim.Native.Nat.{ℕ, _+_, _*_, _<_}
 use borrow.Fn.Kinds.{In}
 use borrow.Fn.PlainCycle.{Measures, is, falls, and}
@@ -18,8 +17,7 @@ use Rattle.emission.proofs.emit_field.Kinds as emit-field-kinds
 use Rattle.emission.proofs.+emit+emit_field.Lts-emit_field as emit-field-lts
 use Rattle.cells.proofs.entry_of.Reads as entry-of-reads
 use Rattle.cells.proofs.read_cell.Reads as read-cell-reads
-use Rattle.emission.proofs.finish.Reads as finish-reads
-use Rattle.emission.proofs.refer.Reads as refer-reads
+use Rattle.emission.proofs.finish_row.Reads as finish-row-reads
 use Rattle.emission.proofs.+emit+emit_field.{statement}
 use Rattle.emission.proofs.+emit+emit_field.Tie.{close}
 
@@ -44,7 +42,7 @@ emit-field-below t =
     and 2 emit-field-kinds.ps (falls 2 emit-field-kinds.ps _<_ μ-emit-field t) emit-field.Pre
 
 abbrev emit-calls : ℕ → emit-lts.Claims
-emit-calls t = (read-cell-reads.Asked, read-cell-reads.Learnt, entry-of-reads.Asked, entry-of-reads.Learnt, emit-field-below t, emit-field.Post, refer-reads.Asked, refer-reads.Learnt, finish-reads.Asked, finish-reads.Learnt)
+emit-calls t = (read-cell-reads.Asked, read-cell-reads.Learnt, entry-of-reads.Asked, entry-of-reads.Learnt, emit-field-below t, emit-field.Post, finish-row-reads.Asked, finish-row-reads.Learnt)
 
 -- what is known once the cell and its row are read, and after each part that fitted
 emit-started :
@@ -151,29 +149,15 @@ emit-returns-3 t c =
     let k = l .before .before .before .before .before .before .before in
     none-third (emit-started t (k .before .before .before .before .before .before .before)) (emit-first t k) (emit-second t l) (c .before .before .before .before .emit-field3 .ensures) (c .enum-told3 .given .1)
 
-emit-refer-requires : (t : ℕ) → emit-lts.Need-refer-requires (emit-calls t) (emit-at t) emit.Post
-emit-refer-requires t c κs = refers-all (emit-parts t (c .before .before .before)) .0
-
-emit-refer-requires-2 : (t : ℕ) → emit-lts.Need-refer-requires-2 (emit-calls t) (emit-at t) emit.Post
-emit-refer-requires-2 t c κs = refers-all (emit-parts t (c .before .before .before .before)) .1
-
-emit-refer-requires-3 : (t : ℕ) → emit-lts.Need-refer-requires-3 (emit-calls t) (emit-at t) emit.Post
-emit-refer-requires-3 t c κs = refers-all (emit-parts t (c .before .before .before .before .before)) .2
-
-emit-finish-requires : (t : ℕ) → emit-lts.Need-finish-requires (emit-calls t) (emit-at t) emit.Post
-emit-finish-requires t c κs =
-    last-ready (emit-parts t (c .before .before .before .before .before .before)) (c .before .before .refer .ensures) (c .before .refer2 .ensures) (c .refer3 .ensures)
+emit-finish-row-requires : (t : ℕ) → emit-lts.Need-finish-row-requires (emit-calls t) (emit-at t) emit.Post
+emit-finish-row-requires t c κs = last-ready (emit-parts t (c .before))
 
 emit-same-length-4 : (t : ℕ) → emit-lts.Need-same-length-4 (emit-calls t) (emit-at t) emit.Post
-emit-same-length-4 t c = c .before .before .finish .kept .0 ∙ c .before .before .before .before .before .before .before .before .before .before .before .before .before .before .emit-field3 .kept .1 .0 ∙ c .before .before .before .before .before .before .before .before .before .before .before .before .before .before .before .before .before .before .before .before .before .emit-field2 .kept .1 .0 ∙ c .before .before .before .before .before .before .before .before .before .before .before .before .before .before .before .before .before .before .before .before .before .before .before .before .before .before .before .before .emit-field .kept .1 .0
+emit-same-length-4 t c =
+    c .before .before .finish-row .kept .0 ∙ c .before .before .before .before .before .before .before .before .before .emit-field3 .kept .1 .0 ∙ c .before .before .before .before .before .before .before .before .before .before .before .before .before .before .before .before .emit-field2 .kept .1 .0 ∙ c .before .before .before .before .before .before .before .before .before .before .before .before .before .before .before .before .before .before .before .before .before .before .before .emit-field .kept .1 .0
 
 emit-returns-4 : (t : ℕ) → emit-lts.Need-returns-4 (emit-calls t) (emit-at t) emit.Post
-emit-returns-4 t c =
-    let k = c .before .before .before .before .before .before .before .before .before .before .before .before .before .before .before .before .before .before .before .before .before .before .before .before .before .before .before .before .before .before in
-    let y = k .entry-of .result .label in
-    let x = k .before .read-cell .result .label in
-    let label = ⊎-elim (λ w. w .1 ∙ label-none y x (w .0 .taken)) (λ w. w .1 ∙ label-kept y x (w .0 .left)) (c .before .before .before .before .before .before .before .if1 .came) in
-    all-emit (emit-parts t (c .before .before .before .before .before .before .before .before .before)) label (c .before .before .before .before .before .refer .ensures) (c .before .before .before .before .refer2 .ensures) (c .before .before .before .refer3 .ensures) (c .before .before .finish .ensures)
+emit-returns-4 t c = all-emit (emit-parts t (c .before .before .before .before)) (c .before .before .finish-row .ensures)
 
 emit-field-returns :
     (t : ℕ) →
@@ -217,10 +201,7 @@ pub +emit+emit-field-spec : {M : Type 1} → statement M
     (emit-enum-told-3 t)
     (emit-same-length-3 t)
     (emit-returns-3 t)
-    (emit-refer-requires t)
-    (emit-refer-requires-2 t)
-    (emit-refer-requires-3 t)
-    (emit-finish-requires t)
+    (emit-finish-row-requires t)
     (emit-same-length-4 t)
     (emit-returns-4 t))
     λ t. emit-field-lts.spec

@@ -13,13 +13,13 @@ use Rattle.cells.proofs.entry_of.Reads as entry-of-reads
 use Rattle.cells.proofs.read_cell.Reads as read-cell-reads
 use Rattle.emission.proofs.emit_field.Reads as emit-field-reads
 use Rattle.emission.proofs.finish.Reads as finish-reads
-use Rattle.emission.proofs.refer.Reads as refer-reads
+use Rattle.emission.proofs.finish_row.Reads as finish-row-reads
 use Rattle.reading.proofs.emit_reading.Reads as emit-reading-reads
 use Rattle.reduction.proofs.Opens.{unit-ready}
 use Rattle.reduction.proofs.Arms.{at-kind, at-last, rcd-to-first, anno-marked, reading-ready, reading-emits, to-first}
 use Rattle.reduction.proofs.Arms.{app-marked, app-to-second, to-apply, merge-marked, merge-to-second}
 use Rattle.reduction.proofs.Arms.{proj-marked, content-within, unit-projected, content-ready, content-emits}
-use Rattle.reduction.proofs.Arms.{FirstStarted, part-ready, part-lower, part-none, rest-ready, rest-none, rest-refers, part-filled, part-last, part-emits}
+use Rattle.reduction.proofs.Arms.{FirstStarted, part-ready, part-lower, part-none, rest-ready, rest-none, part-last, part-emits}
 use Rattle.reduction.proofs.Arms.{SecondStarted, value-ready, value-none, second-lower, second-ready, second-none, both-filled, both-last, both-emit}
 use Rattle.reduction.proofs.emit_next.Reads as emit-next
 use Rattle.reduction.proofs.emit_next.Kinds as emit-next-kinds
@@ -43,7 +43,6 @@ use Rattle.reduction.proofs.next_second.Reads as next-second
 use Rattle.reduction.proofs.next_second.Kinds as next-second-kinds
 use Rattle.reduction.proofs.+emit_next+next_anno+next_app+next_first+next_merge+next_proj+next_second.Lts-next_second as next-second-lts
 use Rattle.reduction.proofs.is_value.Reads as is-value-reads
-use Rattle.reduction.proofs.label_for.Reads as label-for-reads
 use Rattle.reduction.proofs.next_apply.Reads as next-apply-reads
 use Rattle.reduction.proofs.next_fix.Reads as next-fix-reads
 use Rattle.reduction.proofs.+emit_next+next_anno+next_app+next_first+next_merge+next_proj+next_second.{
@@ -136,7 +135,7 @@ abbrev next-app-calls : ℕ → next-app-lts.Claims
 next-app-calls t = (read-cell-reads.Asked, read-cell-reads.Learnt, is-value-reads.Asked, is-value-reads.Learnt, next-first-below t, next-first.Post, next-second-below t, next-second.Post, next-apply-reads.Asked, next-apply-reads.Learnt)
 
 abbrev next-first-calls : ℕ → next-first-lts.Claims
-next-first-calls t = (read-cell-reads.Asked, read-cell-reads.Learnt, entry-of-reads.Asked, entry-of-reads.Learnt, emit-next-below t, emit-next.Post, emit-field-reads.Asked, emit-field-reads.Learnt, label-for-reads.Asked, label-for-reads.Learnt, refer-reads.Asked, refer-reads.Learnt, finish-reads.Asked, finish-reads.Learnt)
+next-first-calls t = (read-cell-reads.Asked, read-cell-reads.Learnt, entry-of-reads.Asked, entry-of-reads.Learnt, emit-next-below t, emit-next.Post, emit-field-reads.Asked, emit-field-reads.Learnt, finish-row-reads.Asked, finish-row-reads.Learnt)
 
 abbrev next-merge-calls : ℕ → next-merge-lts.Claims
 next-merge-calls t = (read-cell-reads.Asked, read-cell-reads.Learnt, is-value-reads.Asked, is-value-reads.Learnt, next-second-below t, next-second.Post, next-first-below t, next-first.Post)
@@ -398,55 +397,31 @@ next-first-returns-2 t c =
     let at-entry-of = at-emit-next .before .before in
     rest-none (next-first-started t at-entry-of) (at-emit-next .emit-next .ensures) (at-x .x .given .1) (at-emit-field .emit-field .ensures) (c .enum-told2 .given .1)
 
-next-first-label-for-requires : (t : ℕ) → next-first-lts.Need-label-for-requires (next-first-calls t) (next-first-at t) next-first.Post
-next-first-label-for-requires t c κs = tt
-
-next-first-refer-requires : (t : ℕ) → next-first-lts.Need-refer-requires (next-first-calls t) (next-first-at t) next-first.Post
-next-first-refer-requires t c κs =
+next-first-finish-row-requires : (t : ℕ) → next-first-lts.Need-finish-row-requires (next-first-calls t) (next-first-at t) next-first.Post
+next-first-finish-row-requires t c κs =
     let at-y = c .before .before in
     let at-emit-field = at-y .before .before .before .before in
     let at-x = at-emit-field .before .before .before in
     let at-emit-next = at-x .before .before .before .before in
     let at-entry-of = at-emit-next .before .before in
-    rest-refers (next-first-started t at-entry-of) (at-emit-next .emit-next .ensures) (at-x .x .given .1) (at-emit-field .emit-field .ensures) (at-y .y .given .1)
-
-next-first-sub-t19 : (t : ℕ) → next-first-lts.Need-sub-t19 (next-first-calls t) (next-first-at t) next-first.Post
-next-first-sub-t19 t c =
-    let at-y = c .before .before .before .before in
-    let at-emit-field = at-y .before .before .before .before in
-    let at-x = at-emit-field .before .before .before in
-    let at-emit-next = at-x .before .before .before .before in
-    let at-entry-of = at-emit-next .before .before in
-    part-filled (next-first-started t at-entry-of) (at-emit-next .emit-next .ensures) (at-x .x .given .1) (at-emit-field .emit-field .ensures) (at-y .y .given .1)
-
-next-first-finish-requires : (t : ℕ) → next-first-lts.Need-finish-requires (next-first-calls t) (next-first-at t) next-first.Post
-next-first-finish-requires t c κs =
-    let at-refer = c .before in
-    let at-y = at-refer .before .before .before in
-    let at-emit-field = at-y .before .before .before .before in
-    let at-x = at-emit-field .before .before .before in
-    let at-emit-next = at-x .before .before .before .before in
-    let at-entry-of = at-emit-next .before .before in
-    part-last (next-first-started t at-entry-of) (at-emit-next .emit-next .ensures) (at-x .x .given .1) (at-emit-field .emit-field .ensures) (at-y .y .given .1) refl (at-refer .refer .ensures) refl
+    part-last (next-first-started t at-entry-of) (at-emit-next .emit-next .ensures) (at-x .x .given .1) (at-emit-field .emit-field .ensures) (at-y .y .given .1)
 
 next-first-same-length-3 : (t : ℕ) → next-first-lts.Need-same-length-3 (next-first-calls t) (next-first-at t) next-first.Post
 next-first-same-length-3 t c =
-    let at-finish = c .before .before in
-    let at-emit-field = at-finish .before .before .before .before .before .before .before .before .before in
+    let at-finish-row = c .before .before in
+    let at-emit-field = at-finish-row .before .before .before .before .before .before .before in
     let at-emit-next = at-emit-field .before .before .before .before .before .before .before in
-    at-finish .finish .kept .0 ∙ at-emit-field .emit-field .kept .1 .0 ∙ at-emit-next .emit-next .kept .1 .0
+    at-finish-row .finish-row .kept .0 ∙ at-emit-field .emit-field .kept .1 .0 ∙ at-emit-next .emit-next .kept .1 .0
 
 next-first-returns-3 : (t : ℕ) → next-first-lts.Need-returns-3 (next-first-calls t) (next-first-at t) next-first.Post
 next-first-returns-3 t c =
-    let at-finish = c .before .before in
-    let at-refer = at-finish .before .before in
-    let at-label-for = at-refer .before in
-    let at-y = at-label-for .before .before in
+    let at-finish-row = c .before .before in
+    let at-y = at-finish-row .before .before .before in
     let at-emit-field = at-y .before .before .before .before in
     let at-x = at-emit-field .before .before .before in
     let at-emit-next = at-x .before .before .before .before in
     let at-entry-of = at-emit-next .before .before in
-    part-emits (next-first-started t at-entry-of) (at-emit-next .emit-next .ensures) (at-x .x .given .1) (at-emit-field .emit-field .ensures) (at-y .y .given .1) (at-label-for .label-for .ensures) (at-refer .refer .ensures) (at-finish .finish .ensures)
+    part-emits (next-first-started t at-entry-of) (at-emit-next .emit-next .ensures) (at-x .x .given .1) (at-emit-field .emit-field .ensures) (at-y .y .given .1) (at-finish-row .finish-row .ensures)
 
 next-merge-read-cell-requires : (t : ℕ) → next-merge-lts.Need-read-cell-requires (next-merge-calls t) (next-merge-at t) next-merge.Post
 next-merge-read-cell-requires t c κs = term-within (c .before .before .pre .1 .ready .at .holds)
@@ -715,10 +690,7 @@ pub +emit-next+next-anno+next-app+next-first+next-merge+next-proj+next-second-sp
     (next-first-enum-told-2 t)
     (next-first-same-length-2 t)
     (next-first-returns-2 t)
-    (next-first-label-for-requires t)
-    (next-first-refer-requires t)
-    (next-first-sub-t19 t)
-    (next-first-finish-requires t)
+    (next-first-finish-row-requires t)
     (next-first-same-length-3 t)
     (next-first-returns-3 t))
     (λ t. next-merge-lts.spec (next-merge-calls t)

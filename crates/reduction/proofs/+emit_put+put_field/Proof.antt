@@ -12,10 +12,9 @@ use Rattle.cells.proofs.entry_of.Reads as entry-of-reads
 use Rattle.cells.proofs.read_cell.Reads as read-cell-reads
 use Rattle.emission.proofs.Fields.{ready-term}
 use Rattle.emission.proofs.emit_field.Reads as emit-field-reads
-use Rattle.emission.proofs.finish.Reads as finish-reads
-use Rattle.emission.proofs.refer.Reads as refer-reads
+use Rattle.emission.proofs.finish_row.Reads as finish-row-reads
 use Rattle.reduction.proofs.Puts.{putMeasure, Started, Went, went, Parts, less, first-ready, none-first, second-ready, none-second, third-ready, none-third}
-use Rattle.reduction.proofs.Puts.{refers-all, last-ready, all-put, source-put, variable-kept, body-less, copy-ready, copy-emits, body-ready, body-emits}
+use Rattle.reduction.proofs.Puts.{last-ready, all-put, source-put, variable-kept, body-less, copy-ready, copy-emits, body-ready, body-emits}
 use Rattle.reduction.proofs.emit_put.Reads as emit-put
 use Rattle.reduction.proofs.emit_put.Kinds as emit-put-kinds
 use Rattle.reduction.proofs.+emit_put+put_field.Lts-emit_put as emit-put-lts
@@ -24,7 +23,6 @@ use Rattle.reduction.proofs.put_field.Kinds as put-field-kinds
 use Rattle.reduction.proofs.+emit_put+put_field.Lts-put_field as put-field-lts
 use Rattle.reduction.proofs.binders.Reads as binders-reads
 use Rattle.reduction.proofs.emit_source.Reads as emit-source-reads
-use Rattle.reduction.proofs.label_for.Reads as label-for-reads
 use Rattle.reduction.proofs.+emit_put+put_field.{statement}
 use Rattle.reduction.proofs.+emit_put+put_field.Tie.{close}
 
@@ -49,7 +47,7 @@ put-field-below t =
     and 2 put-field-kinds.ps (falls 2 put-field-kinds.ps _<_ μ-put-field t) put-field.Pre
 
 abbrev emit-put-calls : ℕ → emit-put-lts.Claims
-emit-put-calls t = (read-cell-reads.Asked, read-cell-reads.Learnt, emit-source-reads.Asked, emit-source-reads.Learnt, emit-field-reads.Asked, emit-field-reads.Learnt, entry-of-reads.Asked, entry-of-reads.Learnt, binders-reads.Asked, binders-reads.Learnt, put-field-below t, put-field.Post, label-for-reads.Asked, label-for-reads.Learnt, refer-reads.Asked, refer-reads.Learnt, finish-reads.Asked, finish-reads.Learnt)
+emit-put-calls t = (read-cell-reads.Asked, read-cell-reads.Learnt, emit-source-reads.Asked, emit-source-reads.Learnt, emit-field-reads.Asked, emit-field-reads.Learnt, entry-of-reads.Asked, entry-of-reads.Learnt, binders-reads.Asked, binders-reads.Learnt, put-field-below t, put-field.Post, finish-row-reads.Asked, finish-row-reads.Learnt)
 
 abbrev put-field-calls : ℕ → put-field-lts.Claims
 put-field-calls t = (emit-field-reads.Asked, emit-field-reads.Learnt, emit-put-below t, emit-put.Post)
@@ -243,43 +241,22 @@ emit-put-returns-5 t c =
     let at-binders = at-known-told .before .before .before .before .before .before .before in
     none-third (emit-put-started t at-binders) (emit-put-first t at-known-told) (emit-put-second t at-known-told2) (at-put-field3 .put-field3 .ensures) (c .enum-told3 .given .1)
 
-emit-put-label-for-requires : (t : ℕ) → emit-put-lts.Need-label-for-requires (emit-put-calls t) (emit-put-at t) emit-put.Post
-emit-put-label-for-requires t c κs = tt
-
-emit-put-refer-requires : (t : ℕ) → emit-put-lts.Need-refer-requires (emit-put-calls t) (emit-put-at t) emit-put.Post
-emit-put-refer-requires t c κs = refers-all (emit-put-parts t (c .before)) .0
-
-emit-put-refer-requires-2 : (t : ℕ) → emit-put-lts.Need-refer-requires-2 (emit-put-calls t) (emit-put-at t) emit-put.Post
-emit-put-refer-requires-2 t c κs = refers-all (emit-put-parts t (c .before .before)) .1
-
-emit-put-refer-requires-3 : (t : ℕ) → emit-put-lts.Need-refer-requires-3 (emit-put-calls t) (emit-put-at t) emit-put.Post
-emit-put-refer-requires-3 t c κs = refers-all (emit-put-parts t (c .before .before .before)) .2
-
-emit-put-finish-requires : (t : ℕ) → emit-put-lts.Need-finish-requires (emit-put-calls t) (emit-put-at t) emit-put.Post
-emit-put-finish-requires t c κs =
-    let at-refer3 = c .before in
-    let at-refer2 = at-refer3 .before in
-    let at-refer = at-refer2 .before in
-    let at-known-told3 = at-refer .before .before in
-    last-ready (emit-put-parts t at-known-told3) (at-refer .refer .ensures) (at-refer2 .refer2 .ensures) (at-refer3 .refer3 .ensures)
+emit-put-finish-row-requires : (t : ℕ) → emit-put-lts.Need-finish-row-requires (emit-put-calls t) (emit-put-at t) emit-put.Post
+emit-put-finish-row-requires t c κs = last-ready (emit-put-parts t (c .before))
 
 emit-put-same-length-6 : (t : ℕ) → emit-put-lts.Need-same-length-6 (emit-put-calls t) (emit-put-at t) emit-put.Post
 emit-put-same-length-6 t c =
-    let at-finish = c .before .before in
-    let at-put-field3 = at-finish .before .before .before .before .before .before .before .before .before .before .before in
+    let at-finish-row = c .before .before in
+    let at-put-field3 = at-finish-row .before .before .before .before .before .before .before in
     let at-put-field2 = at-put-field3 .before .before .before .before .before .before .before in
     let at-put-field = at-put-field2 .before .before .before .before .before .before .before in
-    at-finish .finish .kept .0 ∙ at-put-field3 .put-field3 .kept .1 .0 ∙ at-put-field2 .put-field2 .kept .1 .0 ∙ at-put-field .put-field .kept .1 .0
+    at-finish-row .finish-row .kept .0 ∙ at-put-field3 .put-field3 .kept .1 .0 ∙ at-put-field2 .put-field2 .kept .1 .0 ∙ at-put-field .put-field .kept .1 .0
 
 emit-put-returns-6 : (t : ℕ) → emit-put-lts.Need-returns-6 (emit-put-calls t) (emit-put-at t) emit-put.Post
 emit-put-returns-6 t c =
-    let at-finish = c .before .before in
-    let at-refer3 = at-finish .before .before in
-    let at-refer2 = at-refer3 .before in
-    let at-refer = at-refer2 .before in
-    let at-label-for = at-refer .before in
-    let at-known-told3 = at-label-for .before in
-    all-put (emit-put-parts t at-known-told3) (at-label-for .label-for .ensures) (at-refer .refer .ensures) (at-refer2 .refer2 .ensures) (at-refer3 .refer3 .ensures) (at-finish .finish .ensures)
+    let at-finish-row = c .before .before in
+    let at-known-told3 = at-finish-row .before .before in
+    all-put (emit-put-parts t at-known-told3) (at-finish-row .finish-row .ensures)
 
 put-field-emit-field-requires : (t : ℕ) → put-field-lts.Need-emit-field-requires (put-field-calls t) (put-field-at t) put-field.Post
 put-field-emit-field-requires t c κs = copy-ready (c .before .if1 .taken) (c .before .before .before .before .pre .1)
@@ -330,11 +307,7 @@ pub +emit-put+put-field-spec : {M : Type 1} → statement M
     (emit-put-enum-told-3 t)
     (emit-put-same-length-5 t)
     (emit-put-returns-5 t)
-    (emit-put-label-for-requires t)
-    (emit-put-refer-requires t)
-    (emit-put-refer-requires-2 t)
-    (emit-put-refer-requires-3 t)
-    (emit-put-finish-requires t)
+    (emit-put-finish-row-requires t)
     (emit-put-same-length-6 t)
     (emit-put-returns-6 t))
     λ t. put-field-lts.spec
