@@ -23,7 +23,7 @@ use Rattle.layout.proofs.Laid.{lay-ready}
 use Rattle.cells.specs.Held.{HoldsTerm}
 use Rattle.format.specs.Table.{refers, term-sort}
 use Rattle.format.specs.Tree.{cells}
-use Rattle.running.specs.Turns.{Lies, TypedLies, Runs}
+use Rattle.running.specs.Turns.{Lies, StepReady, Runs}
 use Rattle.running.specs.declared.End.{End}
 use Rattle.engine.specs.Check.{Gives}
 use Rattle.engine.specs.Run.{Ran, RootAt, SomeRoot, RunsRoot}
@@ -45,8 +45,12 @@ module _ {s w : List ℕ} {i : ℕ} (bytes : IsBytes s) where
     root-lies e p =
         record { tree = f .says (suc i) (fromTerm e) (root-held bytes (p .holds)) (term-positive e) (root-small e p); fits = p .fits }
 
-    pub root-typed : SomeRoot s w i → TypedLies v n
-    root-typed p = record { term = p .term; lies = root-lies (p .term) (p .root); type = p .root .type; typed = p .root .typed }
+    pub root-typed : SomeRoot s w i → StepReady s v n
+    root-typed p =
+        record {
+          long = p .root .cells;
+          at = record { term = p .term; lies = root-lies (p .term) (p .root); type = p .root .type; typed = p .root .typed };
+        }
 
     module _ {u : List ℕ} {l : ℕ} {z : End} (y : Runs v u n l z) where
       pub end-lies : SomeRoot s w i → SomeTree u (z .cells)

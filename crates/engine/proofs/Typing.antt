@@ -6,7 +6,7 @@ use mathlib.Core.List.{List, [], _∷_}
 use native.Mathlib.Omega.{arith}
 use borrow.Author.Tests.{ltb-true}
 use lib.Dec.{ltb}
-use lib.ListN.{length, take, length-replicate}
+use lib.ListN.{length, take}
 use Rattle.calculus.specs.Syntax.{Ty, size}
 use Rattle.calculus.specs.Infer as Infer
 use Rattle.calculus.specs.Infer.{infer}
@@ -21,7 +21,6 @@ use Rattle.format.specs.Book.{count, WellFormed, rootOf, follow, opened, book, 
 use Rattle.format.proofs.Tests.{opened-small, opened-fits}
 use Rattle.answers.specs.Answer.{Result, refused, accepted, ill-typed}
 use Rattle.answers.specs.Definition.{afterTyping, turnedBack, shown, reported}
-use Rattle.answers.specs.Engine.{workLength, zeros}
 use Rattle.outcome.specs.Numbers.{refusalAnswer}
 use Rattle.outcome.specs.declared.Refusal.{Refusal}
 use Rattle.cells.specs.Held.{HoldsType, HoldsTerm, h-empty}
@@ -37,7 +36,7 @@ use Rattle.typing.specs.declared.Found.the-variants.{Typed, Refused}
 use Rattle.outcome.specs.declared.Outcome.{Outcome}
 use Rattle.outcome.specs.declared.Outcome.the-variants as Out
 use Rattle.cells.proofs.Held.{same-term}
-use Rattle.engine.specs.Check.{FindsRoot, finds, refuses, Formed, AfterTyping}
+use Rattle.engine.specs.Check.{TurnsBack, FindsRoot, finds, refuses, Formed, AfterTyping}
 use Rattle.engine.specs.Run.{RootAt, RunsRoot}
 use Rattle.engine.proofs.Parts.{cell-part, tree-part}
 
@@ -101,10 +100,6 @@ module _ (b s : List ℕ) (bytes : IsBytes b) (f : WellFormed b) (l : Loaded (ta
           let q : r ≡ Refused (a .0) = cc in
           refuses q e (a .2 ∙ ap (λ (i : ℕ). refused (ill-typed w) i) (way-alike p))
 
-length-zeros : (n : ℕ) → length (zeros n) ≡ n
-unfolding zeros
-length-zeros n = length-replicate {A = ℕ} n 0
-
 type-held : {t : List ℕ} {c : ℕ} {A : Ty} → HoldsType t c A → HeldField t (suc c) (refers type-sort) c (fromType A)
 type-held h = type-field h (omega arith)
 
@@ -119,14 +114,11 @@ module _ {b w t : List ℕ} {i : ℕ} {r : Found} (p : Formed b w i) (bytes : Is
           (A, f, subst (λ (j : ℕ). HoldsType t j A) z h, g)
       go (refuses q f a) = let z : _≡_ {A = ℕ} 0 1 = cc in absurd (omega arith)
 
-  work-long : length w ≡ 65536
-  work-long = ap length (p .cleared) ∙ length-zeros workLength
-
   type-small : {A : Ty} → infer [] (opened b) ≡ Infer.found A → cells (fromType A) ≤ sizeLimit
   type-small {A} e = omega (arith, type-cells A, typed-size (infer-says [] (opened b) A .0 e), opened-small b bytes (p .book .form))
 
   pub type-ready : {c k : ℕ} → r ≡ Typed c k → LayReady t w 2 c
-  type-ready e = let a = found-of e in lay-ready work-long (type-held (a .2)) (type-positive (a .0)) (type-small (a .1))
+  type-ready e = let a = found-of e in lay-ready (p .work) (type-held (a .2)) (type-positive (a .0)) (type-small (a .1))
 
   type-lies : {v : List ℕ} {c n : ℕ} (A : Ty) → infer [] (opened b) ≡ Infer.found A → HoldsType t c A → LaysDown t v 2 c n → LiesTree v n (fromType A)
   type-lies {c = c} A e h y = y .says (suc c) (fromType A) (type-held h) (type-positive A) (type-small e)
@@ -141,11 +133,12 @@ module _ {b w t : List ℕ} {i : ℕ} {r : Found} (p : Formed b w i) (bytes : Is
       let l = type-lies (a .0) (a .1) (a .2) y in
       rw (a .1) (record { answer = ap accepted (l .count ∙ type-cells (a .0)); left = z .says (fromType (a .0)) l })
 
-  pub root-of : {c k : ℕ} → r ≡ Typed c k → RootAt t w i (opened b)
-  root-of e =
+  pub root-of : {c k : ℕ} → length t ≡ 65536 → r ≡ Typed c k → RootAt t w i (opened b)
+  root-of l e =
       let a = found-of e in
       record {
-        long = work-long;
+        cells = l;
+        long = p .work;
         holds = a .3;
         small = opened-small b bytes (p .book .form);
         fits = opened-fits b bytes (p .book .form);
@@ -153,17 +146,17 @@ module _ {b w t : List ℕ} {i : ℕ} {r : Found} (p : Formed b w i) (bytes : Is
         typed = infer-says [] (opened b) (a .0) .0 (a .1);
       }
 
-  pub run-found : {v : List ℕ} {c k m : ℕ} {o : Outcome} → r ≡ Typed c k → RunsRoot t w v i m o → AfterTyping b (reported b m) v o
+  pub run-found : {v : List ℕ} {c k m : ℕ} {o : Outcome} → length t ≡ 65536 → r ≡ Typed c k → RunsRoot t w v i m o → AfterTyping b (reported b m) v o
   unfolding afterTyping
-  run-found e y = let a = found-of e in rw (a .1) (y .says (opened b) (root-of e))
+  run-found l e y = let a = found-of e in rw (a .1) (y .says (opened b) (root-of l e))
 
   -- a refusal is answered alike by both calls
-  pub ill-typed-book : {q : Refusal} (g : Ty → Result) → r ≡ Refused q → AfterTyping b g w (Out.Refused q)
+  pub ill-typed-book : {q : Refusal} {v : List ℕ} {o : Outcome} (g : Ty → Result) → r ≡ Refused q → TurnsBack w v q o → AfterTyping b g v o
   unfolding afterTyping turnedBack
-  ill-typed-book {q} g e = go d
+  ill-typed-book {q} {v} {o} g e u = go d
     where
-      go : FindsRoot b t i r → AfterTyping b g w (Out.Refused q)
-      go (finds u f h k) = let z : _≡_ {A = ℕ} 0 1 = cc in absurd (omega arith)
-      go (refuses {q = x} u f a) =
+      go : FindsRoot b t i r → AfterTyping b g v o
+      go (finds c f h k) = let z : _≡_ {A = ℕ} 0 1 = cc in absurd (omega arith)
+      go (refuses {q = x} c f a) =
           let z : q ≡ x = cc in
-          rw f (record { answer = ap refusalAnswer z ∙ a; left = p .cleared })
+          rw (f, u .says) (record { answer = ap refusalAnswer z ∙ a; left = u .zeroed (p .work) })

@@ -1,7 +1,7 @@
 -- What a check answers and leaves, for every book and every work buffer. Assumes nothing.
 use Prim.Native.Nat.{ℕ, _≤_}
 use mathlib.Core.Path.{_≡_}
-use mathlib.Core.Logic.{_↔_, _⊎_, _≢_}
+use mathlib.Core.Logic.{_↔_, _≢_}
 use mathlib.Core.List.{List, []}
 use lib.ListN.{length}
 use Rattle.calculus.specs.Syntax.{Ty, size-type, size}
@@ -15,6 +15,7 @@ use Rattle.calculus.specs.Infer.{Reason, found, infer}
 use Rattle.outcome.specs.Numbers.{answerOf, refusalAnswer}
 use Rattle.outcome.specs.declared.Refusal.{Refusal}
 use Rattle.outcome.specs.declared.Outcome.{Outcome}
+use Rattle.outcome.specs.declared.Outcome.the-variants.{Refused as Outcome·Refused}
 use Rattle.outcome.specs.declared.Refusal.the-variants.{Buffer}
 use Rattle.book.specs.Form.{FormCheck}
 use Rattle.book.specs.declared.Form.{Form}
@@ -34,21 +35,16 @@ pub record Checked (b w v : List ℕ) (r : Outcome) : Type 0 where
   pub shows : IsWork w → WellFormed b → (A : Ty) → Typed [] (opened b) A →
       (answerOf r ≡ accepted (size-type A)) × (v ≡ laid (typeBook A)) × (size-type A ≤ size (opened b))
 
--- "Refusal 1 touches nothing"
-pub record Untouched (w v : List ℕ) (x : Form) : Type 0 where
-  pub other : length w ≢ workLength
-  pub left : v ≡ w
-  pub says : x ≡ Malformed Buffer
+-- What both calls answer on rows 1 to 10, with a work buffer of n bytes: row 1 is tested first, rows 2 to 10 are the format's.
+pub data Begins (b : List ℕ) (n : ℕ) (x : Form) : Type 0 where
+  row-1 : n ≢ workLength → x ≡ Malformed Buffer → Begins b n x
+  rows-2-to-10 : n ≡ workLength → FormCheck b x → Begins b n x
 
--- "all others zero the work buffer"; the tests 2 to 10 are the format's
-pub record Zeroed (b w v : List ℕ) (x : Form) : Type 0 where
-  pub work : IsWork w
-  pub left : v ≡ zeros workLength
-  pub form : FormCheck b x
-
--- What both calls answer on rows 1 to 10.
-abbrev pub Begins : List ℕ → List ℕ → List ℕ → Form → Type 0
-Begins b w v x = Untouched w v x ⊎ Zeroed b w v x
+-- "Refusal 1 touches nothing, all others zero the work buffer"
+pub record TurnsBack (w v : List ℕ) (q : Refusal) (r : Outcome) : Type 0 where
+  pub says : r ≡ Outcome·Refused q
+  pub zeroed : IsWork w → v ≡ zeros workLength
+  pub untouched : length w ≢ workLength → v ≡ w
 
 -- A well-formed book, and its root's cell.
 pub record Rooted (b : List ℕ) (i : ℕ) : Type 0 where
@@ -66,10 +62,10 @@ pub data FindsRoot (b t : List ℕ) (i : ℕ) (r : Found) : Type 0 where
   refuses : {x : Reason} {p : List ℕ} {q : Refusal} → r ≡ Refused q → infer [] (opened b) ≡ Infer.refused x p →
       refusalAnswer q ≡ refused (ill-typed x) (follow b (rootOf b) p) → FindsRoot b t i r
 
--- The same book and a work buffer of zeros.
+-- The same book and a work buffer.
 pub record Formed (b w : List ℕ) (i : ℕ) : Type 0 where
   pub book : Rooted b i
-  pub cleared : w ≡ zeros workLength
+  pub work : IsWork w
 
 -- The answer r and the bytes v are those of the result x.
 pub record Gives (v : List ℕ) (r : Outcome) (x : Result) : Type 0 where

@@ -26,8 +26,9 @@ pub record Ran (b w v : List ℕ) (limit : ℕ) (r : Outcome) : Type 0 where
   -- demand 3, whole, of this book and the engine that the two public calls are: their contracts say that they are the definitions
   pub agree : Accepts definition b → Demand3For definition b
 
--- A typed book's root, held in a buffer, and a work buffer.
+-- A typed book's root, held in a buffer of 8,192 cells, and a work buffer.
 pub record RootAt (s w : List ℕ) (i : ℕ) (e : Term) : Type 0 where
+  pub cells : length s ≡ 65536
   pub long : length w ≡ 65536
   pub holds : HoldsTerm s i e
   pub small : size e ≤ sizeLimit

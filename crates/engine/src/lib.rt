@@ -11,18 +11,27 @@ use running::run_on;
 use typing::Found;
 use typing::find;
 ghost use Rattle.answers.specs.Definition.{shown, reported};
-ghost use Rattle.engine.specs.Check.{Begins, Checked, Findable, FindsRoot, Formed, AfterTyping};
+ghost use Rattle.engine.specs.Check.{Begins, TurnsBack, Checked, Findable, FindsRoot, Formed, AfterTyping};
 ghost use Rattle.engine.specs.Run.{Ran, SomeRoot, RunsRoot};
 
-// Rows 1 to 10, for both calls: a work buffer of another length is left as it is; else it is zeroed, and the book's bytes are tested.
-fn begin(book: &[u8], work: &mut [u8]) -> Form
-    ensures { λ r. ⌜ Begins (now (book .entry)) (now (work .entry)) (now (work .exit)) r ⌝ }
+// Rows 1 to 10, for both calls and a work buffer of n bytes.
+fn begin(book: &[u8], n: usize) -> Form
+    ensures { λ r. ⌜ Begins (now (book .entry)) n r ⌝ }
 {
-    if work.len() != 65536 {
+    if n != 65536 {
         return Form::Malformed(Refusal::Buffer);
     }
-    clear(work);
     check_form(book)
+}
+
+// A work buffer of another length, refusal 1, is left as it is; every other refusal zeroes it.
+fn turn_back(work: &mut [u8], refusal: Refusal) -> Outcome
+    ensures { λ r. ⌜ TurnsBack (now (work .entry)) (now (work .exit)) refusal r ⌝ }
+{
+    if work.len() == 65536 {
+        clear(work);
+    }
+    Outcome::Refused(refusal)
 }
 
 // A well-formed book's cells are loaded into a buffer, where typing adds cells, and the root's type is found.
@@ -42,7 +51,7 @@ fn check_types(book: &[u8], work: &mut [u8], root: usize) -> Outcome
 {
     let mut buffer = [0u8; 65536];
     match find_root(book, &mut buffer, root) {
-        Found::Refused(refusal) => Outcome::Refused(refusal),
+        Found::Refused(refusal) => turn_back(work, refusal),
         Found::Typed(t, _) => {
             let n = lay_down(&buffer, work, 2, t);
             close(work, n);
@@ -55,19 +64,19 @@ fn check_types(book: &[u8], work: &mut [u8], root: usize) -> Outcome
 pub fn check(book: &[u8], work: &mut [u8]) -> Outcome
     ensures { λ r. ⌜ Checked (now (book .entry)) (now (work .entry)) (now (work .exit)) r ⌝ }
 {
-    match begin(book, work) {
-        Form::Malformed(refusal) => Outcome::Refused(refusal),
+    match begin(book, work.len()) {
+        Form::Malformed(refusal) => turn_back(work, refusal),
         Form::WellFormed(root) => check_types(book, work, root),
     }
 }
 
-// The root, held in a buffer, is laid down in the work buffer and run there.
-fn run_root(s: &[u8], work: &mut [u8], root: usize, limit: u32) -> Outcome
+// The root, held in a buffer, is laid down in the work buffer and run there; the buffer serves the steps.
+fn run_root(s: &mut [u8], work: &mut [u8], root: usize, limit: u32) -> Outcome
     requires { ⌜ SomeRoot (now s) (now work) root ⌝ }
     ensures { λ r. ⌜ RunsRoot (now (s .entry)) (now (work .entry)) (now (work .exit)) root limit r ⌝ }
 {
     let n = lay_down(s, work, 3, root);
-    let end = run_on(work, n, limit);
+    let end = run_on(s, work, n, limit);
     let stop = end.stop;
     close(work, end.cells);
     Outcome::Stopped(stop)
@@ -80,8 +89,8 @@ fn run_types(book: &[u8], work: &mut [u8], root: usize, limit: u32) -> Outcome
 {
     let mut buffer = [0u8; 65536];
     match find_root(book, &mut buffer, root) {
-        Found::Refused(fault) => Outcome::Refused(fault),
-        Found::Typed(_, _) => run_root(&buffer, work, root, limit),
+        Found::Refused(fault) => turn_back(work, fault),
+        Found::Typed(_, _) => run_root(&mut buffer, work, root, limit),
     }
 }
 
@@ -90,8 +99,8 @@ fn run_types(book: &[u8], work: &mut [u8], root: usize, limit: u32) -> Outcome
 pub fn run(book: &[u8], work: &mut [u8], limit: u32) -> Outcome
     ensures { λ r. ⌜ Ran (now (book .entry)) (now (work .entry)) (now (work .exit)) limit r ⌝ }
 {
-    match begin(book, work) {
-        Form::Malformed(fault) => Outcome::Refused(fault),
+    match begin(book, work.len()) {
+        Form::Malformed(fault) => turn_back(work, fault),
         Form::WellFormed(root) => run_types(book, work, root, limit),
     }
 }

@@ -7,7 +7,7 @@ use outcome::Stop;
 use reduction::emit_next;
 use reduction::is_value;
 ghost use Prim.Native.Nat.{_≤_};
-ghost use Rattle.running.specs.Turns.{StepReady, Steps, Runs, TypedLies};
+ghost use Rattle.running.specs.Turns.{StepReady, Steps, Runs};
 
 // The cells that the term takes, and the steps taken.
 pub struct State {
@@ -52,15 +52,14 @@ pub fn step(s: &mut [u8], w: &mut [u8], state: State, limit: u32) -> Turn
     Turn::Ended(Stop::Room(k), n)
 }
 
-// Steps until the term is a value, the limit is taken, or there is no room.
-pub fn run_on(w: &mut [u8], n: usize, limit: u32) -> End
-    requires { ⌜ TypedLies (now w) n ⌝ }
+// Steps until the term is a value, the limit is taken, or there is no room. Of s nothing is decided.
+pub fn run_on(s: &mut [u8], w: &mut [u8], n: usize, limit: u32) -> End
+    requires { ⌜ StepReady (now s) (now w) n ⌝ }
     ensures { λ r. ⌜ Runs (now (w .entry)) (now (w .exit)) n limit r ⌝ }
 {
-    let mut s = [0u8; 65536];
     let mut state = State { cells: n, steps: 0 };
     loop {
-        match step(&mut s, w, state, limit) {
+        match step(s, w, state, limit) {
             Turn::Next(next) => {
                 state = next;
             }

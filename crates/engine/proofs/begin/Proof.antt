@@ -1,31 +1,20 @@
 -- `engine::begin` meets its contract. Assumes nothing.
-use mathlib.Core.Logic.{inl, inr}
 use mathlib.Core.Path.{refl}
+use Rattle.engine.specs.Check.{row-1, rows-2-to-10}
 use borrow.Author.Needs.{needs}
-use Rattle.engine.proofs.Judging.{cleared-work}
 use Rattle.engine.proofs.begin.Statement.{statement}
 use Rattle.engine.proofs.begin.Tie as tie
 
 returns : tie.Need-returns
-returns c = inl (record { other = c .if1 .taken; left = refl; says = refl })
-
-clear-requires : tie.Need-clear-requires
-clear-requires c κs = search needs
+returns c =
+    row-1 (c .if1 .taken) refl
 
 check-form-requires : tie.Need-check-form-requires
 check-form-requires c κs = search needs
 
-same-length : tie.Need-same-length
-same-length c = search needs
-
 returns-2 : tie.Need-returns-2
 returns-2 c =
-    inr
-    (record {
-      work = c .before .before .before .before .before .if1 .left;
-      left = cleared-work (c .before .before .before .clear .ensures) (c .before .before .before .before .before .if1 .left);
-      form = c .check-form .ensures;
-    })
+    rows-2-to-10 (c .before .if1 .left) (c .check-form .ensures)
 
 pub begin-spec : {M : Type 1} → statement M
-begin-spec = tie.close (tie.spec returns clear-requires check-form-requires same-length returns-2)
+begin-spec = tie.close (tie.spec returns check-form-requires returns-2)

@@ -16,6 +16,9 @@ find-root-requires c κs =
 enum-known-refusal : tie.Need-enum-known-refusal
 enum-known-refusal c = search needs
 
+turn-back-requires : tie.Need-turn-back-requires
+turn-back-requires c κs = search needs
+
 enum-known-t : tie.Need-enum-known-t
 enum-known-t c = search needs
 
@@ -30,12 +33,15 @@ close-requires : tie.Need-close-requires
 close-requires c κs =
     type-lain (c .before .before .before .before .before .before .before .before .before .before .before .before .before .before .pre) (λ i. c .before .before .before .before .before .before .before .before .before .before .before .before .before .shared-slice-known .given i .fits) (c .before .before .before .before .before .before .before .before .before .before .find-root .ensures) (c .before .before .before .before .before .before .before .t .given .1) (c .before .before .before .lay-down .ensures)
 
-returns : tie.Need-returns
-returns c =
-    ill-typed-book (c .before .before .before .before .before .before .before .before .pre) (λ i. c .before .before .before .before .before .before .before .shared-slice-known .given i .fits) (c .before .before .before .before .find-root .ensures) _ (c .before .refusal .given .1)
-
 same-length : tie.Need-same-length
 same-length c = search needs
+
+returns : tie.Need-returns
+returns c =
+    ill-typed-book (c .before .before .before .before .before .before .before .before .before .before .before .before .pre) (λ i. c .before .before .before .before .before .before .before .before .before .before .before .shared-slice-known .given i .fits) (c .before .before .before .before .before .before .before .before .find-root .ensures) _ (c .before .before .before .before .before .refusal .given .1) (c .before .before .turn-back .ensures)
+
+same-length-2 : tie.Need-same-length-2
+same-length-2 c = search needs
 
 returns-2 : tie.Need-returns-2
 returns-2 c =
@@ -48,10 +54,12 @@ check-types-spec =
     slice-aggregate-find-root
     find-root-requires
     enum-known-refusal
+    turn-back-requires
     enum-known-t
     slice-aggregate-lay-down
     lay-down-requires
     close-requires
-    returns
     same-length
+    returns
+    same-length-2
     returns-2)
