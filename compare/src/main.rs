@@ -105,6 +105,9 @@ fn compare(options: &Options) -> bool {
     println!("{}", Figures::HEAD);
     let asked = |family: &Family| options.family.as_ref().is_none_or(|name| name == family.name);
     side_by_side(families().into_iter().filter(asked).collect(), |family| {
+        if failed.load(Relaxed) >= FAILURES {
+            return;
+        }
         let figures = one_family(&family, options.seed, count, &failed);
         passed.fetch_add(1, Relaxed);
         books.fetch_add(figures.books, Relaxed);
