@@ -120,8 +120,8 @@ const LONG: u64 = 20_000;
 const LARGE: u64 = 1_000;
 
 /// How the evaluator runs an accepted book. An engine's step takes time by the cells of its term, so this decides which limits are asked.
-struct Course {
-    answer: Answer,
+pub struct Course {
+    pub answer: Answer,
     steps: u32,
     ends: bool,
     /// About how many a term on the way has.
@@ -129,7 +129,7 @@ struct Course {
 }
 
 impl Course {
-    fn of(book: &[u8]) -> Option<Course> {
+    pub fn of(book: &[u8]) -> Option<Course> {
         let mut work = vec![0; WORK];
         let answer = Evaluator(None).call(Call::Run { limit: ENOUGH }, book, &mut work).ok()?;
         let (steps, ends) = match answer {
