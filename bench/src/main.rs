@@ -8,7 +8,7 @@ use books::Named;
 use compare::engines::Call;
 use compare::extremes::times;
 use compare::samples::kept_books;
-use evaluator::{lay_term, Answer, Term};
+use evaluator::{lay_term, on_large_stack, read, successors, Answer, Term};
 use timing::{engine, evaluator, from_the_root, race, Side, Timed};
 
 const DESK: Call = Call::Run { limit: 10_000 };
@@ -107,58 +107,88 @@ fn sample_books() {
     }
 }
 
+/// The least seconds of each row over several passes through all rows, so that other work on the machine does not fall on one row.
+fn passes(rows: usize, time: impl Fn(usize) -> Vec<f64>) -> Vec<Vec<f64>> {
+    let pass = || (0..rows).map(&time).collect::<Vec<_>>();
+    let least = |one: Vec<f64>, other: Vec<f64>| one.into_iter().zip(other).map(|(a, b)| a.min(b)).collect();
+    let both = |one: Vec<Vec<f64>>, other: Vec<Vec<f64>>| one.into_iter().zip(other).map(|(a, b)| least(a, b)).collect();
+    (0..4).map(|_| pass()).reduce(both).expect("a pass")
+}
+
 fn growth_of_the_check() {
-    head("Growth: the check", "book, cells, engine ns a cell, evaluator ns a cell");
+    head("Growth: the check", "book, cells, engine ns a cell, evaluator ns a cell, engine / evaluator");
+    let mut rows = Vec::new();
     for n in [512, 1_024, 2_048, 4_095] {
-        let records = times(n - 1, Term::number(1), |e| Term::record(7, e));
-        let annotations = times((n - 1) / 2, Term::number(1), |e| Term::annotation(e, books::int()));
-        for (name, term) in [("nested records", records), ("nested annotations", annotations)] {
-            let seconds = race(&TWO, Call::Check, &[lay_term(&term)]).seconds;
-            let [a, b] = [0, 1].map(|side| seconds[side] * 1e9 / term.size() as f64);
-            println!("| {name} | {} | {a:.1} | {b:.1} |", term.size());
-        }
+        rows.push(("nested records", times(n - 1, Term::number(1), |e| Term::record(7, e))));
+        rows.push(("nested annotations", times((n - 1) / 2, Term::number(1), |e| Term::annotation(e, books::int()))));
+    }
+    rows.sort_by_key(|(name, _)| *name);
+    let books: Vec<Vec<u8>> = rows.iter().map(|(_, term)| lay_term(term)).collect();
+    let seconds = passes(rows.len(), |row| race(&TWO, Call::Check, &books[row..=row]).seconds);
+    for ((name, term), seconds) in rows.iter().zip(seconds) {
+        let [a, b] = [0, 1].map(|side| seconds[side] * 1e9 / term.size() as f64);
+        println!("| {name} | {} | {a:.1} | {b:.1} | {} |", term.size(), ratio(&seconds, 1));
     }
 }
 
-/// The seconds of the steps alone: a run's without those of the run with limit 0, which checks and lays down.
-fn steps_alone(sides: &[Side], book: Vec<u8>, limit: u32) -> (Answer, Vec<f64>) {
-    let books = [book];
-    let none = race(sides, Call::Run { limit: 0 }, &books);
-    let some = race(sides, Call::Run { limit }, &books);
-    let alone = some.seconds.iter().zip(none.seconds).map(|(some, none)| some - none);
-    (some.answer, alone.collect())
+/// The seconds of so many steps alone, of each book: those of the run without those of the run with limit 0, which checks and lays down.
+fn steps_alone(sides: &[Side], books: &[Vec<u8>], limit: u32) -> Vec<Vec<f64>> {
+    let both = |row: usize| [0, limit].map(|limit| race(sides, Call::Run { limit }, &books[row..=row]).seconds).concat();
+    let alone = |seconds: Vec<f64>| {
+        let (none, some) = seconds.split_at(sides.len());
+        some.iter().zip(none).map(|(some, none)| some - none).collect()
+    };
+    passes(books.len(), both).into_iter().map(alone).collect()
+}
+
+/// The cells of a term on the way, on average over so many steps.
+fn average_cells(book: &[u8], steps: u32) -> f64 {
+    on_large_stack(|| {
+        let mut term = read(book).expect("a term");
+        let mut sum = 0;
+        for _ in 0..steps {
+            sum += term.size();
+            term = successors(&term).pop().expect("a successor");
+        }
+        sum as f64 / f64::from(steps)
+    })
 }
 
 fn growth_of_a_step() {
-    let columns = "records, cells, engine ns a step, from the root ns a step, engine ns a step and cell, engine / from the root";
+    let columns =
+        "records, cells on average, engine ns a step, from the root ns a step, engine ns a step and cell, engine / from the root";
     head("Growth: a step of a function that calls itself within records", columns);
-    for around in [0, 250, 500, 1_000, 2_000, 4_000] {
-        const STEPS: u32 = 60;
-        let (_, alone) = steps_alone(&[engine, from_the_root], books::endless(around), STEPS);
-        let [a, b] = [0, 1].map(|side| alone[side] * 1e9 / f64::from(STEPS));
-        // From 11 cells to 51 after 60 steps.
-        let cells = around + 31;
-        println!("| {around} | {cells} | {a:.0} | {b:.0} | {:.1} | {} |", a / cells as f64, ratio(&alone, 1));
+    const STEPS: u32 = 60;
+    let around = [0, 250, 500, 1_000, 2_000, 4_000];
+    let books = around.map(books::endless);
+    let seconds = steps_alone(&[engine, from_the_root], &books, STEPS);
+    for ((around, book), seconds) in around.into_iter().zip(&books).zip(seconds) {
+        let [a, b] = [0, 1].map(|side| seconds[side] * 1e9 / f64::from(STEPS));
+        let cells = average_cells(book, STEPS);
+        println!("| {around} | {cells:.0} | {a:.0} | {b:.0} | {:.1} | {} |", a / cells, ratio(&seconds, 1));
     }
 }
 
 fn readings() {
-    let columns = "value and type, parts of each, answer, engine ms, evaluator ms, engine / evaluator, engine ns a pair of parts";
+    let columns = "value and type, parts of each, engine ms, evaluator ms, engine / evaluator, engine ns a pair of parts";
     head("The largest readings: the one step alone", columns);
-    let row = |name: &str, parts: usize, book: Vec<u8>| {
-        let (answer, alone) = steps_alone(&TWO, book, 1);
-        let pair = alone[0] * 1e9 / (parts * parts) as f64;
-        let (a, b, over) = (ms(alone[0]), ms(alone[1]), ratio(&alone, 1));
-        println!("| {name} | {parts} | {} | {a} | {b} | {over} | {pair:.1} |", said(answer));
-    };
+    let mut rows: Vec<(&str, usize)> = Vec::new();
+    let mut books: Vec<Vec<u8>> = Vec::new();
     for parts in [85, 170, 341, 682] {
-        row("records, under their types in reverse order", parts, books::records_read(parts));
+        rows.push(("records, under their types in reverse order", parts));
+        books.push(books::records_read(parts));
     }
     for parts in [85, 170, 341, 682] {
-        row("a record behind others, under copies of its type", parts, books::last_read(parts));
+        rows.push(("a record behind others, under copies of its type", parts));
+        books.push(books::last_read(parts));
     }
     for parts in [15, 30, 60] {
-        row("a function with so many cells of body, under function types", parts, books::function_read(parts, parts));
+        rows.push(("a function with so many cells of body, under function types", parts));
+        books.push(books::function_read(parts, parts));
+    }
+    for ((name, parts), seconds) in rows.into_iter().zip(steps_alone(&TWO, &books, 1)) {
+        let pair = seconds[0] * 1e9 / (parts * parts) as f64;
+        println!("| {name} | {parts} | {} | {} | {} | {pair:.1} |", ms(seconds[0]), ms(seconds[1]), ratio(&seconds, 1));
     }
 }
 

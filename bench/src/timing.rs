@@ -64,7 +64,7 @@ pub fn race(sides: &[Side], call: Call, books: &[Vec<u8>]) -> Timed {
             }
             seconds = seconds.iter().zip(sums).map(|(least, sum)| least.min(sum)).collect();
             let spent = start.elapsed().as_secs_f64();
-            if spent > 3.0 || round >= 2 && spent > 0.6 {
+            if spent > 3.0 || round >= 2 && spent > 0.4 {
                 break;
             }
         }
