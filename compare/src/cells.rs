@@ -1,7 +1,7 @@
 //! Books as lists of cells, to make, change and shrink them.
 
 use crate::random::Random;
-use evaluator::{Term, TermShape, Type, TypeShape};
+use evaluator::{lay_term, Term};
 use std::collections::HashMap;
 
 #[derive(Clone, Copy, PartialEq, Eq, Hash, Debug)]
@@ -78,7 +78,7 @@ pub struct Cells {
 impl Cells {
     /// Of bytes with a fitting trailer.
     pub fn of(book: &[u8]) -> Option<Cells> {
-        if book.len() < 16 || book.len() % 8 != 0 {
+        if book.len() < 16 || !book.len().is_multiple_of(8) {
             return None;
         }
         let field = |at: usize| u16::from_le_bytes([book[at], book[at + 1]]);
@@ -146,89 +146,26 @@ impl Sharing {
     }
 }
 
-/// Lays a term of at most 4,095 cells down, sharing as told.
+/// Lays a term down, equal cells shared as told.
 pub fn lay(term: &Term, sharing: Sharing, random: &mut Random) -> Cells {
-    let mut layer = Layer { cells: Vec::new(), known: HashMap::new(), sharing, random };
-    let root = layer.term(term);
-    Cells { cells: layer.cells, root }
-}
-
-struct Layer<'a> {
-    cells: Vec<Cell>,
-    known: HashMap<Cell, u16>,
-    sharing: Sharing,
-    random: &'a mut Random,
-}
-
-impl Layer<'_> {
-    fn cell(&mut self, kind: u8, label: u8, fields: [u16; 3]) -> u16 {
-        let cell = Cell::new(kind, label, fields);
-        let again = match self.sharing {
+    let opened = Cells::of(&lay_term(term)).expect("a book");
+    let mut cells: Vec<Cell> = Vec::new();
+    let mut known: HashMap<Cell, u16> = HashMap::new();
+    // Where each cell of the opened book is now.
+    let mut now: Vec<u16> = Vec::with_capacity(opened.cells.len());
+    for cell in opened.cells {
+        let cell = cell.redirected(|n| now[usize::from(n)]);
+        let again = match sharing {
             Sharing::Never => false,
-            Sharing::Sometimes => self.random.once_in(2),
+            Sharing::Sometimes => random.once_in(2),
             Sharing::Always => true,
         };
-        if let (true, Some(&known)) = (again, self.known.get(&cell)) {
-            return known;
+        let place = known.get(&cell).copied().filter(|_| again).unwrap_or(cells.len() as u16);
+        if usize::from(place) == cells.len() {
+            cells.push(cell);
+            known.insert(cell, place);
         }
-        let number = self.cells.len() as u16;
-        self.cells.push(cell);
-        self.known.insert(cell, number);
-        number
+        now.push(place);
     }
-
-    fn ty(&mut self, t: &Type) -> u16 {
-        match t.shape() {
-            TypeShape::Int => self.cell(1, 0, [0; 3]),
-            TypeShape::Top => self.cell(2, 0, [0; 3]),
-            TypeShape::Function(a, b) => {
-                let (a, b) = (self.ty(a), self.ty(b));
-                self.cell(3, 0, [a, b, 0])
-            }
-            TypeShape::Intersection(a, b) => {
-                let (a, b) = (self.ty(a), self.ty(b));
-                self.cell(4, 0, [a, b, 0])
-            }
-            TypeShape::Record(l, a) => {
-                let a = self.ty(a);
-                self.cell(5, *l, [a, 0, 0])
-            }
-        }
-    }
-
-    fn term(&mut self, e: &Term) -> u16 {
-        match e.shape() {
-            TermShape::Variable(skipped) => self.cell(16, 0, [*skipped, 0, 0]),
-            TermShape::Number(n) => self.cell(17, 0, Cell::number(*n).fields),
-            TermShape::Top => self.cell(18, 0, [0; 3]),
-            TermShape::Annotation(e, t) => {
-                let (a, b) = (self.term(e), self.ty(t));
-                self.cell(19, 0, [a, b, 0])
-            }
-            TermShape::Application(l, r) => {
-                let (a, b) = (self.term(l), self.term(r));
-                self.cell(20, 0, [a, b, 0])
-            }
-            TermShape::Function(e, i, o) => {
-                let (a, b, c) = (self.term(e), self.ty(i), self.ty(o));
-                self.cell(21, 0, [a, b, c])
-            }
-            TermShape::Merge(l, r) => {
-                let (a, b) = (self.term(l), self.term(r));
-                self.cell(22, 0, [a, b, 0])
-            }
-            TermShape::Fixpoint(e, t) => {
-                let (a, b) = (self.term(e), self.ty(t));
-                self.cell(23, 0, [a, b, 0])
-            }
-            TermShape::Record(l, e) => {
-                let a = self.term(e);
-                self.cell(24, *l, [a, 0, 0])
-            }
-            TermShape::Read(l, e) => {
-                let a = self.term(e);
-                self.cell(25, *l, [a, 0, 0])
-            }
-        }
-    }
+    Cells { cells, root: now[usize::from(opened.root)] }
 }

@@ -3,8 +3,8 @@
 use crate::engines::{Call, Engine, Evaluator, Said};
 use crate::random::Random;
 use crate::theory;
-use evaluator::{Answer, WORK};
-use std::cell::RefCell;
+use evaluator::{read, Answer, CELL, WORK};
+use std::cell::{Cell, RefCell};
 
 /// What one side says and leaves.
 pub struct Outcome {
@@ -17,7 +17,7 @@ pub struct Outcome {
 pub enum Question {
     /// A call with a work buffer of this length: the whole answer and every byte.
     Call(Call, usize),
-    /// What the calculus promises of the terms that the book reaches, of the evaluator alone.
+    /// What the calculus promises of the terms that the book reaches.
     Theory,
 }
 
@@ -27,20 +27,19 @@ pub enum Difference {
     Broken(String),
 }
 
-/// The evaluator's end of a run, for the figures.
+/// The evaluator's answers, for the figures.
 #[derive(Clone, Copy, PartialEq, Eq, Debug)]
 pub struct Seen {
     pub check: Answer,
     pub run: Answer,
 }
 
-/// Limits are tried up to this one; a run that ends within it is tried with the greatest limit too.
-const ENOUGH: u32 = 10_000;
-
 pub struct Comparison<'a> {
     pub engine: &'a dyn Engine,
     /// Also test what the calculus promises.
     pub theory: bool,
+    /// How many calls have been compared.
+    pub calls: Cell<usize>,
     noise: Vec<u8>,
     buffers: RefCell<[Vec<u8>; 2]>,
 }
@@ -48,20 +47,21 @@ pub struct Comparison<'a> {
 impl<'a> Comparison<'a> {
     pub fn new(engine: &'a dyn Engine, theory: bool) -> Comparison<'a> {
         let mut random = Random::of(0, "noise", 0);
-        let noise = (0..3 * WORK).map(|_| random.next() as u8).collect();
-        Comparison { engine, theory, noise, buffers: RefCell::new([Vec::new(), Vec::new()]) }
+        let noise = (0..3 * WORK).map(|_| random.draw() as u8).collect();
+        Comparison { engine, theory, calls: Cell::new(0), noise, buffers: RefCell::new([Vec::new(), Vec::new()]) }
     }
 
-    /// Asks both sides, over buffers filled with the same noise; none if they agree.
+    /// Asks both sides; none if they agree.
     pub fn ask(&self, book: &[u8], question: Question) -> Option<Difference> {
-        self.answered(book, question).err()
+        match question {
+            Question::Call(call, length) => self.answered(book, call, length).err(),
+            Question::Theory => theory::holds(self.engine, book).err().map(Difference::Broken),
+        }
     }
 
-    /// The answer that both give.
-    fn answered(&self, book: &[u8], question: Question) -> Result<Option<Answer>, Difference> {
-        let Question::Call(call, length) = question else {
-            return theory::holds(book).map(|()| None).map_err(Difference::Broken);
-        };
+    /// The answer that both sides give, over buffers filled with the same noise.
+    fn answered(&self, book: &[u8], call: Call, length: usize) -> Result<Answer, Difference> {
+        self.calls.set(self.calls.get() + 1);
         let mut buffers = self.buffers.borrow_mut();
         let [left, right] = &mut *buffers;
         let start = (book.len() * 7 + book.iter().map(|&byte| usize::from(byte)).sum::<usize>()) % WORK;
@@ -72,7 +72,7 @@ impl<'a> Comparison<'a> {
         let said_left = Evaluator(None).call(call, book, left);
         let said_right = self.engine.call(call, book, right);
         match &said_left {
-            Ok(answer) if said_left == said_right && left == right => Ok(Some(*answer)),
+            Ok(answer) if said_left == said_right && left == right => Ok(*answer),
             _ => Err(Difference::Outcomes(
                 Outcome { said: said_left, work: left.clone() },
                 Outcome { said: said_right, work: right.clone() },
@@ -80,59 +80,97 @@ impl<'a> Comparison<'a> {
         }
     }
 
-    /// Everything that is asked about a book. The first difference with its question, or what was seen.
-    pub fn book(&self, book: &[u8], random: &mut Random) -> Result<Seen, (Question, Difference)> {
-        let ask = |call, length| {
-            let question = Question::Call(call, length);
-            match self.answered(book, question) {
-                Ok(answer) => Ok(answer.expect("a call is answered")),
-                Err(difference) => Err((question, difference)),
-            }
-        };
+    fn call(&self, book: &[u8], call: Call, length: usize) -> Result<Answer, (Question, Difference)> {
+        self.answered(book, call, length).map_err(|difference| (Question::Call(call, length), difference))
+    }
+
+    /// Everything that is asked about a book; of a thorough one its whole run, however long. The first difference with its question,
+    /// or what was seen.
+    pub fn book(&self, book: &[u8], thorough: bool, random: &mut Random) -> Result<Seen, (Question, Difference)> {
         if random.once_in(16) {
             let length = *random.pick(&[0, 1, 8, WORK - 1, WORK + 1, WORK * 2]);
-            ask(Call::Check, length)?;
-            ask(Call::Run { limit: 3 }, length)?;
+            self.call(book, Call::Check, length)?;
+            self.call(book, Call::Run { limit: 3 }, length)?;
         }
-        let check = ask(Call::Check, WORK)?;
+        let check = self.call(book, Call::Check, WORK)?;
         if let Answer::Refused { .. } = check {
             let limit = *random.pick(&[0, 1, 5, 2_046, 2_047, u32::MAX]);
-            let run = ask(Call::Run { limit }, WORK)?;
+            let run = self.call(book, Call::Run { limit }, WORK)?;
             return Ok(Seen { check, run });
         }
-        let run = ask(Call::Run { limit: ENOUGH }, WORK)?;
-        let (steps, ends) = match run {
-            Answer::Value { steps } | Answer::Room { steps } => (steps, true),
-            Answer::Spent { steps } => (steps, false),
-            _ => (0, false),
+        let Some(course) = Course::of(book) else {
+            // The evaluator gives no answer; asked, it fails.
+            return self.call(book, Call::Run { limit: ENOUGH }, WORK).map(|run| Seen { check, run });
         };
-        let mut limits = vec![0];
-        if steps > 0 {
-            limits.extend([1, random.between(2, 12) as u32]);
-        }
-        if steps > 1 {
-            limits.extend([steps - 1, steps, random.lower(steps as usize) as u32]);
-        }
-        if steps >= 2_000 || random.once_in(16) {
-            limits.extend([2_046, 2_047]);
-        }
-        if ends {
-            limits.push(u32::MAX);
-        }
-        // Each once, and of a long run only some.
-        limits.sort_unstable();
-        limits.dedup();
-        while steps > 300 && limits.len() > 4 {
-            limits.remove(random.lower(limits.len()));
-        }
-        for limit in limits {
-            ask(Call::Run { limit }, WORK)?;
+        for limit in course.limits(thorough, random) {
+            self.call(book, Call::Run { limit }, WORK)?;
         }
         if self.theory {
-            if let Some(difference) = self.ask(book, Question::Theory) {
-                return Err((Question::Theory, difference));
-            }
+            theory::holds(self.engine, book).map_err(|words| (Question::Theory, Difference::Broken(words)))?;
         }
-        Ok(Seen { check, run })
+        Ok(Seen { check, run: course.answer })
+    }
+}
+
+/// Limits are tried up to this one; a run that ends within it is tried with the greatest limit too.
+const ENOUGH: u32 = 10_000;
+/// A run of more cells than this, those of each step's term added up, is long.
+const LONG: u64 = 20_000;
+/// A term of more cells than this is large.
+const LARGE: u64 = 1_000;
+
+/// How the evaluator runs an accepted book. An engine's step takes time by the cells of its term, so this decides which limits are asked.
+pub struct Course {
+    pub answer: Answer,
+    steps: u32,
+    ends: bool,
+    /// About how many a term on the way has.
+    cells: u64,
+}
+
+impl Course {
+    pub fn of(book: &[u8]) -> Option<Course> {
+        let mut work = vec![0; WORK];
+        let answer = Evaluator(None).call(Call::Run { limit: ENOUGH }, book, &mut work).ok()?;
+        let (steps, ends) = match answer {
+            Answer::Value { steps } | Answer::Room { steps } => (steps, true),
+            Answer::Spent { steps } => (steps, false),
+            _ => return None,
+        };
+        let last = work.chunks(CELL).take_while(|cell| cell[0] != 0xF0).count() as u64;
+        let first = read(book).ok()?.size();
+        Some(Course { answer, steps, ends, cells: (first + last) / 2 + 1 })
+    }
+
+    /// The limits that are asked, each once: low ones, and those about the end and past it. Each of these is the whole run again, so of
+    /// them only as many as are not long together; of a long run one where the book is thorough and now and then elsewhere, else one that
+    /// costs little. Of large terms, which take long to check, one of each sort is asked.
+    fn limits(&self, thorough: bool, random: &mut Random) -> Vec<u32> {
+        let mut low = vec![0, 1, random.between(2, 12) as u32];
+        let mut whole = vec![self.steps.saturating_sub(1), self.steps, random.lower(self.steps as usize + 1) as u32];
+        whole.extend([2_046, 2_047, ENOUGH]);
+        if self.ends {
+            whole.push(u32::MAX);
+        }
+        let mut times = (LONG / (u64::from(self.steps) * self.cells + 1)) as usize;
+        if times == 0 && !thorough && !random.once_in(32) {
+            whole = vec![random.lower((LONG / self.cells) as usize + 1) as u32];
+        }
+        if self.cells > LARGE {
+            thin(&mut low, 1, random);
+            times = 1;
+        }
+        thin(&mut whole, times.max(1), random);
+        low.extend(whole);
+        low.sort_unstable();
+        low.dedup();
+        low
+    }
+}
+
+/// At most so many of them, at random.
+fn thin(limits: &mut Vec<u32>, count: usize, random: &mut Random) {
+    while limits.len() > count {
+        limits.swap_remove(random.lower(limits.len()));
     }
 }

@@ -4,7 +4,7 @@ use crate::cells::{lay, Cell, Cells, Sharing, Sort, KINDS};
 use crate::extremes::extremes;
 use crate::maker::{Maker, Taste, EVEN, LABELS};
 use crate::random::Random;
-use crate::samples::{desk_example, hidden_field, identity, samples};
+use crate::samples::{desk_example, hidden_field, identity, kept_books, samples};
 use evaluator::{Term, TermShape, Type};
 
 /// A family: its name, how many of the random books fall to it, and its books.
@@ -38,7 +38,7 @@ pub fn families() -> Vec<Family> {
     let whole = |name, make| Family { name, share: 0, make: Make::Whole(make) };
     let random = |name, share, make| Family { name, share, make: Make::Random(make) };
     vec![
-        whole("samples", || samples().into_iter().map(|sample| sample.book).collect()),
+        whole("samples", || samples().into_iter().map(|sample| sample.book).chain(kept_books().into_values()).collect()),
         whole("extremes", extremes),
         whole("every byte", every_byte),
         whole("cut short", cut_short),
@@ -267,18 +267,9 @@ fn changed(book: &mut Cells, random: &mut Random) {
     match random.lower(4) {
         // Another kind with the same fields.
         0 => {
-            new.kind = match cell.kind {
-                1 => 2,
-                2 => 1,
-                3 => 4,
-                4 => 3,
-                19 => 23,
-                20 => 22,
-                22 => 20,
-                23 => 19,
-                24 => 25,
-                25 => 24,
-                kind => kind,
+            const ALIKE: [[u8; 2]; 5] = [[1, 2], [3, 4], [19, 23], [20, 22], [24, 25]];
+            if let Some([one, other]) = ALIKE.into_iter().find(|pair| pair.contains(&cell.kind)) {
+                new.kind = one + other - cell.kind;
             }
         }
         1 if cell.labelled() => new.label = *random.pick(&LABELS),

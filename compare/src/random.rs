@@ -8,13 +8,13 @@ impl Random {
     pub fn of(seed: u64, family: &str, place: u64) -> Random {
         let mut random = Random(seed);
         for byte in family.bytes() {
-            random.0 = random.next() ^ u64::from(byte);
+            random.0 = random.draw() ^ u64::from(byte);
         }
-        random.0 = random.next() ^ place;
+        random.0 = random.draw() ^ place;
         random
     }
 
-    pub fn next(&mut self) -> u64 {
+    pub fn draw(&mut self) -> u64 {
         self.0 = self.0.wrapping_add(0x9E37_79B9_7F4A_7C15);
         let mut z = self.0;
         z = (z ^ (z >> 30)).wrapping_mul(0xBF58_476D_1CE4_E5B9);
@@ -24,7 +24,7 @@ impl Random {
 
     /// A number lower than n, which is not 0.
     pub fn lower(&mut self, n: usize) -> usize {
-        (self.next() % n as u64) as usize
+        (self.draw() % n as u64) as usize
     }
 
     /// A number of this range, both ends included.

@@ -4,6 +4,9 @@ use crate::cells::{lay, Cell, Cells, Sharing};
 use crate::engines::Call;
 use crate::random::Random;
 use evaluator::{Answer, Term, Type};
+use std::collections::BTreeMap;
+use std::fs;
+use std::path::Path;
 
 pub struct Sample {
     pub name: &'static str,
@@ -57,15 +60,40 @@ pub fn desk_example() -> Vec<u8> {
     Cells { cells, root: 5 }.bytes()
 }
 
+/// The books of the repository's folder books/, by name.
+pub fn kept_books() -> BTreeMap<String, Vec<u8>> {
+    let folder = Path::new(env!("CARGO_MANIFEST_DIR")).join("../books");
+    let files = fs::read_dir(folder).expect("the folder books/").map(|entry| entry.expect("its files").path());
+    let books = files.filter(|path| path.extension().is_some_and(|end| end == "book"));
+    books.map(|path| (path.file_stem().expect("a name").to_string_lossy().into_owned(), fs::read(path).expect("a book"))).collect()
+}
+
 pub fn samples() -> Vec<Sample> {
+    let mut all = samples_by_answer();
+    all.extend(samples_by_value());
+    let value = Some(number(1));
+    all.push(Sample {
+        name: "the desk example",
+        book: desk_example(),
+        call: Call::Run { limit: 10_000 },
+        answer: Answer::Value { steps: 1 },
+        value,
+    });
+    all
+}
+
+fn opened(term: &Term) -> Vec<u8> {
+    lay(term, Sharing::Never, &mut Random::of(0, "", 0)).bytes()
+}
+
+/// Samples of which document 01 states the answer alone.
+fn samples_by_answer() -> Vec<Sample> {
     let run = |limit| Call::Run { limit };
     let refused = |number, cell| Answer::Refused { number, cell };
-    let opened = |term: &Term| lay(term, Sharing::Never, &mut Random::of(0, "", 0)).bytes();
     let mut list = Vec::new();
     let mut add = |name, book: Vec<u8>, call, answer| list.push(Sample { name, book, call, answer, value: None });
 
-    let ones = Term::merge(number(1), number(1));
-    add("1 merged with 1, checked", opened(&ones), Call::Check, Answer::Accepted { size: 3 });
+    add("1 merged with 1, checked", opened(&Term::merge(number(1), number(1))), Call::Check, Answer::Accepted { size: 3 });
     add("1 merged with 2", opened(&Term::merge(number(1), number(2))), Call::Check, refused(14, 2));
     let variables = Term::merge(Term::variable(0), Term::variable(0));
     add("a variable merged with itself", opened(&Term::function(variables, int(), int())), Call::Check, refused(14, 2));
@@ -78,26 +106,25 @@ pub fn samples() -> Vec<Sample> {
     add("the top value merged 12 times", doubled(top, 12), Call::Check, refused(10, 12));
     let nested = (0..4_094).fold(number(5), |content, label| Term::record(label as u8, content));
     add("4,094 records round a number", opened(&nested), Call::Check, Answer::Accepted { size: 4_095 });
+    list
+}
 
-    let mut value = |name, term: Term, value: Term, steps| {
-        let answer = Answer::Value { steps };
-        list.push(Sample { name, book: opened(&term), call: run(10_000), answer, value: Some(value) });
+/// Samples of which document 01 states the value and the steps.
+fn samples_by_value() -> Vec<Sample> {
+    let mut list = Vec::new();
+    let mut add = |name, term: Term, value: Term, steps| {
+        let (call, answer) = (Call::Run { limit: 10_000 }, Answer::Value { steps });
+        list.push(Sample { name, book: opened(&term), call, answer, value: Some(value) });
     };
-    value("1 merged with 1", ones.clone(), ones, 0);
+    let ones = Term::merge(number(1), number(1));
+    add("1 merged with 1", ones.clone(), ones, 0);
     let twice = Term::annotation(Term::annotation(number(1), Type::intersection(int(), int())), int());
-    value("1 under Int and Int, then under Int", twice, number(1), 2);
+    add("1 under Int and Int, then under Int", twice, number(1), 2);
     let argument = Term::merge(number(1), Term::record(7, number(5)));
-    value("the identity on a merge", Term::application(identity(), argument), number(1), 2);
+    add("the identity on a merge", Term::application(identity(), argument), number(1), 2);
     let to_top = Type::function(int(), Type::top());
-    value("the identity annotated Int to Top", Term::annotation(identity(), to_top), Term::top(), 1);
-    value("the top value applied to 3", Term::application(Term::top(), number(3)), Term::top(), 1);
-    value("the hidden field", hidden_field(), number(2), 4);
-    list.push(Sample {
-        name: "the desk example",
-        book: desk_example(),
-        call: run(10_000),
-        answer: Answer::Value { steps: 1 },
-        value: Some(number(1)),
-    });
+    add("the identity annotated Int to Top", Term::annotation(identity(), to_top), Term::top(), 1);
+    add("the top value applied to 3", Term::application(Term::top(), number(3)), Term::top(), 1);
+    add("the hidden field", hidden_field(), number(2), 4);
     list
 }

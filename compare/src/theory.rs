@@ -1,76 +1,93 @@
-//! What the calculus promises of an accepted book, tested on the evaluator: each term reached is a value without a successor or has
-//! exactly one, is typed below the first type and is accepted when laid down; and any two limits agree.
+//! What the calculus promises of an accepted book: each term reached is a value without a successor or has exactly one, is typed below
+//! the first type and is accepted when laid down; and any two limits agree. Successors and types are the evaluator's, with both halves
+//! of every merge open; the calls are those of the side that is compared.
 
-use crate::engines::{Call, Engine, Evaluator};
+use crate::engines::{Call, Engine};
 use crate::random::Random;
-use evaluator::{below, find, lay_term, read, successors, Answer, WORK};
+use evaluator::{below, find, lay_term, lay_type, read, successors, Answer, Term, Type, SIZE_LIMIT, WORK};
 
 /// Terms above this size are not followed, nor more steps than this.
 const SMALL: u64 = 200;
 const STEPS: u32 = 25;
 
-fn call(call: Call, book: &[u8]) -> Result<(Answer, Vec<u8>), String> {
+fn call(side: &dyn Engine, call: Call, book: &[u8]) -> Result<(Answer, Vec<u8>), String> {
     let mut work = vec![0; WORK];
-    let answer = Evaluator(None).call(call, book, &mut work)?;
+    let answer = side.call(call, book, &mut work)?;
     Ok((answer, work))
 }
 
 /// The book that is laid down at the start of the work buffer.
 fn laid(work: &[u8]) -> &[u8] {
     let cells = work.chunks(8).take_while(|cell| cell[0] != 0xF0).count();
-    &work[..cells * 8 + 8]
+    &work[..work.len().min(cells * 8 + 8)]
+}
+
+/// The call says this and lays this down.
+fn says(side: &dyn Engine, asked: Call, book: &[u8], answer: Answer, left: &[u8]) -> Result<(), String> {
+    let (said, work) = call(side, asked, book)?;
+    if said == answer && laid(&work) == left {
+        Ok(())
+    } else {
+        Err(format!("{asked:?} of a term reached says {said:?}, not {answer:?}, or leaves something else"))
+    }
 }
 
 /// Nothing to say of a book that is refused or not small.
-pub fn holds(book: &[u8]) -> Result<(), String> {
+pub fn holds(side: &dyn Engine, book: &[u8]) -> Result<(), String> {
     let Ok(root) = read(book) else { return Ok(()) };
+    if root.size() > SMALL {
+        return Ok(());
+    }
     let Ok(first) = find(&mut Vec::new(), &root) else { return Ok(()) };
     if first.size() > root.size() {
         return Err(format!("the type's size {} passes the book's {}", first.size(), root.size()));
     }
-    let mut term = root;
-    let mut steps = 0;
-    while term.size() <= SMALL && steps <= STEPS {
-        let next = successors(&term);
-        let expected = if term.is_value() { 0 } else { 1 };
-        if next.len() != expected {
-            return Err(format!("after {steps} steps {} successors of {term}", next.len()));
-        }
-        let found = find(&mut Vec::new(), &term).map_err(|refusal| format!("after {steps} steps {refusal:?} of {term}"))?;
-        if !below(&found, &first) {
-            return Err(format!("after {steps} steps {term} has the type {found}, not below {first}"));
-        }
-        let alone = lay_term(&term);
-        let accepted = Answer::Accepted { size: found.size() as usize };
-        if call(Call::Check, &alone)?.0 != accepted {
-            return Err(format!("after {steps} steps {term} is not accepted when laid down"));
-        }
-        let (answer, work) = call(Call::Run { limit: steps }, book)?;
-        let expected = if term.is_value() { Answer::Value { steps } } else { Answer::Spent { steps } };
-        if answer != expected || laid(&work) != alone {
-            return Err(format!("a run of {steps} steps says {answer:?} and does not leave {term}"));
-        }
-        match next.into_iter().next() {
-            None => break,
-            Some(next) => term = next,
-        }
-        steps += 1;
+    let (mut term, mut steps) = (root, 0);
+    while term.size() <= SMALL && steps < STEPS {
+        let next = follow(side, &term, &first).map_err(|words| format!("after {steps} steps, of {term}: {words}"))?;
+        let Some(next) = next else { break };
+        (term, steps) = (next, steps + 1);
     }
+    let reached = if term.is_value() { Answer::Value { steps } } else { Answer::Spent { steps } };
+    says(side, Call::Run { limit: steps }, book, reached, &lay_term(&term))?;
     let mut random = Random::of(u64::from(steps), "limits", book.len() as u64);
     let one = random.lower(steps as usize + 3) as u32;
-    two_limits(book, one, one + random.lower(steps as usize + 3) as u32)
+    two_limits(side, book, one, one + random.lower(steps as usize + 3) as u32)
+}
+
+/// What holds of one term reached; its successor, if there is one with room.
+fn follow(side: &dyn Engine, term: &Term, first: &Type) -> Result<Option<Term>, String> {
+    let mut next = successors(term);
+    if next.len() != if term.is_value() { 0 } else { 1 } {
+        return Err(format!("{} successors", next.len()));
+    }
+    let found = find(&mut Vec::new(), term).map_err(|refusal| format!("{refusal:?}"))?;
+    if !below(&found, first) {
+        return Err(format!("the type {found} is not below {first}"));
+    }
+    let alone = lay_term(term);
+    says(side, Call::Check, &alone, Answer::Accepted { size: found.size() as usize }, &lay_type(&found))?;
+    let one_step = Call::Run { limit: 1 };
+    let Some(next) = next.pop() else {
+        return says(side, one_step, &alone, Answer::Value { steps: 0 }, &alone).map(|()| None);
+    };
+    if next.size() > SIZE_LIMIT {
+        return says(side, one_step, &alone, Answer::Room { steps: 0 }, &alone).map(|()| None);
+    }
+    let after = if next.is_value() { Answer::Value { steps: 1 } } else { Answer::Spent { steps: 1 } };
+    says(side, one_step, &alone, after, &lay_term(&next)).map(|()| Some(next))
 }
 
 /// The run with the lower limit either ended, and the other says the same; or it was spent, and its term, run for the steps
 /// between, comes to what the other leaves.
-fn two_limits(book: &[u8], lower: u32, higher: u32) -> Result<(), String> {
-    let (one, one_work) = call(Call::Run { limit: lower }, book)?;
-    let (other, other_work) = call(Call::Run { limit: higher }, book)?;
+fn two_limits(side: &dyn Engine, book: &[u8], lower: u32, higher: u32) -> Result<(), String> {
+    let (one, one_work) = call(side, Call::Run { limit: lower }, book)?;
+    let (other, other_work) = call(side, Call::Run { limit: higher }, book)?;
     let Answer::Spent { .. } = one else {
         let same = one == other && one_work == other_work;
         return if same { Ok(()) } else { Err(format!("limit {lower}: {one:?}, limit {higher}: {other:?}")) };
     };
-    let (rest, rest_work) = call(Call::Run { limit: higher - lower }, laid(&one_work))?;
+    let (rest, rest_work) = call(side, Call::Run { limit: higher - lower }, laid(&one_work))?;
     let whole = match rest {
         Answer::Value { steps } => Answer::Value { steps: steps + lower },
         Answer::Spent { steps } => Answer::Spent { steps: steps + lower },

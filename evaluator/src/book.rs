@@ -134,7 +134,7 @@ fn open_cell(cell: &[u8], n: usize, trees: &[Tree]) -> Tree {
 /// cell completely."
 pub fn read(book: &[u8]) -> Result<Term, Refusal> {
     let length = book.len();
-    if length < 16 || length > 32_768 || length % CELL != 0 {
+    if !(16..=32_768).contains(&length) || !length.is_multiple_of(CELL) {
         return refuse(2, 0);
     }
     // "Trailer: byte 0 is F0 (hex); byte 1 the version, 1; bytes 2-3 the cell count; bytes 4-5 the root cell; bytes 6-7 zero."
@@ -243,9 +243,12 @@ impl Layer {
     }
 }
 
-/// "A term or type is laid down as a version 1 book of its own, trailer included." Only for sizes within the limit.
+/// Beyond it a reference does not fit its two bytes. Books between the two limits are laid down to be refused.
+const NUMBERED: u64 = 1 << 16;
+
+/// "A term or type is laid down as a version 1 book of its own, trailer included." Only for sizes that two bytes can number.
 pub fn lay_term(e: &Term) -> Vec<u8> {
-    assert!(e.size() <= SIZE_LIMIT);
+    assert!(e.size() < NUMBERED);
     let mut layer = Layer::default();
     let root = layer.lay_term(e);
     layer.finish(root)
@@ -253,7 +256,7 @@ pub fn lay_term(e: &Term) -> Vec<u8> {
 
 /// The same for a type.
 pub fn lay_type(t: &Type) -> Vec<u8> {
-    assert!(t.size() <= SIZE_LIMIT);
+    assert!(t.size() < NUMBERED);
     let mut layer = Layer::default();
     let root = layer.lay_type(t);
     layer.finish(root)

@@ -22,7 +22,6 @@ pub enum Fault {
     TopLikeFunctionKept,
 }
 
-#[cfg(feature = "faults")]
 impl Fault {
     pub const ALL: [Fault; 8] = [
         Fault::CovariantInputs,
@@ -70,16 +69,14 @@ mod planted {
         None
     }
 
+    /// Does `work`; no fault can be planted.
     pub fn with_fault<R>(_: Option<Fault>, work: impl FnOnce() -> R) -> R {
         work()
     }
 }
 
 pub(crate) use planted::get as current;
-#[cfg(feature = "faults")]
 pub use planted::with_fault;
-#[cfg(not(feature = "faults"))]
-pub(crate) use planted::with_fault;
 
 pub(crate) fn planted(fault: Fault) -> bool {
     current() == Some(fault)

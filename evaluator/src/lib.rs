@@ -14,10 +14,8 @@ mod typing;
 
 pub use answers::{check, desk, run, Answer, DESK_LIMIT, WORK};
 pub use book::{lay_term, lay_type, read, Refusal, CELL, SIZE_LIMIT};
+pub use faults::{with_fault, Fault};
 pub use running::{put, readings, successors};
 pub use stack::on_large_stack;
 pub use terms::{Term, TermShape, Type, TypeShape};
 pub use typing::{below, check_against, consistent, disjoint, find, top_like};
-
-#[cfg(feature = "faults")]
-pub use faults::{with_fault, Fault};

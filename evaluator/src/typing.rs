@@ -87,14 +87,13 @@ pub fn consistent(v: &Term, w: &Term) -> bool {
 /// "Finding a type". The binders' types are listed outermost first. "Typing walks left before right and parts before wholes";
 /// "11 to 14 name the variable, application, field read or merge itself".
 pub fn find(binders: &mut Vec<Type>, e: &Term) -> Result<Type, Refusal> {
-    let refuse = |number| Err(Refusal { number, cell: e.cell() });
     match e.shape() {
         // "top value Top; number Int; variable its binder's type"
         TermShape::Top => Ok(Type::top()),
         TermShape::Number(_) => Ok(Type::int()),
         TermShape::Variable(skipped) => match binders.iter().rev().nth(usize::from(*skipped)) {
             Some(t) => Ok(t.clone()),
-            None => refuse(11),
+            None => refuse(11, e),
         },
         // "annotation its type, after checking"
         TermShape::Annotation(inside, by) => {
@@ -113,38 +112,48 @@ pub fn find(binders: &mut Vec<Type>, e: &Term) -> Result<Type, Refusal> {
         }
         // "record a record type"
         TermShape::Record(label, content) => Ok(Type::record(*label, find(binders, content)?)),
-        // "Application: the left's type must be a function type, or Top, read as Top to Top; the right is checked against the
-        // input." "12 is tested before the right side is walked."
-        TermShape::Application(left, right) => {
-            let found = find(binders, left)?;
-            let (input, output) = match found.shape() {
-                TypeShape::Function(i, o) => (i.clone(), o.clone()),
-                TypeShape::Top => (Type::top(), Type::top()),
-                _ => return refuse(12),
-            };
-            check_against(binders, right, &input)?;
-            Ok(output)
-        }
-        // "Field read: the term's type must be a record type of exactly that label, or Top, which gives Top."
-        TermShape::Read(label, of) => {
-            let found = find(binders, of)?;
-            match found.shape() {
-                TypeShape::Record(l, content) if l == label => Ok(content.clone()),
-                TypeShape::Top => Ok(found),
-                _ => refuse(13),
-            }
-        }
-        // "Merge: the intersection, if the two types are disjoint, or both halves are closed values and consistent."
-        TermShape::Merge(left, right) => {
-            let a = find(binders, left)?;
-            let b = find(binders, right)?;
-            let closed_value = |half: &Term| half.is_value() && half.is_closed();
-            if disjoint(&a, &b) || closed_value(left) && closed_value(right) && consistent(left, right) {
-                Ok(Type::intersection(a, b))
-            } else {
-                refuse(14)
-            }
-        }
+        TermShape::Application(left, right) => find_application(binders, e, left, right),
+        TermShape::Read(label, of) => find_read(binders, e, *label, of),
+        TermShape::Merge(left, right) => find_merge(binders, e, left, right),
+    }
+}
+
+fn refuse(number: u8, e: &Term) -> Result<Type, Refusal> {
+    Err(Refusal { number, cell: e.cell() })
+}
+
+/// "Application: the left's type must be a function type, or Top, read as Top to Top; the right is checked against the input." "12 is
+/// tested before the right side is walked."
+fn find_application(binders: &mut Vec<Type>, e: &Term, left: &Term, right: &Term) -> Result<Type, Refusal> {
+    let found = find(binders, left)?;
+    let (input, output) = match found.shape() {
+        TypeShape::Function(i, o) => (i.clone(), o.clone()),
+        TypeShape::Top => (Type::top(), Type::top()),
+        _ => return refuse(12, e),
+    };
+    check_against(binders, right, &input)?;
+    Ok(output)
+}
+
+/// "Field read: the term's type must be a record type of exactly that label, or Top, which gives Top."
+fn find_read(binders: &mut Vec<Type>, e: &Term, label: u8, of: &Term) -> Result<Type, Refusal> {
+    let found = find(binders, of)?;
+    match found.shape() {
+        TypeShape::Record(l, content) if *l == label => Ok(content.clone()),
+        TypeShape::Top => Ok(found),
+        _ => refuse(13, e),
+    }
+}
+
+/// "Merge: the intersection, if the two types are disjoint, or both halves are closed values and consistent."
+fn find_merge(binders: &mut Vec<Type>, e: &Term, left: &Term, right: &Term) -> Result<Type, Refusal> {
+    let a = find(binders, left)?;
+    let b = find(binders, right)?;
+    let closed_value = |half: &Term| half.is_value() && half.is_closed();
+    if disjoint(&a, &b) || closed_value(left) && closed_value(right) && consistent(left, right) {
+        Ok(Type::intersection(a, b))
+    } else {
+        refuse(14, e)
     }
 }
 

@@ -1,0 +1,144 @@
+//! The books that are timed.
+
+use compare::cells::{lay, Cell, Cells, Sharing};
+use compare::comparing::Course;
+use compare::extremes::{left, times};
+use compare::families::families;
+use compare::random::Random;
+use compare::samples::{doubled, own_fixpoint};
+use evaluator::{read, Answer, Term, Type};
+
+pub type Named = (String, Vec<u8>);
+
+pub fn int() -> Type {
+    Type::int()
+}
+
+fn top() -> Type {
+    Type::top()
+}
+
+/// The term as a book, equal cells shared.
+pub fn shared(term: &Term) -> Vec<u8> {
+    lay(term, Sharing::Always, &mut Random::of(0, "", 0)).bytes()
+}
+
+fn named(name: &str, term: Term) -> Named {
+    (name.to_string(), shared(&term))
+}
+
+/// Merged, nested to the left.
+pub fn merged(parts: impl IntoIterator<Item = Term>) -> Term {
+    parts.into_iter().reduce(Term::merge).expect("a part")
+}
+
+fn copies(part: Term, count: usize) -> Term {
+    merged(vec![part; count])
+}
+
+fn balanced(parts: &[Term]) -> Term {
+    let (left, right) = match parts {
+        [one] => return one.clone(),
+        _ => parts.split_at(parts.len() / 2),
+    };
+    Term::merge(balanced(left), balanced(right))
+}
+
+/// Typed books of at most 200 cells that come to a value within 50 steps.
+pub fn small_typed(count: usize) -> Vec<Vec<u8>> {
+    let names = ["merges", "hidden fields", "duplicates", "several outputs", "nested records"];
+    let mut books = Vec::new();
+    for family in families().into_iter().filter(|family| names.contains(&family.name)) {
+        let small = |book: &Vec<u8>| {
+            read(book).is_ok_and(|root| root.size() <= 200)
+                && Course::of(book).is_some_and(|course| matches!(course.answer, Answer::Value { steps: 1..=50 }))
+        };
+        books.extend(family.books(1, 10 * count).filter(small).take(count / names.len()));
+    }
+    books
+}
+
+/// Books of 4,095 opened cells, or as near as their form comes.
+pub fn full() -> Vec<Named> {
+    vec![
+        named("4,094 nested records", times(4_094, Term::number(1), |e| Term::record(7, e))),
+        named("4,094 nested field reads", times(4_094, Term::top(), |e| Term::read(7, e))),
+        named("2,047 nested annotations", times(2_047, Term::number(1), |e| Term::annotation(e, int()))),
+        named("2,047 nested applications", times(2_047, Term::top(), |e| Term::application(e, Term::top()))),
+        named("2,047 nested merges, to the right", times(2_047, Term::top(), |e| Term::merge(Term::top(), e))),
+        named("1,364 nested functions", times(1_364, Term::variable(0), |e| Term::function(e, top(), top()))),
+        ("the top value merged with itself 11 times".to_string(), doubled(Cell::new(18, 0, [0; 3]), 11)),
+    ]
+}
+
+/// Books that are costly to check.
+pub fn costly() -> Vec<Named> {
+    let variable = || Term::variable(0);
+    let field = |n: usize| Term::record(n as u8, Term::number(1));
+    let between = (0..1_000).flat_map(|n| [Some(variable()), (n < 256).then(|| field(n))]).flatten();
+    let numbered = Term::merge(copies(variable(), 680), Term::number(1));
+    let call = Term::application(Term::variable(1), variable());
+    let calls = Term::function(copies(call, 510), left(&int(), 510), top());
+    let alike = copies(Term::record(7, Term::number(1)), 600);
+    vec![
+        named(
+            "a top-like variable of 500 parts, merged 1,000 times",
+            Term::function(copies(variable(), 1_000), left(&top(), 500), top()),
+        ),
+        named("the same with labelled numbers between", Term::function(merged(between), left(&top(), 500), top())),
+        named(
+            "680 times Top, merged 680 times, a number last, under 680 times Int",
+            Term::function(Term::annotation(numbered, left(&int(), 680)), left(&top(), 680), top()),
+        ),
+        named(
+            "a variable applied to another 510 times, 510 parts each",
+            Term::function(calls, Type::function(left(&int(), 510), top()), top()),
+        ),
+        named("2,048 equal numbers, left-nested", copies(Term::number(1), 2_048)),
+        named("2,048 equal numbers, balanced", balanced(&vec![Term::number(1); 2_048])),
+        named("600 records of one label against 600", Term::merge(alike.clone(), alike)),
+        ("two equal doubling chains of 39 cells".to_string(), two_chains()),
+    ]
+}
+
+fn two_chains() -> Vec<u8> {
+    let one = Cells::of(&doubled(Cell::new(18, 0, [0; 3]), 38)).expect("a book").cells;
+    let n = one.len() as u16;
+    let other = one.iter().map(|cell| cell.redirected(|to| to + n));
+    let merge = Cell::new(22, 0, [n - 1, 2 * n - 1, 0]);
+    Cells { cells: one.iter().copied().chain(other).chain([merge]).collect(), root: 2 * n }.bytes()
+}
+
+/// A function that calls itself without end, within so many records: two cells more each third step.
+pub fn endless(around: usize) -> Vec<u8> {
+    let call = Term::application(Term::variable(1), Term::variable(0));
+    let again = Term::fixpoint(Term::function(call, int(), int()), Type::function(int(), int()));
+    shared(&times(around, Term::application(again, Term::number(1)), |e| Term::record(1, e)))
+}
+
+/// The fixpoint at Int whose body is its own variable: two cells more each step.
+pub fn growing() -> Vec<u8> {
+    shared(&own_fixpoint())
+}
+
+/// A merge of records, read under an intersection of as many record types, in the reverse order.
+pub fn records_read(count: usize) -> Vec<u8> {
+    let label = |n: usize| (n % 256) as u8;
+    let value = merged((0..count).map(|n| Term::record(label(n), Term::number(n as i32 % 256))));
+    let types = (0..count).rev().map(|n| Type::record(label(n), int()));
+    shared(&Term::annotation(value, types.reduce(Type::intersection).expect("a part")))
+}
+
+/// A record behind so many others, read under as many copies of its type.
+pub fn last_read(count: usize) -> Vec<u8> {
+    let others = (0..count - 1).map(|n| Term::record((n % 255) as u8, Term::number(1)));
+    let value = merged(others.chain([Term::record(255, Term::number(1))]));
+    shared(&Term::annotation(value, left(&Type::record(255, int()), count)))
+}
+
+/// A function with a body of so many cells, read under as many function types.
+pub fn function_read(body: usize, count: usize) -> Vec<u8> {
+    let body = times(body - 3, Term::top(), |e| Term::read(3, e));
+    let function = Term::function(Term::merge(Term::number(6), body), int(), int());
+    shared(&Term::annotation(function, left(&Type::function(int(), int()), count)))
+}

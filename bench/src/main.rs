@@ -1,0 +1,206 @@
+//! Times the engine against the evaluator, in one run: the tables of docs/PERFORMANCE.md.
+
+mod books;
+mod stack;
+mod timing;
+
+use books::Named;
+use compare::engines::Call;
+use compare::extremes::times;
+use compare::samples::kept_books;
+use evaluator::{lay_term, on_large_stack, read, successors, Answer, Term};
+use timing::{engine, evaluator, from_the_root, race, Side, Timed};
+
+const DESK: Call = Call::Run { limit: 10_000 };
+const TWO: [Side; 2] = [engine, evaluator];
+const THREE: [Side; 3] = [engine, evaluator, from_the_root];
+
+fn cells(book: &[u8]) -> usize {
+    book.len() / 8 - 1
+}
+
+fn head(title: &str, columns: &str) {
+    let columns: Vec<&str> = columns.split(", ").collect();
+    println!("\n### {title}\n\n| {} |\n|{}", columns.join(" | "), "---|".repeat(columns.len()));
+}
+
+fn said(answer: Answer) -> String {
+    match answer {
+        Answer::Refused { number, cell } => format!("refused {number} {cell}"),
+        Answer::Accepted { size } => format!("accepted {size}"),
+        Answer::Value { steps } => format!("value {steps}"),
+        Answer::Spent { steps } => format!("spent {steps}"),
+        Answer::Room { steps } => format!("room {steps}"),
+    }
+}
+
+fn ms(seconds: f64) -> String {
+    format!("{:.3}", seconds * 1e3)
+}
+
+/// The engine's time over another side's.
+fn ratio(seconds: &[f64], side: usize) -> String {
+    match seconds[0] / seconds[side] {
+        ratio if ratio < 0.01 => "below 0.01".to_string(),
+        ratio if ratio < 10.0 => format!("{ratio:.2}"),
+        ratio => format!("{ratio:.0}"),
+    }
+}
+
+const CHECKS: &str = "book, answer, engine ms, evaluator ms, engine / evaluator";
+const RUNS: &str = "book, answer, engine ms, evaluator ms, from the root ms, engine / evaluator, engine / from the root";
+
+/// A row: the answer, each side's time, the engine's over each other's.
+fn row(name: &str, answer: &str, seconds: &[f64]) {
+    let times: Vec<String> = seconds.iter().map(|&seconds| ms(seconds)).collect();
+    let ratios: Vec<String> = (1..seconds.len()).map(|side| ratio(seconds, side)).collect();
+    println!("| {name} | {answer} | {} | {} |", times.join(" | "), ratios.join(" | "));
+}
+
+fn table(title: &str, sides: &[Side], call: Call, books: &[Named]) {
+    head(title, if sides.len() == 2 { CHECKS } else { RUNS });
+    for (name, book) in books {
+        let Timed { answer, seconds } = race(sides, call, std::slice::from_ref(book));
+        row(name, &said(answer), &seconds);
+    }
+}
+
+fn small_books() {
+    let books = books::small_typed(500);
+    let size = books.iter().map(|book| cells(book)).sum::<usize>() / books.len();
+    head(&format!("{} small typed books together, {size} cells each on average", books.len()), RUNS);
+    let check = race(&TWO, Call::Check, &books).seconds;
+    println!("| check | accepted | {} | {} | - | {} | - |", ms(check[0]), ms(check[1]), ratio(&check, 1));
+    row("run, limit 10,000", "value", &race(&THREE, DESK, &books).seconds);
+}
+
+fn long_runs() {
+    head("Long runs", RUNS);
+    for limit in [255, 511, 1_023, 2_046, 10_000] {
+        let Timed { answer, seconds } = race(&THREE, Call::Run { limit }, &[books::growing()]);
+        row(&format!("the growing fixpoint, limit {limit}"), &said(answer), &seconds);
+    }
+    for (name, around) in [("a function that calls itself, limit 10000", 0), ("the same within 2,000 records", 2_000)] {
+        let Timed { answer, seconds } = race(&THREE, DESK, &[books::endless(around)]);
+        row(name, &said(answer), &seconds);
+    }
+}
+
+fn sample_books() {
+    head(
+        "The sample books: check, and run with limit 10,000",
+        "book, answer, check ms, check: engine / evaluator, run ms, steps a second, run: engine / evaluator, run: engine / from the root",
+    );
+    for (name, book) in kept_books() {
+        let books = [book];
+        let check = race(&TWO, Call::Check, &books).seconds;
+        let Timed { answer, seconds } = race(&THREE, DESK, &books);
+        let rate = match answer {
+            Answer::Value { steps } | Answer::Spent { steps } | Answer::Room { steps } if steps > 0 => {
+                format!("{:.0}", f64::from(steps) / seconds[0])
+            }
+            _ => "-".to_string(),
+        };
+        let (first, second) = (ratio(&seconds, 1), ratio(&seconds, 2));
+        let (check, over) = (ms(check[0]), ratio(&check, 1));
+        println!("| {name} | {} | {check} | {over} | {} | {rate} | {first} | {second} |", said(answer), ms(seconds[0]));
+    }
+}
+
+/// The least seconds of each row over several passes through all rows, so that other work on the machine does not fall on one row.
+fn passes(rows: usize, time: impl Fn(usize) -> Vec<f64>) -> Vec<Vec<f64>> {
+    let pass = || (0..rows).map(&time).collect::<Vec<_>>();
+    let least = |one: Vec<f64>, other: Vec<f64>| one.into_iter().zip(other).map(|(a, b)| a.min(b)).collect();
+    let both = |one: Vec<Vec<f64>>, other: Vec<Vec<f64>>| one.into_iter().zip(other).map(|(a, b)| least(a, b)).collect();
+    (0..4).map(|_| pass()).reduce(both).expect("a pass")
+}
+
+fn growth_of_the_check() {
+    head("Growth: the check", "book, cells, engine ns a cell, evaluator ns a cell, engine / evaluator");
+    let mut rows = Vec::new();
+    for n in [512, 1_024, 2_048, 4_095] {
+        rows.push(("nested records", times(n - 1, Term::number(1), |e| Term::record(7, e))));
+        rows.push(("nested annotations", times((n - 1) / 2, Term::number(1), |e| Term::annotation(e, books::int()))));
+    }
+    rows.sort_by_key(|(name, _)| *name);
+    let books: Vec<Vec<u8>> = rows.iter().map(|(_, term)| lay_term(term)).collect();
+    let seconds = passes(rows.len(), |row| race(&TWO, Call::Check, &books[row..=row]).seconds);
+    for ((name, term), seconds) in rows.iter().zip(seconds) {
+        let [a, b] = [0, 1].map(|side| seconds[side] * 1e9 / term.size() as f64);
+        println!("| {name} | {} | {a:.1} | {b:.1} | {} |", term.size(), ratio(&seconds, 1));
+    }
+}
+
+/// The seconds of so many steps alone, of each book: those of the run without those of the run with limit 0, which checks and lays down.
+fn steps_alone(sides: &[Side], books: &[Vec<u8>], limit: u32) -> Vec<Vec<f64>> {
+    let both = |row: usize| [0, limit].map(|limit| race(sides, Call::Run { limit }, &books[row..=row]).seconds).concat();
+    let alone = |seconds: Vec<f64>| {
+        let (none, some) = seconds.split_at(sides.len());
+        some.iter().zip(none).map(|(some, none)| some - none).collect()
+    };
+    passes(books.len(), both).into_iter().map(alone).collect()
+}
+
+/// The cells of a term on the way, on average over so many steps.
+fn average_cells(book: &[u8], steps: u32) -> f64 {
+    on_large_stack(|| {
+        let mut term = read(book).expect("a term");
+        let mut sum = 0;
+        for _ in 0..steps {
+            sum += term.size();
+            term = successors(&term).pop().expect("a successor");
+        }
+        sum as f64 / f64::from(steps)
+    })
+}
+
+fn growth_of_a_step() {
+    let columns =
+        "records, cells on average, engine ns a step, from the root ns a step, engine ns a step and cell, engine / from the root";
+    head("Growth: a step of a function that calls itself within records", columns);
+    const STEPS: u32 = 60;
+    let around = [0, 250, 500, 1_000, 2_000, 4_000];
+    let books = around.map(books::endless);
+    let seconds = steps_alone(&[engine, from_the_root], &books, STEPS);
+    for ((around, book), seconds) in around.into_iter().zip(&books).zip(seconds) {
+        let [a, b] = [0, 1].map(|side| seconds[side] * 1e9 / f64::from(STEPS));
+        let cells = average_cells(book, STEPS);
+        println!("| {around} | {cells:.0} | {a:.0} | {b:.0} | {:.1} | {} |", a / cells, ratio(&seconds, 1));
+    }
+}
+
+fn readings() {
+    let columns = "value and type, parts of each, engine ms, evaluator ms, engine / evaluator, engine ns a pair of parts";
+    head("The largest readings: the one step alone", columns);
+    let mut rows: Vec<(&str, usize)> = Vec::new();
+    let mut books: Vec<Vec<u8>> = Vec::new();
+    for parts in [85, 170, 341, 682] {
+        rows.push(("records, under their types in reverse order", parts));
+        books.push(books::records_read(parts));
+    }
+    for parts in [85, 170, 341, 682] {
+        rows.push(("a record behind others, under copies of its type", parts));
+        books.push(books::last_read(parts));
+    }
+    for parts in [15, 30, 60] {
+        rows.push(("a function with so many cells of body, under function types", parts));
+        books.push(books::function_read(parts, parts));
+    }
+    for ((name, parts), seconds) in rows.into_iter().zip(steps_alone(&TWO, &books, 1)) {
+        let pair = seconds[0] * 1e9 / (parts * parts) as f64;
+        println!("| {name} | {parts} | {} | {} | {} | {pair:.1} |", ms(seconds[0]), ms(seconds[1]), ratio(&seconds, 1));
+    }
+}
+
+fn main() {
+    small_books();
+    table("Books of 4,095 cells: check", &TWO, Call::Check, &books::full());
+    table("Books of 4,095 cells: run, limit 10,000", &THREE, DESK, &books::full());
+    long_runs();
+    table("Costly books: check", &TWO, Call::Check, &books::costly());
+    sample_books();
+    growth_of_the_check();
+    growth_of_a_step();
+    readings();
+    stack::stack();
+}

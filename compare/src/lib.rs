@@ -1,0 +1,13 @@
+//! Books of many families, and the engine and the evaluator compared on them.
+
+pub mod cells;
+pub mod comparing;
+pub mod engines;
+pub mod extremes;
+pub mod families;
+pub mod maker;
+pub mod random;
+pub mod reporting;
+pub mod samples;
+pub mod shrinking;
+pub mod theory;
