@@ -9,7 +9,8 @@ use Rattle.answers.specs.Answer.{Result}
 use Rattle.answers.specs.Definition.{check, judge, shown}
 use Rattle.answers.proofs.Demands.{demand2}
 use Rattle.outcome.specs.declared.Outcome.{Outcome}
-use Rattle.engine.specs.Check.{Checked, Gives}
+use Rattle.engine.specs.Check.{Checked}
+use Rattle.engine.specs.Inner.{Gives}
 
 module _ {b w v : List ℕ} {r : Outcome} (bytes : IsBytes b) where
   meaning : Gives v r (check b w) → Checked b w v r

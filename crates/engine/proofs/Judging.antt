@@ -22,7 +22,7 @@ use Rattle.outcome.specs.declared.Outcome.{Outcome}
 use Rattle.book.specs.Form.{FormCheck, FormsAs}
 use Rattle.book.specs.declared.Form.{Form}
 use Rattle.book.specs.declared.Form.the-variants as Form
-use Rattle.engine.specs.Check.{Begins, row-1, rows-2-to-10, TurnsBack, Formed, Gives, AfterTyping}
+use Rattle.engine.specs.Inner.{Begins, row-1, rows-2-to-10, TurnsBack, Formed, Gives, AfterTyping}
 
 pub cleared-work : {v : List ℕ} {n : ℕ} → v ≡ replicate n 0 → n ≡ workLength → v ≡ zeros workLength
 unfolding zeros

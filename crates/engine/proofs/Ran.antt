@@ -25,8 +25,8 @@ use Rattle.format.specs.Table.{refers, term-sort}
 use Rattle.format.specs.Tree.{cells}
 use Rattle.running.specs.Turns.{Lies, StepReady, Runs}
 use Rattle.running.specs.declared.End.{End}
-use Rattle.engine.specs.Check.{Gives}
-use Rattle.engine.specs.Run.{Ran, RootAt, SomeRoot, RunsRoot}
+use Rattle.engine.specs.Inner.{Gives, RootAt, SomeRoot, RunsRoot}
+use Rattle.engine.specs.Run.{Ran}
 
 -- ---- the root, laid down and run
 

@@ -36,8 +36,7 @@ use Rattle.typing.specs.declared.Found.the-variants.{Typed, Refused}
 use Rattle.outcome.specs.declared.Outcome.{Outcome}
 use Rattle.outcome.specs.declared.Outcome.the-variants as Out
 use Rattle.cells.proofs.Held.{same-term}
-use Rattle.engine.specs.Check.{TurnsBack, FindsRoot, finds, refuses, Formed, AfterTyping}
-use Rattle.engine.specs.Run.{RootAt, RunsRoot}
+use Rattle.engine.specs.Inner.{TurnsBack, FindsRoot, finds, refuses, Formed, AfterTyping, RootAt, RunsRoot}
 use Rattle.engine.proofs.Parts.{cell-part, tree-part}
 
 -- a way from i on through cell y

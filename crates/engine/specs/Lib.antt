@@ -1,3 +1,4 @@
 pub mod Check
 pub mod Run
 pub mod Demands
+pub mod Inner

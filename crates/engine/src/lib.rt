@@ -11,8 +11,9 @@ use running::run_on;
 use typing::Found;
 use typing::find;
 ghost use Rattle.answers.specs.Definition.{shown, reported};
-ghost use Rattle.engine.specs.Check.{Begins, TurnsBack, Checked, Findable, FindsRoot, Formed, AfterTyping};
-ghost use Rattle.engine.specs.Run.{Ran, SomeRoot, RunsRoot};
+ghost use Rattle.engine.specs.Check.{Checked};
+ghost use Rattle.engine.specs.Inner.{Begins, TurnsBack, Findable, FindsRoot, Formed, AfterTyping, SomeRoot, RunsRoot};
+ghost use Rattle.engine.specs.Run.{Ran};
 
 // Rows 1 to 10, for both calls and a work buffer of n bytes.
 fn begin(book: &[u8], n: usize) -> Form

@@ -1,6 +1,6 @@
 -- `engine::begin` meets its contract. Assumes nothing.
 use mathlib.Core.Path.{refl}
-use Rattle.engine.specs.Check.{row-1, rows-2-to-10}
+use Rattle.engine.specs.Inner.{row-1, rows-2-to-10}
 use borrow.Author.Needs.{needs}
 use Rattle.engine.proofs.begin.Statement.{statement}
 use Rattle.engine.proofs.begin.Tie as tie
