@@ -1,4 +1,4 @@
--- Two questions about one held term, whether it is a value and whether it is closed, by the kind of its cell. Assumes nothing.
+-- Two questions about one held term, whether it is closed and whether it is a closed value, by the kind of its cell. Assumes nothing.
 use Prim.Native.Nat.{ℕ, _+_, _≤_, _<_}
 use mathlib.Core.Path.{_≡_, refl, sym, ap, _∙_}
 use mathlib.Core.Logic.{_⊎_, inl, inr, ⊎-elim}
@@ -11,8 +11,8 @@ use Rattle.calculus.specs.Syntax.{Term}
 use Rattle.calculus.specs.Decide.{value?, closed?}
 use Rattle.format.specs.Cell.{Cell, cellAt}
 use Rattle.cells.specs.Held.{IsCell, HoldsTerm, h-var, h-lit, h-unit, h-anno, h-app, h-lam, h-merge, h-fix, h-rcd, h-proj}
-use Rattle.cells.proofs.Held.{TwoTerms, merge-at, app-at, rcd-at, lam-at, fix-at, var-at, lit-at, unit-at, term-kinds}
-use Rattle.types.specs.Says.{TermAt, TermSays}
+use Rattle.cells.proofs.Held.{TwoTerms, merge-at, app-at, rcd-at, lam-at, fix-at, var-at, lit-at, term-kinds}
+use Rattle.types.specs.Says.{TermAt, TermSays, closedValue?}
 use Rattle.types.proofs.Parts.{and-both, and-none}
 
 -- q of the term at i is p of a part that cell a holds
@@ -46,6 +46,14 @@ module _ {s : List ℕ} {q : Term → Bool} {i : ℕ} where
     pub one-none : ((e : Term) → HoldsTerm s i e → OneSplits s q i a b e) → TermSays s a q p → p ≡ false → TermSays s i q p
     one-none f u t = record { says = λ e h. let w = f e h in and-none _ (w .is) (u .says _ (w .first .holds)) t }
 
+-- two tests of both parts are both tests of each
+pairs : (a b c d : Bool) → ((a && b) && (c && d)) ≡ ((a && c) && (b && d))
+pairs false b c d = refl
+pairs true false false d = refl
+pairs true false true d = refl
+pairs true true false d = refl
+pairs true true true d = refl
+
 kind-is : {s : List ℕ} {i k l a b c : ℕ} {x : Cell} → x ≡ cellAt s i → IsCell s i k l a b c → x .kind ≡ k
 kind-is e p = ap (λ (t : Cell). t .kind) (e ∙ p .is)
 
@@ -59,40 +67,44 @@ module _ {s : List ℕ} {i : ℕ} {e : Term} {x : Cell} (at-i : x ≡ cellAt s i
     is = ap q (p .is) ∙ eq (p .first) (p .second);
   }
 
-  pub merge-value : x .kind ≡ 22 → OneSplits s value? i (x .a) (x .b) e
-  unfolding value?
-  merge-value k = splits value? (λ u v. refl) (merge-at h (rw at-i at k))
+  pub merge-value : x .kind ≡ 22 → OneSplits s closedValue? i (x .a) (x .b) e
+  unfolding value? closed?
+  merge-value k = splits closedValue? (λ u v. pairs (value? u) (value? v) (closed? 0 u) (closed? 0 v)) (merge-at h (rw at-i at k))
 
-  pub record-value : x .kind ≡ 24 → OnePasses s value? value? i (x .a) e
-  unfolding value?
+  pub record-value : x .kind ≡ 24 → OnePasses s closedValue? closedValue? i (x .a) e
+  unfolding value? closed?
   record-value k = rw at-i let p = rcd-at h (rw at-i at k) in record {
     part = record { term = p .term; holds = p .holds };
     less = p .lower;
-    is = ap value? (p .is);
+    is = ap closedValue? (p .is);
   }
 
-  pub number-value : x .kind ≡ 17 → true ≡ value? e
-  unfolding value?
-  number-value k = sym (ap value? (lit-at h (rw at-i at k)))
+  pub function-value : x .kind ≡ 21 → OnePasses s closedValue? (closed? 1) i (x .a) e
+  unfolding value? closed?
+  function-value k = rw at-i let p = lam-at h (rw at-i at k) in record {
+    part = record { term = p .body; holds = p .holds-body };
+    less = p .body-lower;
+    is = ap closedValue? (p .is);
+  }
 
-  pub unit-value : x .kind ≡ 18 → true ≡ value? e
-  unfolding value?
-  unit-value k = sym (ap value? (unit-at h (rw at-i at k)))
+  pub number-value : x .kind ≡ 17 → true ≡ closedValue? e
+  unfolding value? closed?
+  number-value k = sym (ap closedValue? (lit-at h (rw at-i at k)))
 
--- of the other kinds only a function is a value
+-- of the other kinds only the top value is a value
 pub other-value : {s : List ℕ} {i : ℕ} {e : Term} {x : Cell} → x ≡ cellAt s i → HoldsTerm s i e →
-    (x .kind ≡ 22 → ⊥) → (x .kind ≡ 24 → ⊥) → (x .kind ≡ 17 → ⊥) → (x .kind ≡ 18 → ⊥) → eqb (x .kind) 21 ≡ value? e
-unfolding value?
-other-value e (h-var p) m r n u = rw (kind-is e p) refl
-other-value e (h-lit p z) m r n u = absurd (n (kind-is e p))
-other-value e (h-unit p) m r n u = absurd (u (kind-is e p))
-other-value e (h-anno p a b h k) m r n u = rw (kind-is e p) refl
-other-value e (h-app p a b h k) m r n u = rw (kind-is e p) refl
-other-value e (h-lam p a b c h k l) m r n u = rw (kind-is e p) refl
-other-value e (h-merge p a b h k) m r n u = absurd (m (kind-is e p))
-other-value e (h-fix p a b h k) m r n u = rw (kind-is e p) refl
-other-value e (h-rcd p a h) m r n u = absurd (r (kind-is e p))
-other-value e (h-proj p a h) m r n u = rw (kind-is e p) refl
+    (x .kind ≡ 22 → ⊥) → (x .kind ≡ 24 → ⊥) → (x .kind ≡ 21 → ⊥) → (x .kind ≡ 17 → ⊥) → eqb (x .kind) 18 ≡ closedValue? e
+unfolding value? closed?
+other-value e (h-var p) m r f n = rw (kind-is e p) refl
+other-value e (h-lit p z) m r f n = absurd (n (kind-is e p))
+other-value e (h-unit p) m r f n = rw (kind-is e p) refl
+other-value e (h-anno p a b h k) m r f n = rw (kind-is e p) refl
+other-value e (h-app p a b h k) m r f n = rw (kind-is e p) refl
+other-value e (h-lam p a b c h k l) m r f n = absurd (f (kind-is e p))
+other-value e (h-merge p a b h k) m r f n = absurd (m (kind-is e p))
+other-value e (h-fix p a b h k) m r f n = rw (kind-is e p) refl
+other-value e (h-rcd p a h) m r f n = absurd (r (kind-is e p))
+other-value e (h-proj p a h) m r f n = rw (kind-is e p) refl
 
 -- Closed below k binders.
 module _ (k : ℕ) {s : List ℕ} {i : ℕ} {e : Term} {x : Cell} (at-i : x ≡ cellAt s i) (h : HoldsTerm s i e) where

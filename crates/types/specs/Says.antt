@@ -6,7 +6,7 @@ use mathlib.Core.Bool.{Bool, _&&_}
 use mathlib.Core.Logic.{_⊎_}
 use mathlib.Core.List.{List}
 use lib.ListN.{length}
-use Rattle.calculus.specs.Syntax.{Ty, Term, merge}
+use Rattle.calculus.specs.Syntax.{Ty, Term}
 use Rattle.calculus.specs.Decide.{value?, closed?}
 use Rattle.format.specs.Cell.{cellAt}
 use Rattle.cells.specs.Held.{HoldsType, HoldsTerm}
@@ -68,10 +68,6 @@ pub record PlainPair (s : List ℕ) (i j : ℕ) : Type 0 where
   pub first : PlainAt s i j
   pub plain : Plain (cellAt s j .kind)
 
--- the halves of a merge, in a buffer of 8,192 cells
-pub record HalvesBelow (s : List ℕ) (i j : ℕ) : Type 0 where
-  pub long : length s ≤ 65536
-  pub terms : TermsAt s i j
-
-abbrev pub closedValues? : Term → Term → Bool
-closedValues? e f = value? (merge e f) && closed? 0 (merge e f)
+-- "closed values"
+abbrev pub closedValue? : Term → Bool
+closedValue? e = value? e && closed? 0 e

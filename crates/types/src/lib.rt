@@ -1,11 +1,11 @@
-// Questions about the types and terms that cells hold: subtyping, disjointness, the same tree, value, closed, consistent. Answers only:
+// Questions about the types and terms that cells hold: subtyping, disjointness, the same tree, closed, closed value, consistent. Answers only:
 // nothing is written, and no function keeps an array. A type cell's field c says whether the type is top-like, so that each pair of
 // nodes is left at once where either side is.
 use cells::read_cell;
-ghost use Rattle.calculus.specs.Decide.{below?, disjoint?, sameType, sameTerm, value?, closed?, consistent?};
+ghost use Rattle.calculus.specs.Decide.{below?, disjoint?, sameType, sameTerm, closed?, consistent?};
 ghost use Rattle.calculus.specs.Infer.{mergeable?};
 ghost use Rattle.types.specs.Says.{TypesAt, TypesSay, TermAt, TermSays, TermsAt, TermsSay, HalvesAt, HalvesSay};
-ghost use Rattle.types.specs.Says.{closedValues?, PartsAt, PlainAt, PlainPair, HalvesBelow};
+ghost use Rattle.types.specs.Says.{closedValue?, PartsAt, PlainAt, PlainPair};
 ghost use Prim.Native.Nat.{_+_, _<_};
 
 // The right side is split first, then the left: each pair of nodes is met once.
@@ -89,20 +89,6 @@ pub fn same_type(s: &[u8], a: usize, b: usize) -> bool
         return x.label == y.label && same_type(s, x.a, y.a);
     }
     same_type(s, x.a, y.a) && same_type(s, x.b, y.b)
-}
-
-pub fn value(s: &[u8], i: usize) -> bool
-    requires { ⌜ TermAt (now s) i ⌝ }
-    ensures { λ r. ⌜ TermSays (now (s .entry)) i value? r ⌝ }
-{
-    let x = read_cell(s, i);
-    if x.kind == 22 {
-        return value(s, x.a) && value(s, x.b);
-    }
-    if x.kind == 24 {
-        return value(s, x.a);
-    }
-    x.kind == 17 || (x.kind == 18 || x.kind == 21)
 }
 
 // Whether no variable of the term at i skips k binders or more.
@@ -217,11 +203,22 @@ fn consistent_pair(s: &[u8], i: usize, j: usize) -> bool
     disjoint(s, x.c, y.c)
 }
 
-fn closed_values(s: &[u8], i: usize, j: usize) -> bool
-    requires { ⌜ HalvesBelow (now s) i j ⌝ }
-    ensures { λ r. ⌜ TermsSay (now (s .entry)) i j closedValues? r ⌝ }
+// Whether the term at i is a closed value, in one walk.
+fn closed_value(s: &[u8], i: usize) -> bool
+    requires { ⌜ TermAt (now s) i × (i < 131072) ⌝ }
+    ensures { λ r. ⌜ TermSays (now (s .entry)) i closedValue? r ⌝ }
 {
-    value(s, i) && (value(s, j) && (closed(s, i, 0) && closed(s, j, 0)))
+    let x = read_cell(s, i);
+    if x.kind == 22 {
+        return closed_value(s, x.a) && closed_value(s, x.b);
+    }
+    if x.kind == 24 {
+        return closed_value(s, x.a);
+    }
+    if x.kind == 21 {
+        return closed(s, x.a, 1);
+    }
+    x.kind == 17 || x.kind == 18
 }
 
 // Whether the halves i and j of a merge, of the types at a and b, may stand together.
@@ -229,5 +226,5 @@ pub fn mergeable(s: &[u8], i: usize, j: usize, a: usize, b: usize) -> bool
     requires { ⌜ HalvesAt (now s) i j a b ⌝ }
     ensures { λ r. ⌜ HalvesSay (now (s .entry)) i j a b mergeable? r ⌝ }
 {
-    disjoint(s, a, b) || (closed_values(s, i, j) && consistent(s, i, j))
+    disjoint(s, a, b) || (closed_value(s, i) && (closed_value(s, j) && consistent(s, i, j)))
 }
