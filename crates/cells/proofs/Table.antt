@@ -1,6 +1,6 @@
 -- The code's table of kinds is the format's: one test over the 256 kinds, which antt computes, and what it says of each kind.
 -- Assumes nothing.
-use Prim.Native.Nat.{ℕ, zero, suc, _<_}
+use Prim.Native.Nat.{ℕ, zero, suc, _+_, _*_, _/_, _%_, _<_}
 use native.Mathlib.Decide.{decLt}
 use native.Mathlib.Omega.{arith}
 use mathlib.Core.Path.{_≡_}
@@ -9,7 +9,6 @@ use mathlib.Core.Option.{Option}
 use lib.ListN.{getD}
 use Rattle.format.specs.Table.{Row, rowOf}
 use Rattle.cells.specs.declared.Entry.{Entry}
-use Rattle.cells.specs.declared.Line.{Line}
 use Rattle.cells.specs.Coded.{rowFrom, placeOf}
 
 -- f of the kinds below n
@@ -21,16 +20,20 @@ at : (f g : ℕ → Option Row) (n : ℕ) → run f n ≡ run g n → (k : ℕ) 
 at f g zero q k h = absurd (omega arith)
 at f g (suc n) q k h = elim (decLt k n) [ yes p ↦ at f g n (cc) k p | no p ↦ let e : k ≡ n = omega arith in rw e cc ]
 
-abbrev entryOf : Line → Entry
-entryOf l = record { sort = l .0; label = l .1; a = l .2; b = l .3; c = l .4 }
+-- a row as the code has it, a hexadecimal digit for each of sort, label, a, b and c
+abbrev pub digits : (s l a b c : ℕ) → ℕ
+digits s l a b c = (((s * 16 + l) * 16 + a) * 16 + b) * 16 + c
 
-abbrev coded : List Line → Line → ℕ → Option Row
+abbrev entryOf : ℕ → Entry
+entryOf x = record { sort = x / 65536 % 16; label = x / 4096 % 16; a = x / 256 % 16; b = x / 16 % 16; c = x % 16 }
+
+abbrev coded : List ℕ → ℕ → ℕ → Option Row
 coded xs d k = rowFrom k (entryOf (getD xs (placeOf k) d))
 
 -- the lines xs stand for the rows of all kinds
-abbrev pub Right : List Line → Line → Type 0
+abbrev pub Right : List ℕ → ℕ → Type 0
 Right xs d = run (coded xs d) 256 ≡ run rowOf 256
 
-pub right-at : (xs : List Line) (d : Line) → Right xs d → (k x : ℕ) → x ≡ placeOf k → k < 256
+pub right-at : (xs : List ℕ) (d : ℕ) → Right xs d → (k x : ℕ) → x ≡ placeOf k → k < 256
     → rowFrom k (entryOf (getD xs x d)) ≡ rowOf k
 right-at xs d q k x e h = rw e (at (coded xs d) rowOf 256 q k h)

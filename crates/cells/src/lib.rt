@@ -76,27 +76,24 @@ pub struct Entry {
     pub c: u8,
 }
 
-// A row as a line of the table: sort, label, a, b, c.
-struct Line(u8, u8, u8, u8, u8);
-
-// The unknown kinds, kinds 1 to 5, kinds 16 to 25.
-const TABLE: [Line; 16] = [
-    Line(0, 0, 0, 0, 0),
-    Line(2, 0, 0, 0, 0),
-    Line(2, 0, 0, 0, 0),
-    Line(2, 0, 2, 2, 0),
-    Line(2, 0, 2, 2, 0),
-    Line(2, 1, 2, 0, 0),
-    Line(3, 0, 1, 0, 0),
-    Line(3, 0, 0, 1, 1),
-    Line(3, 0, 0, 0, 0),
-    Line(3, 0, 3, 2, 0),
-    Line(3, 0, 3, 3, 0),
-    Line(3, 0, 3, 2, 2),
-    Line(3, 0, 3, 3, 0),
-    Line(3, 0, 3, 2, 0),
-    Line(3, 1, 3, 0, 0),
-    Line(3, 1, 3, 0, 0),
+// The unknown kinds, kinds 1 to 5, kinds 16 to 25: a row is sort, label, a, b, c, a digit each.
+const TABLE: [u32; 16] = [
+    0x00000,
+    0x20000,
+    0x20000,
+    0x20220,
+    0x20220,
+    0x21200,
+    0x30100,
+    0x30011,
+    0x30000,
+    0x30320,
+    0x30330,
+    0x30322,
+    0x30330,
+    0x30320,
+    0x31300,
+    0x31300,
 ];
 
 // The place of a kind in the table.
@@ -116,10 +113,10 @@ pub fn entry_of(kind: u8) -> Entry
 {
     let line = TABLE[place(kind)];
     Entry {
-        sort: line.0,
-        label: line.1,
-        a: line.2,
-        b: line.3,
-        c: line.4,
+        sort: (line / 65536 % 16) as u8,
+        label: (line / 4096 % 16) as u8,
+        a: (line / 256 % 16) as u8,
+        b: (line / 16 % 16) as u8,
+        c: (line % 16) as u8,
     }
 }

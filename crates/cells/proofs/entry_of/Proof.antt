@@ -1,10 +1,10 @@
 -- `cells::entry_of` meets its contract: the table's rule by one computed test. Assumes nothing.
+use Prim.Native.Nat.{ℕ}
 use native.Mathlib.Omega.{arith}
 use mathlib.Core.Path.{refl}
 use mathlib.Core.List.{List, [], _∷_}
 use Rattle.format.specs.Table.{table, rowIn, rowOf}
-use Rattle.cells.specs.declared.Line.{Line}
-use Rattle.cells.proofs.Table.{right-at}
+use Rattle.cells.proofs.Table.{digits, right-at}
 use borrow.Author.Needs.{needs}
 use Rattle.cells.proofs.entry_of.Statement.{statement}
 use Rattle.cells.proofs.entry_of.Tie as tie
@@ -15,33 +15,59 @@ place-requires c κs = search needs
 mul-line : tie.Need-mul-line
 mul-line c = search needs
 
-array-copy-out-line : tie.Need-array-copy-out-line
-array-copy-out-line c = search needs
+array-read-line : tie.Need-array-read-line
+array-read-line c = search needs
+
+cast-t10 : tie.Need-cast-t10
+cast-t10 c = search needs
+
+cast-t13 : tie.Need-cast-t13
+cast-t13 c = search needs
+
+cast-t16 : tie.Need-cast-t16
+cast-t16 c = search needs
+
+cast-t19 : tie.Need-cast-t19
+cast-t19 c = search needs
+
+cast-t21 : tie.Need-cast-t21
+cast-t21 c = search needs
 
 -- the code's table
-abbrev lines : List Line
+abbrev lines : List ℕ
 lines =
-    (0, 0, 0, 0, 0)
-    ∷ (2, 0, 0, 0, 0)
-    ∷ (2, 0, 0, 0, 0)
-    ∷ (2, 0, 2, 2, 0)
-    ∷ (2, 0, 2, 2, 0)
-    ∷ (2, 1, 2, 0, 0)
-    ∷ (3, 0, 1, 0, 0)
-    ∷ (3, 0, 0, 1, 1)
-    ∷ (3, 0, 0, 0, 0)
-    ∷ (3, 0, 3, 2, 0)
-    ∷ (3, 0, 3, 3, 0)
-    ∷ (3, 0, 3, 2, 2)
-    ∷ (3, 0, 3, 3, 0)
-    ∷ (3, 0, 3, 2, 0)
-    ∷ (3, 1, 3, 0, 0)
-    ∷ (3, 1, 3, 0, 0)
+    digits 0 0 0 0 0
+    ∷ digits 2 0 0 0 0
+    ∷ digits 2 0 0 0 0
+    ∷ digits 2 0 2 2 0
+    ∷ digits 2 0 2 2 0
+    ∷ digits 2 1 2 0 0
+    ∷ digits 3 0 1 0 0
+    ∷ digits 3 0 0 1 1
+    ∷ digits 3 0 0 0 0
+    ∷ digits 3 0 3 2 0
+    ∷ digits 3 0 3 3 0
+    ∷ digits 3 0 3 2 2
+    ∷ digits 3 0 3 3 0
+    ∷ digits 3 0 3 2 0
+    ∷ digits 3 1 3 0 0
+    ∷ digits 3 1 3 0 0
     ∷ []
 
 returns : tie.Need-returns
 unfolding rowOf rowIn table
-returns c = right-at lines (0, 0, 0, 0, 0) refl (c .before .before .args .kind) _ (c .before .place .ensures .0) (omega arith)
+returns c = right-at lines 0 refl (c .before .args .kind) _ (c .place .ensures .0) (omega arith)
 
 pub entry-of-spec : {M : Type 1} → statement M
-entry-of-spec = tie.close (tie.spec place-requires mul-line array-copy-out-line returns)
+entry-of-spec =
+    tie.close
+    (tie.spec
+    place-requires
+    mul-line
+    array-read-line
+    cast-t10
+    cast-t13
+    cast-t16
+    cast-t19
+    cast-t21
+    returns)
