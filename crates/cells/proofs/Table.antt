@@ -20,12 +20,12 @@ at : (f g : ℕ → Option Row) (n : ℕ) → run f n ≡ run g n → (k : ℕ) 
 at f g zero q k h = absurd (omega arith)
 at f g (suc n) q k h = elim (decLt k n) [ yes p ↦ at f g n (cc) k p | no p ↦ let e : k ≡ n = omega arith in rw e cc ]
 
--- a row as the code has it, a hexadecimal digit for each of sort, label, a, b and c
+-- a row as the code has it, an octal digit for each of sort, label, a, b and c
 abbrev pub digits : (s l a b c : ℕ) → ℕ
-digits s l a b c = (((s * 16 + l) * 16 + a) * 16 + b) * 16 + c
+digits s l a b c = (((s * 8 + l) * 8 + a) * 8 + b) * 8 + c
 
 abbrev entryOf : ℕ → Entry
-entryOf x = record { sort = x / 65536 % 16; label = x / 4096 % 16; a = x / 256 % 16; b = x / 16 % 16; c = x % 16 }
+entryOf x = record { sort = x / 4096 % 8; label = x / 512 % 8; a = x / 64 % 8; b = x / 8 % 8; c = x % 8 }
 
 abbrev coded : List ℕ → ℕ → ℕ → Option Row
 coded xs d k = rowFrom k (entryOf (getD xs (placeOf k) d))

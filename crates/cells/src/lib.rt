@@ -77,23 +77,23 @@ pub struct Entry {
 }
 
 // The unknown kinds, kinds 1 to 5, kinds 16 to 25: a row is sort, label, a, b, c, a digit each.
-const TABLE: [u32; 16] = [
-    0x00000,
-    0x20000,
-    0x20000,
-    0x20220,
-    0x20220,
-    0x21200,
-    0x30100,
-    0x30011,
-    0x30000,
-    0x30320,
-    0x30330,
-    0x30322,
-    0x30330,
-    0x30320,
-    0x31300,
-    0x31300,
+const TABLE: [u16; 16] = [
+    0o00000,
+    0o20000,
+    0o20000,
+    0o20220,
+    0o20220,
+    0o21200,
+    0o30100,
+    0o30011,
+    0o30000,
+    0o30320,
+    0o30330,
+    0o30322,
+    0o30330,
+    0o30320,
+    0o31300,
+    0o31300,
 ];
 
 // The place of a kind in the table.
@@ -113,10 +113,10 @@ pub fn entry_of(kind: u8) -> Entry
 {
     let line = TABLE[place(kind)];
     Entry {
-        sort: (line / 65536 % 16) as u8,
-        label: (line / 4096 % 16) as u8,
-        a: (line / 256 % 16) as u8,
-        b: (line / 16 % 16) as u8,
-        c: (line % 16) as u8,
+        sort: (line / 4096 % 8) as u8,
+        label: (line / 512 % 8) as u8,
+        a: (line / 64 % 8) as u8,
+        b: (line / 8 % 8) as u8,
+        c: (line % 8) as u8,
     }
 }
