@@ -1,6 +1,7 @@
 -- `exports::pack_refusal` meets its contract. Assumes nothing.
-use mathlib.Core.Path.{sym}
-use Rattle.exports.proofs.Packing.{packed-refusal}
+use native.Mathlib.Omega.{arith}
+use mathlib.Core.Path.{refl}
+use Rattle.exports.proofs.Packing.{halves}
 use borrow.Author.Needs.{needs}
 use Rattle.exports.proofs.pack_refusal.Statement.{statement}
 use Rattle.exports.proofs.pack_refusal.Tie as tie
@@ -15,10 +16,13 @@ cell-requires : tie.Need-cell-requires
 cell-requires c κs = search needs
 
 add-result : tie.Need-add-result
-add-result c = search needs
+add-result c =
+    record { fits = omega (arith, c .before .row .ensures .1, c .cell .ensures, halves (c .before .before .args .r) .1, c .before .before .pre) }
 
 returns : tie.Need-returns
-returns c = rw (c .before .row .ensures .0, c .cell .ensures) (sym (packed-refusal (c .before .before .args .r)))
+returns c =
+    let h = halves (c .before .before .args .r) in
+    rw (h .0, h .1, c .before .row .ensures .0, c .cell .ensures) refl
 
 pub pack-refusal-spec : {M : Type 1} → statement M
 pack-refusal-spec = tie.close (tie.spec row-requires mul-result cell-requires add-result returns)
