@@ -25,7 +25,7 @@ fn mark_of(s: &[u8], t: Cell) -> usize
 }
 
 // Whether the term of a cell is a value, from the cell alone, which is marked already: 1 or 0.
-fn value_at(s: &[u8], i: usize) -> usize
+pub fn value_at(s: &[u8], i: usize) -> usize
     requires { ⌜ SomeValued (now s) i ⌝ }
     ensures { λ r. ⌜ SaysValue (now (s .entry)) i r ⌝ }
 {

@@ -1,4 +1,3 @@
-pub mod Values
 pub mod Sources
 pub mod Puts
 pub mod Two

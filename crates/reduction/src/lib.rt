@@ -7,6 +7,7 @@ use emission::Laid;
 use emission::emit_field;
 use emission::finish;
 use emission::finish_row;
+use loading::value_at;
 use reading::emit_reading;
 ghost use mathlib.Core.Path.{_≡_};
 ghost use Prim.Native.Nat.{_<_};
@@ -26,13 +27,7 @@ pub fn is_value(s: &[u8], i: usize) -> bool
     requires { ⌜ MarkedTerm (now s) i ⌝ }
     ensures { λ r. ⌜ SaysValue (now (s .entry)) i r ⌝ }
 {
-    let t = read_cell(s, i);
-    let kind = t.kind;
-    match kind {
-        17 | 18 | 21 => true,
-        22 | 24 => t.c == 1,
-        _ => false,
-    }
+    value_at(s, i) == 1
 }
 
 // What is put in for a variable, emitted.

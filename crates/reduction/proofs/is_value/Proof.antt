@@ -1,30 +1,27 @@
--- `reduction::is_value` meets its contract: the kind of the cell decides, and of a merge or a record its mark. Assumes nothing.
-use Rattle.cells.proofs.Held.{term-within}
-use Rattle.reduction.proofs.Values.{says-variable, says-plain, says-function, says-marked, says-other}
+-- `reduction::is_value` meets its contract: the mark read back. Assumes nothing.
+use mathlib.Core.Path.{_≡_, refl, ap, _∙_}
+use mathlib.Core.Bool.{Bool, true, false, cond}
+use lib.Dec.{eqb}
+use Rattle.calculus.specs.Decide.{value?}
 use Rattle.reduction.proofs.is_value.Statement.{statement}
 use Rattle.reduction.proofs.is_value.Tie as tie
 
-read-cell-requires : tie.Need-read-cell-requires
-read-cell-requires c κs = term-within (c .before .pre .holds)
+marked : (b : Bool) → eqb (cond b 1 0) 1 ≡ b
+marked true = refl
+marked false = refl
+
+value-at-requires : tie.Need-value-at-requires
+value-at-requires c κs =
+    let p = c .before .pre in
+    record { term = p .term; valued = record { holds = p .holds; mark = p .marked .marks _ (p .term) (p .below) (p .holds) } }
 
 returns : tie.Need-returns
-returns c = says-marked (c .before .before .read-cell .ensures) (c .before .before .before .before .pre) (c .before .match .keys2)
-
-returns-2 : tie.Need-returns-2
-returns-2 c = says-variable (c .before .before .read-cell .ensures) (c .if1 .taken)
-
-returns-3 : tie.Need-returns-3
-returns-3 c =
-    let at-match = c .before .before in
-    let at-read-cell = at-match .before in
-    says-other (at-read-cell .read-cell .ensures) (c .if2 .left) (at-match .match .rest .0 .1) (at-match .match .rest .1)
-
-returns-4 : tie.Need-returns-4
-returns-4 c = says-function (c .before .read-cell .ensures) (c .match .keys1)
-
-returns-5 : tie.Need-returns-5
-returns-5 c = says-plain (c .before .before .before .read-cell .ensures) (c .before .if1 .left) (c .if2 .taken)
+returns c =
+    let p = c .before .before .pre in
+    record {
+      says = λ e h.
+          ap (λ x. eqb x 1) (c .value-at .ensures .is e (record { holds = h; mark = p .marked .marks _ e (p .below) h })) ∙ marked (value? e);
+    }
 
 pub is-value-spec : {M : Type 1} → statement M
-is-value-spec =
-    tie.close (tie.spec read-cell-requires returns returns-2 returns-3 returns-4 returns-5)
+is-value-spec = tie.close (tie.spec value-at-requires returns)
