@@ -70,6 +70,7 @@ fn mark_ok(t: &[u8]) -> bool
 }
 
 // 4: the count and the root.
+// A size as a number.
 fn counted_ok(t: &[u8], n: usize) -> bool
     requires { ⌜ length (now t) ≡ 8 ⌝ }
     ensures { λ r. ⌜ r ≡ countedOk (now (t .entry)) n ⌝ }
@@ -193,19 +194,26 @@ fn check_cells(s: &[u8], n: usize) -> Check
     Check::Clear
 }
 
+// A size as a number.
+fn count(x: u16) -> usize
+    ensures { λ r. ⌜ r ≡ x ⌝ }
+{
+    x as usize
+}
+
 // What a field adds to the size of its cell; z has the sizes of the lower cells.
-fn field_size(z: &[usize; CAP], u: u8, x: usize) -> usize
+fn field_size(z: &[u16; CAP], u: u8, x: usize) -> usize
     requires { ⌜ (2 ≤ u → x < 4096) ⌝ }
     ensures { λ r. ⌜ r ≡ fieldSize (now (z .entry)) (useOf u) x ⌝ }
 {
     if u < TYPE {
         return 0;
     }
-    z[x]
+    count(z[x])
 }
 
 // The opened size of cell i, capped.
-fn cell_size(s: &[u8], z: &[usize; CAP], i: usize) -> usize
+fn cell_size(s: &[u8], z: &[u16; CAP], i: usize) -> usize
     requires { ⌜ (8 * i + 8 ≤ length (now s)) × (i < 4096) ⌝ }
     requires { ⌜ cellFault (now s) i ≡ none ⌝ }
     requires { ⌜ SizesUpTo (now s) (now z) i ⌝ }
@@ -222,13 +230,13 @@ fn root_size(s: &[u8], root: usize) -> usize
     requires { ⌜ Ready (now s) root ⌝ }
     ensures { λ r. ⌜ r ≡ min 4096 (cells (treeAt (now (s .entry)) root)) ⌝ }
 {
-    let mut z = [0usize; CAP];
+    let mut z = [0u16; CAP];
     let mut i = 0;
     while i <= root {
-        z[i] = cell_size(s, &z, i);
+        z[i] = cell_size(s, &z, i) as u16;
         i += 1;
     }
-    z[root]
+    count(z[root])
 }
 
 // Rows 9 and 10.

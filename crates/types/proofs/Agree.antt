@@ -1,7 +1,7 @@
 -- Consistency of two held terms, by the kinds of their cells: what it asks of the parts, and what it answers outright.
 -- Assumes nothing.
 use Prim.Native.Nat.{ℕ, _+_}
-use mathlib.Core.Path.{_≡_, refl, sym, ap, ap₂, _∙_}
+use mathlib.Core.Path.{_≡_, refl, sym, ap, ap₂, subst, _∙_}
 use mathlib.Core.Logic.{_↔_, _⊎_, inl, inr, ⊎-elim}
 use mathlib.Core.Bool.{Bool, true, false, not, _&&_, _||_, and-false}
 use mathlib.Core.List.{List}
@@ -15,7 +15,7 @@ use Rattle.calculus.proofs.Bools.{decided-says}
 use Rattle.format.specs.Cell.{IsBytes, Cell, cellAt}
 use Rattle.cells.specs.Held.{HoldsTerm, h-var, h-lit, h-unit, h-anno, h-app, h-lam, h-merge, h-fix, h-rcd, h-proj}
 use Rattle.cells.proofs.Held.{lit-at, unit-at, lam-at, merge-at, rcd-at}
-use Rattle.types.specs.Says.{TypesAt, TypesSay, TermsAt, TermsSay, Plain, PlainAt, PlainPair}
+use Rattle.types.specs.Says.{TypesAt, TypesSay, TermsAt, TermsSay, Plain, PlainAt, PlainPair, Agreeing}
 use Rattle.types.proofs.Parts.{Passes, Splits, Whenever}
 use Rattle.types.proofs.Forms.{Terms, kind-first, kind-second}
 use Rattle.types.proofs.TermTrees.{termKind, numberOf, number-halves, number-other, kinds-differ, is-number}
@@ -237,3 +237,10 @@ module _ {s : List ℕ} {i j : ℕ} {x y : Cell} {p : Bool} (w : Whenever (Holds
         c ∙ sym (l .is ∙ rw (← b) refl))
         d;
   }
+
+-- a no says nothing
+pub no-answer : {s : List ℕ} {i j : ℕ} {r : Bool} → r ≡ false → Agreeing s i j r
+no-answer e = record { says = λ t. absurd (subst T (sym t ∙ e) tt) }
+
+pub an-answer : {s : List ℕ} {i j : ℕ} {r : Bool} → TermsSay s i j consistent? r → Agreeing s i j r
+an-answer u = record { says = λ t. rw t at u }

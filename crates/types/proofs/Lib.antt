@@ -5,6 +5,7 @@ pub mod Heads
 pub mod Below
 pub mod Apart
 pub mod Single
+pub mod Walks
 pub mod Trees
 pub mod TermTrees
 pub mod Agree

@@ -2,12 +2,12 @@
 -- Assumes nothing.
 use Prim.Native.Nat.{ℕ, _≤_}
 use mathlib.Core.Path.{_≡_}
-use mathlib.Core.Bool.{Bool, _&&_}
+use mathlib.Core.Bool.{Bool, true, _&&_}
 use mathlib.Core.Logic.{_⊎_}
 use mathlib.Core.List.{List}
 use lib.ListN.{length}
 use Rattle.calculus.specs.Syntax.{Ty, Term}
-use Rattle.calculus.specs.Decide.{value?, closed?}
+use Rattle.calculus.specs.Decide.{value?, closed?, consistent?}
 use Rattle.format.specs.Cell.{cellAt}
 use Rattle.cells.specs.Held.{HoldsType, HoldsTerm}
 
@@ -50,6 +50,27 @@ pub record HalvesAt (s : List ℕ) (i j a b : ℕ) : Type 0 where
 pub record HalvesSay (s : List ℕ) (i j a b : ℕ) (q : Term → Term → Ty → Ty → Bool) (r : Bool) : Type 0 where
   pub says : (e f : Term) (A B : Ty) → HoldsTerm s i e → HoldsTerm s j f → HoldsType s a A → HoldsType s b B → r ≡ q e f A B
 
+-- two types, the second neither top-like nor an intersection
+pub record UnderPlain (s : List ℕ) (a b : ℕ) : Type 0 where
+  pub types : TypesAt s a b
+  pub second-marked : cellAt s b .c ≡ 1 → ⊥
+  pub second-single : cellAt s b .kind ≡ 4 → ⊥
+
+-- nor is the first an intersection
+pub record TwoPlain (s : List ℕ) (a b : ℕ) : Type 0 where
+  pub under : UnderPlain s a b
+  pub first-single : cellAt s a .kind ≡ 4 → ⊥
+
+-- two types, the first no intersection
+pub record SingleType (s : List ℕ) (a b : ℕ) : Type 0 where
+  pub types : TypesAt s a b
+  pub first-single : cellAt s a .kind ≡ 4 → ⊥
+
+-- nor the second
+pub record SingleTypes (s : List ℕ) (a b : ℕ) : Type 0 where
+  pub first : SingleType s a b
+  pub second-single : cellAt s b .kind ≡ 4 → ⊥
+
 -- two terms of one kind that has parts: 19 to 25
 pub record PartsAt (s : List ℕ) (i j : ℕ) : Type 0 where
   pub terms : TermsAt s i j
@@ -67,6 +88,25 @@ pub record PlainAt (s : List ℕ) (i j : ℕ) : Type 0 where
 pub record PlainPair (s : List ℕ) (i j : ℕ) : Type 0 where
   pub first : PlainAt s i j
   pub plain : Plain (cellAt s j .kind)
+
+-- a term that is no merge
+pub record OneAt (s : List ℕ) (i : ℕ) : Type 0 where
+  pub at : TermAt s i
+  pub single : cellAt s i .kind ≡ 22 → ⊥
+
+-- two terms, the first no merge
+pub record SingleAt (s : List ℕ) (i j : ℕ) : Type 0 where
+  pub terms : TermsAt s i j
+  pub single : cellAt s i .kind ≡ 22 → ⊥
+
+-- a number, a function or a record, and a term that is no merge
+pub record PlainSingle (s : List ℕ) (i j : ℕ) : Type 0 where
+  pub first : PlainAt s i j
+  pub single : cellAt s j .kind ≡ 22 → ⊥
+
+-- a yes says that the two terms are consistent; a no says nothing
+pub record Agreeing (s : List ℕ) (i j : ℕ) (r : Bool) : Type 0 where
+  pub says : r ≡ true → TermsSay s i j consistent? true
 
 -- "closed values"
 abbrev pub closedValue? : Term → Bool

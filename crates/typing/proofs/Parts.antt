@@ -3,6 +3,7 @@
 use Prim.Native.Nat.{ℕ, zero, suc, _+_, _≤_, _<_}
 use native.Mathlib.Omega.{arith}
 use mathlib.Core.Path.{_≡_, _∙_, ap}
+use mathlib.Core.Logic.{_⊎_, inl, inr, ⊎-elim}
 use mathlib.Core.Bool.{Bool, true, false, cond}
 use mathlib.Core.List.{List, _∷_}
 use Rattle.calculus.specs.Syntax.{Ty, int, top, arrow, inter, field}
@@ -14,7 +15,7 @@ use Rattle.cells.specs.Held.{mark, HoldsType, h-int, h-top, h-arrow, h-inter, h
 use Rattle.cells.proofs.Held.{TermAndType, TwoTerms, FunctionAt, OneTerm, term-kinds, top-at, arrow-at, field-at, same-term, same-context}
 use Rattle.typing.specs.declared.Found.{Found}
 use Rattle.typing.specs.declared.Found.the-variants.{Typed}
-use Rattle.typing.specs.Finding.{Ready, ReadyAt, Finds, Binds}
+use Rattle.typing.specs.Finding.{Ready, ReadyAt, ReadyTwo, Finds, Binds}
 use Rattle.typing.proofs.Ways.{Leads, leads-a, leads-b}
 use Rattle.typing.proofs.Answers.{finding, IsFound, typed}
 
@@ -223,9 +224,25 @@ none-of : (k m n : ℕ) → m ≤ k → NoneOf k m n → m + n ≤ k
 none-of k m zero h r = omega arith
 none-of k m (suc n) h r = let b = none-of k m n h (r .0) in omega (arith, r .1)
 
+exactly : {k : ℕ} → (16 ≤ k) × (k ≤ 25) → 25 ≤ k → k ≡ 25
+exactly b l = omega arith
+
+-- k is none of the kinds below a field read's, as finding tests them
+abbrev pub NoneBelow : ℕ → Type 0
+NoneBelow k = (((NoneOf k 16 4 × ¬ ((k ≡ 20) ⊎ (k ≡ 22))) × ¬ (k ≡ 21)) × ¬ (k ≡ 23)) × ¬ (k ≡ 24)
+
 -- A term of none of the other kinds is a field read.
-pub at-last : {s : List ℕ} {n c i : ℕ} {y : Cell} → Ready s n c i → y ≡ cellAt s i → NoneOf (y .kind) 16 9 → ReadyAt s n c i 25
+pub at-last : {s : List ℕ} {n c i : ℕ} {y : Cell} → Ready s n c i → y ≡ cellAt s i → NoneBelow (y .kind) → ReadyAt s n c i 25
 at-last {y = y} p o r =
     let b : (16 ≤ y .kind) × (y .kind ≤ 25) = rw o (term-kinds (p .holds-term)) in
-    let l : 25 ≤ y .kind = none-of (y .kind) 16 9 (b .0) r in
-    at-kind p o (omega arith)
+    let u : y .kind ≡ 20 → ⊥ = λ e. r .0 .0 .0 .1 (inl e) in
+    let v : y .kind ≡ 22 → ⊥ = λ e. r .0 .0 .0 .1 (inr e) in
+    let l : 25 ≤ y .kind = none-of (y .kind) 16 9 (b .0) (((((r .0 .0 .0 .0, u), r .0 .0 .1), v), r .0 .1), r .1) in
+    at-kind p o (exactly b l)
+
+-- A term of one of two kinds, and of the second where it is not of the first.
+pub at-two : {s : List ℕ} {n c i : ℕ} {y : Cell} → Ready s n c i → y ≡ cellAt s i → (y .kind ≡ 20) ⊎ (y .kind ≡ 22) → ReadyTwo s n c i
+at-two p o e = record { ready = p; kinds = rw o at e }
+
+pub at-second : {s : List ℕ} {n c i : ℕ} {y : Cell} → ReadyTwo s n c i → y ≡ cellAt s i → (y .kind ≡ 20 → ⊥) → ReadyAt s n c i 22
+at-second p o u = record { ready = p .ready; kind = ⊎-elim (λ e. absurd ((rw o at u) e)) (λ e. e) (p .kinds) }

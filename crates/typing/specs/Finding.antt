@@ -4,6 +4,7 @@
 use Prim.Native.Nat.{ℕ, _+_, _≤_, _<_}
 use mathlib.Core.Path.{_≡_}
 use mathlib.Core.Bool.{cond}
+use mathlib.Core.Logic.{_⊎_}
 use mathlib.Core.Option.{Option, none, some}
 use mathlib.Core.List.{List, [], _∷_}
 use lib.ListN.{length, getElem?}
@@ -38,6 +39,11 @@ pub record Ready (s : List ℕ) (n c i : ℕ) : Type 0 where
 pub record ReadyAt (s : List ℕ) (n c i k : ℕ) : Type 0 where
   pub ready : Ready s n c i
   pub kind : cellAt s i .kind ≡ k
+
+-- The same, at an application or a merge.
+pub record ReadyTwo (s : List ℕ) (n c i : ℕ) : Type 0 where
+  pub ready : Ready s n c i
+  pub kinds : (cellAt s i .kind ≡ 20) ⊎ (cellAt s i .kind ≡ 22)
 
 -- What is answered for a found type or a refusal: a cell that holds the type, at most m cells added; or the refusal, at the cell that
 -- the way leads to.

@@ -7,7 +7,7 @@ use outcome::Refusal;
 use types::mergeable;
 use types::subtype;
 ghost use Rattle.typing.specs.Finding.{Ready, ReadyAt, Finds, ReadyFor, Checks, ContextAt, Looks};
-ghost use Rattle.typing.specs.Finding.{RoomFor, Adds, BinderBelow, Binds, TypesBelow, AddsInter};
+ghost use Rattle.typing.specs.Finding.{ReadyTwo, RoomFor, Adds, BinderBelow, Binds, TypesBelow, AddsInter};
 
 // A cell that holds the type, and the count of cells used; or why there is none.
 pub enum Found {
@@ -94,7 +94,7 @@ fn find_app(s: &mut [u8], n: usize, c: usize, i: usize) -> Found
     ensures { λ r. ⌜ Finds (now (s .entry)) (now (s .exit)) n c i r ⌝ }
 {
     let t = read_cell(s, i);
-    let left = find(s, n, c, t.a);
+    let left = find_left(s, n, c, t.a);
     let Found::Typed(f, m) = left else {
         return left;
     };
@@ -149,7 +149,7 @@ fn find_merge(s: &mut [u8], n: usize, c: usize, i: usize) -> Found
     ensures { λ r. ⌜ Finds (now (s .entry)) (now (s .exit)) n c i r ⌝ }
 {
     let t = read_cell(s, i);
-    let left = find(s, n, c, t.a);
+    let left = find_left(s, n, c, t.a);
     let Found::Typed(a, m) = left else {
         return left;
     };
@@ -207,6 +207,34 @@ fn find_proj(s: &mut [u8], n: usize, c: usize, i: usize) -> Found
     Found::Refused(Refusal::Projection(i))
 }
 
+// An application or a merge.
+fn find_two(s: &mut [u8], n: usize, c: usize, i: usize) -> Found
+    requires { ⌜ ReadyTwo (now s) n c i ⌝ }
+    ensures { λ r. ⌜ Finds (now (s .entry)) (now (s .exit)) n c i r ⌝ }
+{
+    let t = read_cell(s, i);
+    if t.kind == 20 {
+        return find_app(s, n, c, i);
+    }
+    find_merge(s, n, c, i)
+}
+
+// The left part of an application or a merge. One that is of these kinds itself is asked directly, so that a chain takes no more stack than
+// its own calls.
+fn find_left(s: &mut [u8], n: usize, c: usize, i: usize) -> Found
+    requires { ⌜ Ready (now s) n c i ⌝ }
+    ensures { λ r. ⌜ Finds (now (s .entry)) (now (s .exit)) n c i r ⌝ }
+{
+    let t = read_cell(s, i);
+    if t.kind == 20 {
+        return find_app(s, n, c, i);
+    }
+    if t.kind == 22 {
+        return find_merge(s, n, c, i);
+    }
+    find(s, n, c, i)
+}
+
 pub fn find(s: &mut [u8], n: usize, c: usize, i: usize) -> Found
     requires { ⌜ Ready (now s) n c i ⌝ }
     ensures { λ r. ⌜ Finds (now (s .entry)) (now (s .exit)) n c i r ⌝ }
@@ -218,9 +246,8 @@ pub fn find(s: &mut [u8], n: usize, c: usize, i: usize) -> Found
         17 => find_lit(s, n, c, i),
         18 => find_unit(s, n, c, i),
         19 => find_anno(s, n, c, i),
-        20 => find_app(s, n, c, i),
+        20 | 22 => find_two(s, n, c, i),
         21 => find_lam(s, n, c, i),
-        22 => find_merge(s, n, c, i),
         23 => find_fix(s, n, c, i),
         24 => find_rcd(s, n, c, i),
         _ => find_proj(s, n, c, i),

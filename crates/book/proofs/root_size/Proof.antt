@@ -1,8 +1,9 @@
 -- `book::root_size` is the opened size of the root, capped. The loop's invariant: the sizes of the cells below i are in their
 -- places. Assumes nothing.
 use Prim.Native.Nat.{_≤_, _+_, _-_}
-use mathlib.Core.Path.{_≡_, refl}
+use mathlib.Core.Path.{_≡_, refl, _∙_}
 use native.Mathlib.Omega.{arith}
+use borrow.Author.Needs.{needs}
 use lib.ListN.{length-set}
 use Rattle.book.specs.Form.{SizesUpTo}
 use Rattle.book.proofs.Sizes.{sizes-none, sizes-more}
@@ -23,6 +24,9 @@ cell-size-requires c κs =
     let l = c .before .before .loop in
     ((omega arith, omega arith), (c .before .before .before .before .pre .sound (l .i) (c .before .loop-test .taken), l .inv .2))
 
+cast-z : tie.Need-cast-z Inv-loop μ-loop
+cast-z c = omega (arith, c .cell-size .ensures)
+
 mul-z : tie.Need-mul-z Inv-loop μ-loop
 mul-z c = omega arith
 
@@ -41,14 +45,19 @@ loop-again c =
     let l = c .before .before .before .loop in
     (omega arith, simp length-set (l .inv .1), sizes-more (a .s .now) (l .z) (l .i) (c .cell-size .result) (omega arith) (l .inv .2) (c .cell-size .ensures))
 
-mul-result : tie.Need-mul-result Inv-loop μ-loop
-mul-result c = omega arith
+mul-count : tie.Need-mul-count Inv-loop μ-loop
+mul-count c = omega arith
 
-array-read-result : tie.Need-array-read-result Inv-loop μ-loop
-array-read-result c = omega arith
+array-read-count : tie.Need-array-read-count Inv-loop μ-loop
+array-read-count c = omega arith
+
+count-requires : tie.Need-count-requires Inv-loop μ-loop
+count-requires c κs = search needs
 
 returns : tie.Need-returns Inv-loop μ-loop
-returns c = c .before .loop .inv .2 .sizes (c .before .before .before .args .root) (omega arith)
+returns c =
+    let l = c .before .before .loop in
+    c .count .ensures ∙ l .inv .2 .sizes (c .before .before .before .before .args .root) (omega arith)
 
 pub root-size-spec : {M : Type 1} → statement M
 root-size-spec =
@@ -58,11 +67,13 @@ root-size-spec =
     μ-loop
     loop-holds
     cell-size-requires
+    cast-z
     mul-z
     array-write-z
     add-i
     loop-less
     loop-again
-    mul-result
-    array-read-result
+    mul-count
+    array-read-count
+    count-requires
     returns)
