@@ -2,6 +2,7 @@
 
 use compare::cells::{lay, Cell, Cells, Sharing};
 use compare::comparing::Course;
+use compare::deepest::merges;
 use compare::extremes::{left, times};
 use compare::families::families;
 use compare::random::Random;
@@ -36,14 +37,6 @@ fn copies(part: Term, count: usize) -> Term {
     merged(vec![part; count])
 }
 
-fn balanced(parts: &[Term]) -> Term {
-    let (left, right) = match parts {
-        [one] => return one.clone(),
-        _ => parts.split_at(parts.len() / 2),
-    };
-    Term::merge(balanced(left), balanced(right))
-}
-
 /// Typed books of at most 200 cells that come to a value within 50 steps.
 pub fn small_typed(count: usize) -> Vec<Vec<u8>> {
     let names = ["merges", "hidden fields", "duplicates", "several outputs", "nested records"];
@@ -60,15 +53,20 @@ pub fn small_typed(count: usize) -> Vec<Vec<u8>> {
 
 /// Books of 4,095 opened cells, or as near as their form comes.
 pub fn full() -> Vec<Named> {
-    vec![
+    let parts = vec![Term::annotation(Term::number(1), top()); 1_023];
+    let merged = merges(&parts).map(|(way, term)| named(&format!("1,023 annotated parts merged, {way}"), term));
+    let mut books = vec![
         named("4,094 nested records", times(4_094, Term::number(1), |e| Term::record(7, e))),
         named("4,094 nested field reads", times(4_094, Term::top(), |e| Term::read(7, e))),
         named("2,047 nested annotations", times(2_047, Term::number(1), |e| Term::annotation(e, int()))),
         named("2,047 nested applications", times(2_047, Term::top(), |e| Term::application(e, Term::top()))),
         named("2,047 nested merges, to the right", times(2_047, Term::top(), |e| Term::merge(Term::top(), e))),
+        named("2,047 nested fixpoints", times(2_047, Term::top(), |e| Term::fixpoint(e, top()))),
         named("1,364 nested functions", times(1_364, Term::variable(0), |e| Term::function(e, top(), top()))),
         ("the top value merged with itself 11 times".to_string(), doubled(Cell::new(18, 0, [0; 3]), 11)),
-    ]
+    ];
+    books.extend(merged);
+    books
 }
 
 /// Books that are costly to check.
@@ -80,6 +78,7 @@ pub fn costly() -> Vec<Named> {
     let call = Term::application(Term::variable(1), variable());
     let calls = Term::function(copies(call, 510), left(&int(), 510), top());
     let alike = copies(Term::record(7, Term::number(1)), 600);
+    let [(_, left_nested), (_, right_nested), (_, balanced)] = merges(&vec![Term::number(1); 2_048]);
     vec![
         named(
             "a top-like variable of 500 parts, merged 1,000 times",
@@ -94,8 +93,9 @@ pub fn costly() -> Vec<Named> {
             "a variable applied to another 510 times, 510 parts each",
             Term::function(calls, Type::function(left(&int(), 510), top()), top()),
         ),
-        named("2,048 equal numbers, left-nested", copies(Term::number(1), 2_048)),
-        named("2,048 equal numbers, balanced", balanced(&vec![Term::number(1); 2_048])),
+        named("2,048 equal numbers, to the left", left_nested),
+        named("2,048 equal numbers, to the right", right_nested),
+        named("2,048 equal numbers, balanced", balanced),
         named("600 records of one label against 600", Term::merge(alike.clone(), alike)),
         ("two equal doubling chains of 39 cells".to_string(), two_chains()),
     ]
@@ -109,11 +109,32 @@ fn two_chains() -> Vec<u8> {
     Cells { cells: one.iter().copied().chain(other).chain([merge]).collect(), root: 2 * n }.bytes()
 }
 
-/// A function that calls itself without end, within so many records: two cells more each third step.
+fn records(count: usize, content: Term) -> Term {
+    times(count, content, |e| Term::record(1, e))
+}
+
+/// A function that calls itself without end with what this makes of its argument, applied to a value of this type.
+fn calls_itself(argument: impl Fn(Term) -> Term, value: Term, of: Type) -> Term {
+    let call = Term::application(Term::variable(1), argument(Term::variable(0)));
+    let again = Term::fixpoint(Term::function(call, of.clone(), int()), Type::function(of, int()));
+    Term::application(again, value)
+}
+
+/// The plain one within so many records: two cells more each third step.
 pub fn endless(around: usize) -> Vec<u8> {
-    let call = Term::application(Term::variable(1), Term::variable(0));
-    let again = Term::fixpoint(Term::function(call, int(), int()), Type::function(int(), int()));
-    shared(&times(around, Term::application(again, Term::number(1)), |e| Term::record(1, e)))
+    shared(&records(around, calls_itself(|e| e, Term::number(1), int())))
+}
+
+/// A value of so many records goes along with the calls.
+pub fn carrying(count: usize) -> Vec<u8> {
+    let of = (0..count).fold(int(), |t, _| Type::record(1, t));
+    shared(&calls_itself(|e| e, records(count, Term::number(1)), of))
+}
+
+/// The body has so many records in it that do not change, and that each call drops.
+pub fn with_constant(count: usize) -> Vec<u8> {
+    let dropped = |e: Term| Term::annotation(Term::merge(e, records(count, Term::number(1))), int());
+    shared(&calls_itself(dropped, Term::number(1), int()))
 }
 
 /// The fixpoint at Int whose body is its own variable: two cells more each step.

@@ -1,4 +1,8 @@
 //! Times the engine against the evaluator, in one run: the tables of docs/PERFORMANCE.md.
+//!
+//! `bench [--quick] [--only PATTERN]..`
+//!
+//! With `--only`, only the tables whose title has one of the patterns in it; with `--quick`, with few rounds.
 
 mod books;
 mod stack;
@@ -9,7 +13,9 @@ use compare::engines::Call;
 use compare::extremes::times;
 use compare::samples::kept_books;
 use evaluator::{lay_term, on_large_stack, read, successors, Answer, Term};
-use timing::{engine, evaluator, from_the_root, race, Side, Timed};
+use std::process::ExitCode;
+use std::sync::atomic::Ordering::Relaxed;
+use timing::{engine, evaluator, from_the_root, race, steps_alone, Side, Timed, QUICK};
 
 const DESK: Call = Call::Run { limit: 10_000 };
 const TWO: [Side; 2] = [engine, evaluator];
@@ -65,30 +71,38 @@ fn table(title: &str, sides: &[Side], call: Call, books: &[Named]) {
     }
 }
 
-fn small_books() {
+fn small_books(title: &str) {
     let books = books::small_typed(500);
     let size = books.iter().map(|book| cells(book)).sum::<usize>() / books.len();
-    head(&format!("{} small typed books together, {size} cells each on average", books.len()), RUNS);
+    head(&format!("{title}: {}, {size} cells each on average", books.len()), RUNS);
     let check = race(&TWO, Call::Check, &books).seconds;
     println!("| check | accepted | {} | {} | - | {} | - |", ms(check[0]), ms(check[1]), ratio(&check, 1));
     row("run, limit 10,000", "value", &race(&THREE, DESK, &books).seconds);
 }
 
-fn long_runs() {
-    head("Long runs", RUNS);
+fn long_runs(title: &str) {
+    head(title, RUNS);
     for limit in [255, 511, 1_023, 2_046, 10_000] {
         let Timed { answer, seconds } = race(&THREE, Call::Run { limit }, &[books::growing()]);
         row(&format!("the growing fixpoint, limit {limit}"), &said(answer), &seconds);
     }
-    for (name, around) in [("a function that calls itself, limit 10000", 0), ("the same within 2,000 records", 2_000)] {
-        let Timed { answer, seconds } = race(&THREE, DESK, &[books::endless(around)]);
+    let calls = |name: &str, book: Vec<u8>| {
+        let Timed { answer, seconds } = race(&THREE, DESK, &[book]);
         row(name, &said(answer), &seconds);
+    };
+    calls("a function that calls itself, limit 10000", books::endless(0));
+    calls("the same within 2,000 records", books::endless(2_000));
+    for count in [10, 100, 256] {
+        calls(&format!("the same with a value of {count} records"), books::carrying(count));
+    }
+    for count in [10, 100, 1_000] {
+        calls(&format!("the same with {count} records in its body"), books::with_constant(count));
     }
 }
 
-fn sample_books() {
+fn sample_books(title: &str) {
     head(
-        "The sample books: check, and run with limit 10,000",
+        title,
         "book, answer, check ms, check: engine / evaluator, run ms, steps a second, run: engine / evaluator, run: engine / from the root",
     );
     for (name, book) in kept_books() {
@@ -112,11 +126,12 @@ fn passes(rows: usize, time: impl Fn(usize) -> Vec<f64>) -> Vec<Vec<f64>> {
     let pass = || (0..rows).map(&time).collect::<Vec<_>>();
     let least = |one: Vec<f64>, other: Vec<f64>| one.into_iter().zip(other).map(|(a, b)| a.min(b)).collect();
     let both = |one: Vec<Vec<f64>>, other: Vec<Vec<f64>>| one.into_iter().zip(other).map(|(a, b)| least(a, b)).collect();
-    (0..4).map(|_| pass()).reduce(both).expect("a pass")
+    let count = if QUICK.load(Relaxed) { 1 } else { 4 };
+    (0..count).map(|_| pass()).reduce(both).expect("a pass")
 }
 
-fn growth_of_the_check() {
-    head("Growth: the check", "book, cells, engine ns a cell, evaluator ns a cell, engine / evaluator");
+fn growth_of_the_check(title: &str) {
+    head(title, "book, cells, engine ns a cell, evaluator ns a cell, engine / evaluator");
     let mut rows = Vec::new();
     for n in [512, 1_024, 2_048, 4_095] {
         rows.push(("nested records", times(n - 1, Term::number(1), |e| Term::record(7, e))));
@@ -129,16 +144,6 @@ fn growth_of_the_check() {
         let [a, b] = [0, 1].map(|side| seconds[side] * 1e9 / term.size() as f64);
         println!("| {name} | {} | {a:.1} | {b:.1} | {} |", term.size(), ratio(&seconds, 1));
     }
-}
-
-/// The seconds of so many steps alone, of each book: those of the run without those of the run with limit 0, which checks and lays down.
-fn steps_alone(sides: &[Side], books: &[Vec<u8>], limit: u32) -> Vec<Vec<f64>> {
-    let both = |row: usize| [0, limit].map(|limit| race(sides, Call::Run { limit }, &books[row..=row]).seconds).concat();
-    let alone = |seconds: Vec<f64>| {
-        let (none, some) = seconds.split_at(sides.len());
-        some.iter().zip(none).map(|(some, none)| some - none).collect()
-    };
-    passes(books.len(), both).into_iter().map(alone).collect()
 }
 
 /// The cells of a term on the way, on average over so many steps.
@@ -154,24 +159,27 @@ fn average_cells(book: &[u8], steps: u32) -> f64 {
     })
 }
 
-fn growth_of_a_step() {
-    let columns =
-        "records, cells on average, engine ns a step, from the root ns a step, engine ns a step and cell, engine / from the root";
-    head("Growth: a step of a function that calls itself within records", columns);
-    const STEPS: u32 = 60;
+fn growth_of_a_step(title: &str) {
+    let columns = "records, cells on average, engine ns a step, evaluator ns a step, from the root ns a step, engine / evaluator, \
+                   engine / from the root";
+    head(title, columns);
+    // As many as there is room for within 4,000 records.
+    const STEPS: u32 = 100;
     let around = [0, 250, 500, 1_000, 2_000, 4_000];
     let books = around.map(books::endless);
-    let seconds = steps_alone(&[engine, from_the_root], &books, STEPS);
-    for ((around, book), seconds) in around.into_iter().zip(&books).zip(seconds) {
-        let [a, b] = [0, 1].map(|side| seconds[side] * 1e9 / f64::from(STEPS));
-        let cells = average_cells(book, STEPS);
-        println!("| {around} | {cells:.0} | {a:.0} | {b:.0} | {:.1} | {} |", a / cells, ratio(&seconds, 1));
+    for (around, book) in around.into_iter().zip(&books) {
+        // From the root a step takes long: apart, so that the others have their rounds.
+        let mut seconds = steps_alone(&TWO, book, STEPS);
+        seconds.extend(steps_alone(&[from_the_root], book, STEPS));
+        let [a, b, c] = [0, 1, 2].map(|side| seconds[side] * 1e9 / f64::from(STEPS));
+        let (cells, first, second) = (average_cells(book, STEPS), ratio(&seconds, 1), ratio(&seconds, 2));
+        println!("| {around} | {cells:.0} | {a:.0} | {b:.0} | {c:.0} | {first} | {second} |");
     }
 }
 
-fn readings() {
+fn readings(title: &str) {
     let columns = "value and type, parts of each, engine ms, evaluator ms, engine / evaluator, engine ns a pair of parts";
-    head("The largest readings: the one step alone", columns);
+    head(title, columns);
     let mut rows: Vec<(&str, usize)> = Vec::new();
     let mut books: Vec<Vec<u8>> = Vec::new();
     for parts in [85, 170, 341, 682] {
@@ -186,21 +194,44 @@ fn readings() {
         rows.push(("a function with so many cells of body, under function types", parts));
         books.push(books::function_read(parts, parts));
     }
-    for ((name, parts), seconds) in rows.into_iter().zip(steps_alone(&TWO, &books, 1)) {
+    for ((name, parts), book) in rows.into_iter().zip(books) {
+        let seconds = steps_alone(&TWO, &book, 1);
         let pair = seconds[0] * 1e9 / (parts * parts) as f64;
         println!("| {name} | {parts} | {} | {} | {} | {pair:.1} |", ms(seconds[0]), ms(seconds[1]), ratio(&seconds, 1));
     }
 }
 
-fn main() {
-    small_books();
-    table("Books of 4,095 cells: check", &TWO, Call::Check, &books::full());
-    table("Books of 4,095 cells: run, limit 10,000", &THREE, DESK, &books::full());
-    long_runs();
-    table("Costly books: check", &TWO, Call::Check, &books::costly());
-    sample_books();
-    growth_of_the_check();
-    growth_of_a_step();
-    readings();
-    stack::stack();
+/// A table, from its title on.
+type Table = fn(&str);
+
+const TABLES: [(&str, Table); 10] = [
+    ("Small typed books together", small_books),
+    ("Books of 4,095 cells: check", |title| table(title, &TWO, Call::Check, &books::full())),
+    ("Books of 4,095 cells: run, limit 10,000", |title| table(title, &THREE, DESK, &books::full())),
+    ("Long runs", long_runs),
+    ("Costly books: check", |title| table(title, &TWO, Call::Check, &books::costly())),
+    ("The sample books: check, and run with limit 10,000", sample_books),
+    ("Growth: the check", growth_of_the_check),
+    ("Growth: a step of a function that calls itself within records", growth_of_a_step),
+    ("The largest readings: the one step alone", readings),
+    ("Stack: the most that a book takes, run with limits 0, 1, 2, 3, 10 and 10,000", stack::stack),
+];
+
+fn main() -> ExitCode {
+    let mut only: Vec<String> = Vec::new();
+    let mut words = std::env::args().skip(1);
+    while let Some(word) = words.next() {
+        match (word.as_str(), if word == "--only" { words.next() } else { None }) {
+            ("--quick", _) => QUICK.store(true, Relaxed),
+            ("--only", Some(pattern)) => only.push(pattern.to_lowercase()),
+            _ => {
+                eprintln!("usage: bench [--quick] [--only PATTERN]..; the tables are:");
+                TABLES.iter().for_each(|(title, _)| eprintln!("    {title}"));
+                return ExitCode::from(2);
+            }
+        }
+    }
+    let asked = |title: &str| only.is_empty() || only.iter().any(|pattern| title.to_lowercase().contains(pattern));
+    on_large_stack(|| TABLES.iter().filter(|(title, _)| asked(title)).for_each(|(title, table)| table(title)));
+    ExitCode::SUCCESS
 }

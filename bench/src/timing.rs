@@ -2,7 +2,11 @@
 
 use compare::engines::{Call, Engine, Evaluator, Library};
 use evaluator::{find, lay_term, on_large_stack, read, successors, Answer, Refusal, SIZE_LIMIT, WORK};
+use std::sync::atomic::{AtomicBool, Ordering::Relaxed};
 use std::time::Instant;
+
+/// Few rounds, to see the order of a time while working.
+pub static QUICK: AtomicBool = AtomicBool::new(false);
 
 /// A call, answered in some way.
 pub type Side = fn(Call, &[u8], &mut [u8]) -> Answer;
@@ -57,18 +61,52 @@ pub fn race(sides: &[Side], call: Call, books: &[Vec<u8>]) -> Timed {
         let mut buffers = vec![vec![0; WORK]; sides.len()];
         let start = Instant::now();
         let (mut seconds, mut answer) = (vec![f64::MAX; sides.len()], None);
-        for round in 0..40 {
+        for round in 1..=1_000 {
             let mut sums = vec![0.0; sides.len()];
             for book in books {
                 answer = Some(one_turn(sides, call, book, round, &mut buffers, &mut sums));
             }
             seconds = seconds.iter().zip(sums).map(|(least, sum)| least.min(sum)).collect();
-            let spent = start.elapsed().as_secs_f64();
-            if spent > 3.0 || round >= 2 && spent > 0.4 {
+            if enough(round, start, 0.4) {
                 break;
             }
         }
         Timed { answer: answer.expect("a book"), seconds }
+    })
+}
+
+/// So many seconds have been spent, over three rounds at least where that is not long; a tenth of them and one round where it is quick.
+fn enough(round: usize, start: Instant, seconds: f64) -> bool {
+    let (rounds, seconds) = if QUICK.load(Relaxed) { (1, seconds / 10.0) } else { (3, seconds) };
+    let spent = start.elapsed().as_secs_f64();
+    spent > 3.0 || round >= rounds && spent > seconds
+}
+
+/// The seconds of so many steps alone, on each side: those of the run without those of the run with limit 0, which checks and lays down.
+/// The median of many rounds, for it may be little of the whole.
+pub fn steps_alone(sides: &[Side], book: &[u8], limit: u32) -> Vec<f64> {
+    on_large_stack(|| {
+        let mut buffers = vec![vec![0; WORK]; sides.len()];
+        let mut differences = vec![Vec::new(); sides.len()];
+        let start = Instant::now();
+        for round in 1..=2_000 {
+            let [none, some] = [0, limit].map(|limit| {
+                let mut sums = vec![0.0; sides.len()];
+                one_turn(sides, Call::Run { limit }, book, round, &mut buffers, &mut sums);
+                sums
+            });
+            for (side, all) in differences.iter_mut().enumerate() {
+                all.push(some[side] - none[side]);
+            }
+            if enough(round, start, 1.2) {
+                break;
+            }
+        }
+        let median = |mut all: Vec<f64>| {
+            all.sort_by(f64::total_cmp);
+            all[all.len() / 2]
+        };
+        differences.into_iter().map(median).collect()
     })
 }
 

@@ -3,7 +3,7 @@
 use crate::engines::{Call, Engine, Evaluator, Said};
 use crate::random::Random;
 use crate::theory;
-use evaluator::{read, Answer, CELL, WORK};
+use evaluator::{read, Answer, WORK};
 use std::cell::{Cell, RefCell};
 
 /// What one side says and leaves.
@@ -84,9 +84,8 @@ impl<'a> Comparison<'a> {
         self.answered(book, call, length).map_err(|difference| (Question::Call(call, length), difference))
     }
 
-    /// Everything that is asked about a book; of a thorough one its whole run, however long. The first difference with its question,
-    /// or what was seen.
-    pub fn book(&self, book: &[u8], thorough: bool, random: &mut Random) -> Result<Seen, (Question, Difference)> {
+    /// Everything that is asked about a book. The first difference with its question, or what was seen.
+    pub fn book(&self, book: &[u8], random: &mut Random) -> Result<Seen, (Question, Difference)> {
         if random.once_in(16) {
             let length = *random.pick(&[0, 1, 8, WORK - 1, WORK + 1, WORK * 2]);
             self.call(book, Call::Check, length)?;
@@ -102,7 +101,7 @@ impl<'a> Comparison<'a> {
             // The evaluator gives no answer; asked, it fails.
             return self.call(book, Call::Run { limit: ENOUGH }, WORK).map(|run| Seen { check, run });
         };
-        for limit in course.limits(thorough, random) {
+        for limit in course.limits(random) {
             self.call(book, Call::Run { limit }, WORK)?;
         }
         if self.theory {
@@ -114,17 +113,15 @@ impl<'a> Comparison<'a> {
 
 /// Limits are tried up to this one; a run that ends within it is tried with the greatest limit too.
 const ENOUGH: u32 = 10_000;
-/// A run of more cells than this, those of each step's term added up, is long.
-const LONG: u64 = 20_000;
 /// A term of more cells than this is large.
 const LARGE: u64 = 1_000;
 
-/// How the evaluator runs an accepted book. An engine's step takes time by the cells of its term, so this decides which limits are asked.
+/// How the evaluator runs an accepted book.
 pub struct Course {
     pub answer: Answer,
     steps: u32,
     ends: bool,
-    /// About how many a term on the way has.
+    /// How many the root has.
     cells: u64,
 }
 
@@ -137,40 +134,22 @@ impl Course {
             Answer::Spent { steps } => (steps, false),
             _ => return None,
         };
-        let last = work.chunks(CELL).take_while(|cell| cell[0] != 0xF0).count() as u64;
-        let first = read(book).ok()?.size();
-        Some(Course { answer, steps, ends, cells: (first + last) / 2 + 1 })
+        Some(Course { answer, steps, ends, cells: read(book).ok()?.size() })
     }
 
-    /// The limits that are asked, each once: low ones, and those about the end and past it. Each of these is the whole run again, so of
-    /// them only as many as are not long together; of a long run one where the book is thorough and now and then elsewhere, else one that
-    /// costs little. Of large terms, which take long to check, one of each sort is asked.
-    fn limits(&self, thorough: bool, random: &mut Random) -> Vec<u32> {
-        let mut low = vec![0, 1, random.between(2, 12) as u32];
-        let mut whole = vec![self.steps.saturating_sub(1), self.steps, random.lower(self.steps as usize + 1) as u32];
-        whole.extend([2_046, 2_047, ENOUGH]);
-        if self.ends {
-            whole.push(u32::MAX);
+    /// The limits that are asked, each once: the lowest, those about the end and half of it, one of those between, and one far past it. A
+    /// large book takes long to check: of it the last two are not asked, and two in all where it takes no step.
+    fn limits(&self, random: &mut Random) -> Vec<u32> {
+        let far = if self.ends { *random.pick(&[ENOUGH, u32::MAX]) } else { ENOUGH + 1 };
+        let k = self.steps;
+        let mut limits = vec![0, 1, 2, 3, k / 2, k.saturating_sub(1), k, k + 1];
+        match k {
+            0 if self.cells > LARGE => limits = vec![random.lower(2) as u32, far],
+            _ if self.cells > LARGE => {}
+            _ => limits.extend([random.lower(k as usize + 1) as u32, far]),
         }
-        let mut times = (LONG / (u64::from(self.steps) * self.cells + 1)) as usize;
-        if times == 0 && !thorough && !random.once_in(32) {
-            whole = vec![random.lower((LONG / self.cells) as usize + 1) as u32];
-        }
-        if self.cells > LARGE {
-            thin(&mut low, 1, random);
-            times = 1;
-        }
-        thin(&mut whole, times.max(1), random);
-        low.extend(whole);
-        low.sort_unstable();
-        low.dedup();
-        low
-    }
-}
-
-/// At most so many of them, at random.
-fn thin(limits: &mut Vec<u32>, count: usize, random: &mut Random) {
-    while limits.len() > count {
-        limits.swap_remove(random.lower(limits.len()));
+        limits.sort_unstable();
+        limits.dedup();
+        limits
     }
 }

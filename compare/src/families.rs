@@ -1,6 +1,8 @@
 //! The books that are compared, in families.
 
 use crate::cells::{lay, Cell, Cells, Sharing, Sort, KINDS};
+use crate::contexts;
+use crate::deepest::deepest;
 use crate::extremes::extremes;
 use crate::maker::{Maker, Taste, EVEN, LABELS};
 use crate::random::Random;
@@ -40,6 +42,7 @@ pub fn families() -> Vec<Family> {
     vec![
         whole("samples", || samples().into_iter().map(|sample| sample.book).chain(kept_books().into_values()).collect()),
         whole("extremes", extremes),
+        whole("deepest", || deepest().into_iter().map(|deep| deep.book).collect()),
         whole("every byte", every_byte),
         whole("cut short", cut_short),
         random("merges", 12, |r| typed(r, Taste { merge: 8, intersection: 6, ..EVEN }, 30)),
@@ -51,6 +54,11 @@ pub fn families() -> Vec<Family> {
         random("fixpoints", 6, |r| typed(r, Taste { fixpoint: 6, application: 5, function: 4, ..EVEN }, 20)),
         random("growing", 2, growing),
         random("ignored arguments", 4, ignored_arguments),
+        random("contexts", 12, contexts::contexts),
+        random("retyped functions", 4, contexts::retyped_functions),
+        random("many parts", 4, contexts::many_parts),
+        random("unfoldings", 4, contexts::unfoldings),
+        random("room within", 1, contexts::room_within),
         random("large", 4, |r| typed(r, EVEN, 150)),
         random("near misses", 16, near_misses),
         random("shared and opened", 6, shared_and_opened),

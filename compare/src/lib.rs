@@ -2,6 +2,8 @@
 
 pub mod cells;
 pub mod comparing;
+pub mod contexts;
+pub mod deepest;
 pub mod engines;
 pub mod extremes;
 pub mod families;
@@ -10,4 +12,5 @@ pub mod random;
 pub mod reporting;
 pub mod samples;
 pub mod shrinking;
+pub mod stack;
 pub mod theory;

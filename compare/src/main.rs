@@ -23,6 +23,8 @@ use std::time::Instant;
 /// The random books of a comparison, and of each fault's search, unless told otherwise.
 const COUNT: usize = 100_000;
 const SELF_TEST_COUNT: usize = 6_000;
+/// A fault is not searched in books of so many bytes, but for random ones.
+const LARGE: usize = 8_192;
 /// A comparison stops after so many failed books.
 const FAILURES: usize = 3;
 /// Families, and faults, are taken side by side by so many.
@@ -99,7 +101,7 @@ fn side_by_side<T: Send>(items: Vec<T>, work: impl Fn(T) + Sync) {
 fn compare(options: &Options) -> bool {
     let count = options.count.unwrap_or(COUNT);
     let name = engine().name();
-    println!("evaluator against {name}, seed {}, {count} random books; limits of long runs are asked by turns", options.seed);
+    println!("evaluator against {name}, seed {}, {count} random books", options.seed);
     let failed = AtomicUsize::new(on_large_stack(stated_samples));
     let (passed, books) = (AtomicUsize::new(0), AtomicUsize::new(0));
     println!("{}", Figures::HEAD);
@@ -131,7 +133,7 @@ fn one_family(family: &Family, seed: u64, count: usize, failed: &AtomicUsize) ->
             break;
         }
         let mut random = Random::of(seed, "limits", place as u64);
-        match comparison.book(&book, family.share == 0, &mut random) {
+        match comparison.book(&book, &mut random) {
             Ok(seen) => figures.enter(seen),
             Err((question, difference)) => {
                 failed.fetch_add(1, Relaxed);
@@ -198,9 +200,10 @@ fn found_in(fault: Fault, seed: u64, count: usize) -> Option<String> {
     let mut smallest: Option<(Vec<u8>, Question)> = None;
     for family in families() {
         let count = share(family.share.max(1), count);
-        for (place, book) in family.books(seed, count).take(count.max(500)).enumerate() {
+        let asked = family.books(seed, count).filter(|book| family.share > 0 || book.len() < LARGE);
+        for (place, book) in asked.take(count.max(500)).enumerate() {
             let mut random = Random::of(seed, "limits", place as u64);
-            let Err((question, _)) = comparison.book(&book, family.share == 0, &mut random) else { continue };
+            let Err((question, _)) = comparison.book(&book, &mut random) else { continue };
             let _ = write!(finders, " {} ({place})", family.name);
             if smallest.as_ref().is_none_or(|(smallest, _)| book.len() < smallest.len()) {
                 smallest = Some((book, question));

@@ -46,10 +46,10 @@ fn evaluate(root: Term, limit: u32) -> (Answer, Term) {
     let mut journey = Journey::from(root);
     let mut steps = 0;
     let stop = loop {
-        if journey.is_value() {
+        if journey.is_value() && !(planted(Fault::SpentBeforeValue) && steps == limit) {
             break Answer::Value { steps };
         }
-        if steps == limit {
+        if steps == limit && !planted(Fault::SpentAfterStep) && !planted(Fault::RoomBeforeSpent) {
             break Answer::Spent { steps };
         }
         let mut next = journey.next();
@@ -57,11 +57,18 @@ fn evaluate(root: Term, limit: u32) -> (Answer, Term) {
             panic!("an accepted book reached a term with {} successors: {}", next.len(), journey.whole());
         }
         let next = next.remove(0);
-        if next.1 > room {
+        if journey.asked(&next) > room {
             break Answer::Room { steps };
         }
+        if steps == limit && planted(Fault::RoomBeforeSpent) {
+            break Answer::Spent { steps };
+        }
+        let depth = journey.depth();
         journey.go(next);
-        steps += 1;
+        steps += if planted(Fault::DescentCounted) && journey.depth() > depth { 2 } else { 1 };
+        if steps >= limit && planted(Fault::SpentAfterStep) {
+            break Answer::Spent { steps };
+        }
     };
     (stop, journey.whole())
 }

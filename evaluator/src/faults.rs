@@ -20,10 +20,42 @@ pub enum Fault {
     DisjointByInputs,
     /// A top-like function type answered with a function.
     TopLikeFunctionKept,
+    /// A function read under a function type keeps its own output type.
+    OutputKept,
+    /// A function read under a function type takes its input type too.
+    InputTaken,
+    /// A term annotated with a top-like type becomes the top value before its inside is a value.
+    TopLikeUnread,
+    /// The top value applied becomes the top value before the argument is a value.
+    TopAppliedEarly,
+    /// The right of an application or merge stepped before the left is a value.
+    RightPartFirst,
+    /// A fixpoint's body, itself put in, not annotated.
+    FixpointBare,
+    /// Going into a part that was made by a step counted as a step.
+    DescentCounted,
+    /// Spent although the term is a value, when exactly the limit has been taken.
+    SpentBeforeValue,
+    /// Whether the limit has been taken asked only after a step.
+    SpentAfterStep,
+    /// No room although exactly the limit has been taken.
+    RoomBeforeSpent,
+    /// Room for the part that steps alone, without what is around it.
+    RoomOfPart,
+    /// Room without the values that are left of the part that steps.
+    RoomWithoutLeft,
+    /// Room without what comes right of the part that steps.
+    RoomWithoutRight,
+    /// Room without those values but the nearest.
+    RoomWithNearestLeft,
+    /// Room still at size 4,096 where there is something left of the part that steps and something right of it.
+    RoomOneLateBetween,
+    /// Room asked for an argument's reading also where the body does not use it.
+    RoomForUnused,
 }
 
 impl Fault {
-    pub const ALL: [Fault; 8] = [
+    pub const ALL: [Fault; 24] = [
         Fault::CovariantInputs,
         Fault::ArgumentUnread,
         Fault::RoomOneEarly,
@@ -32,6 +64,22 @@ impl Fault {
         Fault::DisjointByLeftHalf,
         Fault::DisjointByInputs,
         Fault::TopLikeFunctionKept,
+        Fault::OutputKept,
+        Fault::InputTaken,
+        Fault::TopLikeUnread,
+        Fault::TopAppliedEarly,
+        Fault::RightPartFirst,
+        Fault::FixpointBare,
+        Fault::DescentCounted,
+        Fault::SpentBeforeValue,
+        Fault::SpentAfterStep,
+        Fault::RoomBeforeSpent,
+        Fault::RoomOfPart,
+        Fault::RoomWithoutLeft,
+        Fault::RoomWithoutRight,
+        Fault::RoomWithNearestLeft,
+        Fault::RoomOneLateBetween,
+        Fault::RoomForUnused,
     ];
 }
 

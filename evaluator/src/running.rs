@@ -1,6 +1,6 @@
 //! Readings and steps, with both halves of every merge open.
 
-use crate::faults::{planted, Fault};
+use crate::faults::{current, planted, Fault};
 use crate::terms::{Term, TermShape, Type, TypeShape};
 use crate::typing::{below, top_like};
 
@@ -33,9 +33,11 @@ pub fn readings(v: &Term, under: &Type) -> Vec<Term> {
         // "Otherwise a number under Int is itself"
         (TermShape::Number(_), TypeShape::Int) => vec![v.clone()],
         // "a function under a function type above its own keeps body and input and takes the new output type"
-        (TermShape::Function(body, input, output), TypeShape::Function(_, new_output)) => {
+        (TermShape::Function(body, input, output), TypeShape::Function(new_input, new_output)) => {
             if below(&Type::function(input.clone(), output.clone()), under) {
-                vec![Term::function(body.clone(), input.clone(), new_output.clone())]
+                let output = if planted(Fault::OutputKept) { output } else { new_output };
+                let input = if planted(Fault::InputTaken) { new_input } else { input };
+                vec![Term::function(body.clone(), input.clone(), output.clone())]
             } else {
                 vec![]
             }
@@ -101,12 +103,31 @@ impl Frame {
             Frame::Read(l) => Term::read(*l, part),
         }
     }
+
+    /// The size of what it has left of the part, and of the term right of it.
+    fn left(&self) -> u64 {
+        match self {
+            Frame::ApplicationRight(left) | Frame::MergeRight(left) => left.size(),
+            _ => 0,
+        }
+    }
+
+    fn right(&self) -> u64 {
+        match self {
+            Frame::ApplicationLeft(right) | Frame::MergeLeft(right) => right.size(),
+            _ => 0,
+        }
+    }
 }
 
 /// "Steps go leftmost first, never under a binder: the left of an application or merge until it is a value, then the right; the
 /// inside of an annotation, record or field read." The part whose step is the term's, and the rest; None if the term steps itself.
 fn active(e: &Term) -> Option<(Frame, &Term)> {
     let (frame, part) = match e.shape() {
+        TermShape::Application(a, b) if planted(Fault::RightPartFirst) && !b.is_value() => (Frame::ApplicationRight(a.clone()), b),
+        TermShape::Merge(a, b) if planted(Fault::RightPartFirst) && !b.is_value() => (Frame::MergeRight(a.clone()), b),
+        TermShape::Application(a, _) if planted(Fault::TopAppliedEarly) && matches!(a.shape(), TermShape::Top) => return None,
+        TermShape::Annotation(_, t) if planted(Fault::TopLikeUnread) && matches!(t.shape(), TypeShape::Top) => return None,
         TermShape::Application(a, b) if !a.is_value() => (Frame::ApplicationLeft(b.clone()), a),
         TermShape::Application(a, b) => (Frame::ApplicationRight(a.clone()), b),
         TermShape::Merge(a, b) if !a.is_value() => (Frame::MergeLeft(b.clone()), a),
@@ -141,6 +162,7 @@ fn contract(e: &Term) -> Vec<Term> {
             _ => vec![],
         },
         // "A fixpoint becomes its body with itself put in, annotated with its type."
+        TermShape::Fixpoint(body, _) if planted(Fault::FixpointBare) => vec![put(body, 0, e)],
         TermShape::Fixpoint(body, t) => vec![Term::annotation(put(body, 0, e), t.clone())],
         TermShape::Variable(_) | TermShape::Number(_) | TermShape::Top | TermShape::Function(..) => vec![],
         TermShape::Merge(..) | TermShape::Record(..) => vec![],
@@ -152,6 +174,15 @@ pub fn successors(e: &Term) -> Vec<Term> {
     match active(e) {
         Some((frame, part)) => successors(part).into_iter().map(|part| frame.fill(part)).collect(),
         None => contract(e),
+    }
+}
+
+/// The size of an argument's reading that the body does not use.
+fn unused(e: &Term) -> u64 {
+    let TermShape::Application(f, v) = e.shape() else { return 0 };
+    match f.shape() {
+        TermShape::Function(body, input, _) if body.is_closed() => readings(v, input).iter().map(Term::size).sum(),
+        _ => 0,
     }
 }
 
@@ -196,6 +227,26 @@ impl Journey {
     pub fn next(&self) -> Vec<(Term, u64)> {
         let around = self.size - self.part.size();
         contract(&self.part).into_iter().map(|part| (part.clone(), around + part.size())).collect()
+    }
+
+    /// The size that room is asked for with one of those: that of the whole, unless a fault is planted.
+    pub fn asked(&self, (part, size): &(Term, u64)) -> u64 {
+        let sizes = |side: fn(&Frame) -> u64| self.frames.iter().rev().map(side).filter(|&size| size > 0);
+        match current() {
+            None => *size,
+            Some(Fault::RoomOfPart) => part.size(),
+            Some(Fault::RoomWithoutLeft) => size - sizes(Frame::left).sum::<u64>(),
+            Some(Fault::RoomWithNearestLeft) => size - sizes(Frame::left).skip(1).sum::<u64>(),
+            Some(Fault::RoomWithoutRight) => size - sizes(Frame::right).sum::<u64>(),
+            Some(Fault::RoomOneLateBetween) => size - sizes(Frame::left).zip(sizes(Frame::right)).count().min(1) as u64,
+            Some(Fault::RoomForUnused) => size + unused(&self.part),
+            Some(_) => *size,
+        }
+    }
+
+    /// How many frames there are.
+    pub fn depth(&self) -> usize {
+        self.frames.len()
     }
 
     /// Takes the step to one of those.

@@ -1,8 +1,9 @@
 //! Checks and runs folder books.
 //!
 //! A book is a small typed program in bytes; document 01 gives its format and what every answer means. Both calls are lent the book
-//! to read and a work buffer of [`WORK`] bytes to write, and use no other memory. Their answer, and every byte that they leave in
-//! the work buffer, depend on the book and the limit alone. They never panic.
+//! to read and a work buffer of [`WORK`] bytes to write, and write nothing else but their thread's stack, of which [`STACK`] bytes
+//! suffice. Their answer, and every byte that they leave in the work buffer, depend on the book and the limit alone. They never
+//! panic.
 //!
 //! # Example
 //!
@@ -37,6 +38,10 @@
 
 /// The length that a work buffer must have; any other is refusal 1.
 pub const WORK: usize = 65_536;
+
+/// The bytes of stack that suffice for a call, whatever the book: at least a quarter more than the deepest books of every shape were
+/// measured to take.
+pub const STACK: usize = 1_110_016;
 
 /// What a call says of a book.
 #[derive(Clone, Copy, PartialEq, Eq, Debug)]

@@ -1,5 +1,5 @@
-//! The header, the wrapper's own declarations and the engine's exported functions say the same: names, parameters and results.
-//! Nothing else compares them.
+//! The header, the wrapper's own declarations and the engine's exported functions say the same: names, parameters and results; and the
+//! header and the wrapper, the lengths. Nothing else compares them.
 
 use std::collections::BTreeMap;
 use std::fs;
@@ -88,6 +88,17 @@ fn the_header_and_the_wrapper_agree() {
     let (_, block) = source.split_once("extern \"C\" {").expect("the declarations");
     let (block, _) = block.split_once('}').expect("their end");
     assert_eq!(header(), declared_after("fn ", block));
+}
+
+#[test]
+fn the_header_and_the_wrapper_have_the_same_lengths() {
+    let header = read("cerealbank.h").expect("the header");
+    let defined = |name: &str| {
+        let value = header.lines().find_map(|line| line.strip_prefix("#define ")?.strip_prefix(name)?.strip_prefix(' '));
+        value.expect("a definition").parse::<usize>().expect("a number")
+    };
+    assert_eq!(defined("CEREALBANK_WORK"), cerealbank::WORK);
+    assert_eq!(defined("CEREALBANK_STACK"), cerealbank::STACK);
 }
 
 #[test]

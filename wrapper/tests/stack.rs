@@ -1,59 +1,52 @@
-//! The deepest books, checked and run in a thread of 2 MiB of stack: an engine that takes more of it ends the test's process.
+//! The deepest and the widest books take no more stack than the wrapper and the header promise.
 
 #![cfg(not(library_missing))]
 
-use cerealbank::{check, run, Answer, WORK};
-use std::thread;
+use cerealbank::{check, run, Answer, STACK, WORK};
+use compare::deepest::{deepest, Deep};
+use compare::extremes::extremes;
+use compare::stack::{in_stack, taken};
+use evaluator::on_large_stack;
 
-const TOP: [u8; 8] = [2, 0, 0, 0, 0, 0, 0, 0];
-const TOP_VALUE: [u8; 8] = [18, 0, 0, 0, 0, 0, 0, 0];
+const LIMITS: [u32; 6] = [0, 1, 2, 3, 10, 10_000];
+/// Every book fits a thread with so much stack, of which the thread itself takes a little; so many that take most are run in one.
+const THREAD: usize = 1 << 20;
+const ITSELF: usize = 16 << 10;
+const MOST: usize = 100;
+/// Far more than any engine takes, to measure one that takes too much.
+const AMPLE: usize = 16 << 20;
 
-/// So many cells, each above the first using the one before it.
-fn chain(first: &[[u8; 8]], count: u16, next: impl Fn([u8; 2]) -> [u8; 8]) -> Vec<u8> {
-    let mut book = first.concat();
-    for cell in first.len() as u16..count {
-        book.extend(next((cell - 1).to_le_bytes()));
+fn books() -> Vec<Deep> {
+    let others = extremes().into_iter().enumerate();
+    let named = |(n, book): (usize, Vec<u8>)| Deep { group: "extremes", name: n.to_string(), book };
+    deepest().into_iter().chain(others.map(named)).collect()
+}
+
+/// The limits in turn, until the run has ended: with higher ones it is the same.
+fn check_and_run(book: &[u8]) {
+    let mut work = vec![0; WORK];
+    if !matches!(check(book, &mut work), Answer::Accepted { .. }) {
+        return;
     }
-    let ([c, d], [r, s]) = (count.to_le_bytes(), (count - 1).to_le_bytes());
-    book.extend([0xF0, 1, c, d, r, s, 0, 0]);
-    book
-}
-
-fn in_2_mebibytes(book: Vec<u8>, steps: u32) {
-    let asked = move || {
-        let mut work = vec![0; WORK];
-        assert!(matches!(check(&book, &mut work), Answer::Accepted { .. }));
-        assert_eq!(run(&book, &mut work, u32::MAX), Answer::Value { steps });
-    };
-    thread::Builder::new().stack_size(2 << 20).spawn(asked).expect("a thread").join().expect("no difference");
+    for limit in LIMITS {
+        match run(book, &mut work, limit) {
+            Answer::Spent { steps } => assert_eq!(steps, limit),
+            Answer::Value { steps } | Answer::Room { steps } => return assert!(steps <= limit),
+            other => panic!("{other:?}"),
+        }
+    }
 }
 
 #[test]
-fn records() {
-    in_2_mebibytes(chain(&[TOP_VALUE], 4_095, |[a, b]| [24, 8, a, b, 0, 0, 0, 0]), 0);
-}
-
-#[test]
-fn field_reads() {
-    in_2_mebibytes(chain(&[TOP_VALUE], 4_095, |[a, b]| [25, 8, a, b, 0, 0, 0, 0]), 4_094);
-}
-
-#[test]
-fn annotations() {
-    in_2_mebibytes(chain(&[TOP, TOP_VALUE], 2_049, |[a, b]| [19, 0, a, b, 0, 0, 0, 0]), 2_047);
-}
-
-#[test]
-fn applications() {
-    in_2_mebibytes(chain(&[TOP, TOP_VALUE], 2_049, |[a, b]| [20, 0, a, b, 1, 0, 0, 0]), 2_047);
-}
-
-#[test]
-fn merges() {
-    in_2_mebibytes(chain(&[TOP, TOP_VALUE], 2_049, |[a, b]| [22, 0, a, b, 1, 0, 0, 0]), 0);
-}
-
-#[test]
-fn functions() {
-    in_2_mebibytes(chain(&[TOP, TOP_VALUE], 1_366, |[a, b]| [21, 0, a, b, 0, 0, 0, 0]), 0);
+fn every_book_runs_in_a_mebibyte_and_in_four_fifths_of_the_stack_promised() {
+    let books = on_large_stack(books);
+    let bytes = taken(AMPLE, &books, |deep| check_and_run(&deep.book));
+    let mut all: Vec<(usize, &Deep)> = bytes.into_iter().zip(&books).collect();
+    all.sort_by_key(|(bytes, _)| std::cmp::Reverse(*bytes));
+    println!("{} bytes at most, of {} books", all[0].0, all.len());
+    let allowed = (THREAD - ITSELF).min(STACK / 5 * 4);
+    let over = all.iter().filter(|(bytes, _)| *bytes > allowed);
+    let over: Vec<String> = over.map(|(bytes, deep)| format!("{bytes} bytes: {}, {}", deep.group, deep.name)).collect();
+    assert!(over.is_empty(), "{} of {} books take more than {allowed}:\n{}", over.len(), all.len(), over.join("\n"));
+    in_stack(THREAD, || all.iter().take(MOST).for_each(|(_, deep)| check_and_run(&deep.book)));
 }

@@ -70,7 +70,6 @@ fn mark_ok(t: &[u8]) -> bool
 }
 
 // 4: the count and the root.
-// A size as a number.
 fn counted_ok(t: &[u8], n: usize) -> bool
     requires { ⌜ length (now t) ≡ 8 ⌝ }
     ensures { λ r. ⌜ r ≡ countedOk (now (t .entry)) n ⌝ }

@@ -8,7 +8,7 @@ use lib.IntN.{ℤ}
 use lib.ListN.{length, take}
 use Rattle.calculus.specs.Syntax.{Ty, int, top, arrow, inter, field}
 use Rattle.calculus.specs.Syntax.{Term, var, lit, unit, anno, app, lam, merge, fix, rcd, proj}
-use Rattle.calculus.specs.Decide.{topLike?, value?}
+use Rattle.calculus.specs.Decide.{topLike?}
 use Rattle.format.specs.Cell.{cellAt, half, signed}
 
 -- Cell i of s lies within it and has these fields.
@@ -19,10 +19,6 @@ pub record IsCell (s : List ℕ) (i k l a b c : ℕ) : Type 0 where
 -- 1 of a top-like type, else 0
 abbrev pub mark : Ty → ℕ
 mark A = cond (topLike? A) 1 0
-
--- 1 of a value, else 0
-abbrev pub valueMark : Term → ℕ
-valueMark e = cond (value? e) 1 0
 
 -- Cell i holds the type, sharing opened; references go down.
 pub data HoldsType (s : List ℕ) : ℕ → Ty → Type 0 where

@@ -22,7 +22,7 @@ use Rattle.emission.specs.Emits.{labelBy, Space, Emits, LastReady, Finis
 use Rattle.emission.specs.declared.Laid.{Laid}
 use Rattle.emission.specs.declared.Laid.the-variants.{Next, Full}
 
-behind : (x y l : List ℕ) {k : List ℕ} (i : ℕ) {j : ℕ} → k ≡ sets l i x → j ≡ i + length x → sets k j y ≡ sets l i (x ++ y)
+pub behind : (x y l : List ℕ) {k : List ℕ} (i : ℕ) {j : ℕ} → k ≡ sets l i x → j ≡ i + length x → sets k j y ≡ sets l i (x ++ y)
 behind x y l i e f = rw (e, f) (sym (sets-append x y l i))
 
 -- A tree that stands from cell m on; x is the next free cell.
@@ -65,7 +65,7 @@ pub placed-length : {d e : List ℕ} {m x : ℕ} {t : Tree} → Placed d e m x t
 placed-length {d} {m = m} {t = t} p = ap length (p .bytes) ∙ length-sets d (8 * m) (lay m t)
 
 pub placed-space : {d e : List ℕ} {m x : ℕ} {t : Tree} → Space d m → Placed d e m x t → Space e x
-placed-space s p = record { long = placed-length p ∙ s .long; used = p .fits }
+placed-space s p = record { long = omega (arith, placed-length p, s .long); used = p .fits }
 
 -- ---- what stands in a field for a tree
 

@@ -51,15 +51,3 @@ unfolding cells
 field-stands f-unused = s-unused
 field-stands f-plain = s-plain
 field-stands {t = t} (f-refers l p e q f g h) = s-refers {t = t} (omega arith)
-
-pub ready-type : {s d : List ℕ} {i m : ℕ} {A : Ty} → Space d m → HoldsType s i A → FieldReady s d 2 i m
-ready-type {i = i} p h = record { space = p; cell = suc i; tree = _; holds = type-field h (omega arith) }
-
-pub ready-term : {s d : List ℕ} {i m : ℕ} {e : Term} → IsBytes s → Space d m → HoldsTerm s i e → FieldReady s d 3 i m
-ready-term {i = i} y p h = record { space = p; cell = suc i; tree = _; holds = term-field y h (omega arith) }
-
-pub emits-type : {s d e : List ℕ} {i m : ℕ} {r : Laid} {A : Ty} → EmitsField s d e 2 i m r → HoldsType s i A → Emits d e m r (fromType A)
-emits-type {i = i} p h = p .says (suc i) _ (type-field h (omega arith))
-
-pub emits-term : {s d e : List ℕ} {i m : ℕ} {r : Laid} {x : Term} → IsBytes s → EmitsField s d e 3 i m r → HoldsTerm s i x → Emits d e m r (fromTerm x)
-emits-term {i = i} y p h = p .says (suc i) _ (term-field y h (omega arith))

@@ -80,73 +80,54 @@ parts {q} {s} {x} {i} {e} {k} {m} {o} {f} {g} {h} {r} (r-refers {y = y} {z = z} 
     subst (Parts q s x i e k m f g h) j (record { l = l; a = a′; b = b′; c = c′; y = y; z = z; cell = p; label = n; first = a; second = b; third = c; last = d; mark = t })
 
 -- a run's last cell is what refers to it
-below : {s : List ℕ} {x n i e : ℕ} {o : Sort} {t : Tree} → Run true s x (refers o) n t e → e ≤ i → n < i
+pub below : {s : List ℕ} {x n i e : ℕ} {o : Sort} {t : Tree} → Run true s x (refers o) n t e → e ≤ i → n < i
 below (r-refers p w n a b c d _) l = omega (arith, d, l)
 
-marked : {k c : ℕ} {t : Tree} (A : Ty) → Marked true k c t → k < 16 → t ≡ fromType A → c ≡ mark A
-marked A m l e = m l ∙ ap mark (ap toType e ∙ type-back A)
+-- a part that is referred to lies below the cell
+module _ {s : List ℕ} {x i e k m : ℕ} {f g h : Tree} {r : Row} {o : Sort} (p : Parts true s x i e k m f g h r) where
+  low-first : r .a ≡ refers o → p .a < i
+  low-first d = below (rw d at (p .first)) (omega (arith, grows (p .second), grows (p .third)))
 
-field-held : {s : List ℕ} {i k l a b c : ℕ} {A : Ty} → k ≡ l → IsCell s i 5 l a b c → c ≡ mark (field k A) → a < i → HoldsType s a A → HoldsType s i (field k A)
-field-held e p m l h = h-field (rw (sym e) at p) m l h
+  low-second : r .b ≡ refers o → p .b < i
+  low-second d = below (rw d at (p .second)) (grows (p .third))
 
-rcd-held : {s : List ℕ} {i k l a b c : ℕ} {e : Term} → k ≡ l → IsCell s i 24 l a b c → a < i → HoldsTerm s a e → HoldsTerm s i (rcd k e)
-rcd-held e p l h = h-rcd (rw (sym e) at p) l h
+  low-third : r .c ≡ refers o → p .c < i
+  low-third d = below (rw d at (p .third)) (omega arith)
 
-proj-held : {s : List ℕ} {i k l a b c : ℕ} {e : Term} → k ≡ l → IsCell s i 25 l a b c → a < i → HoldsTerm s a e → HoldsTerm s i (proj k e)
-proj-held e p l h = h-proj (rw (sym e) at p) l h
+-- a type's cell says whether the type is top-like
+marked : {s : List ℕ} {x i e k m : ℕ} {f g h : Tree} {r : Row} (A : Ty) (p : Parts true s x i e k m f g h r) → k < 16 → node k m f g h ≡ fromType A → p .c ≡ mark A
+marked A p l e = p .mark l ∙ ap mark (ap toType e ∙ type-back A)
 
-plain-is : {s : List ℕ} {x n m e : ℕ} → Run true s x plain n (raw m) e → n ≡ m
+-- the cell of a kind that has a label
+labelled : {s : List ℕ} {i n k l a b c : ℕ} → k ≡ l → IsCell s i n l a b c → IsCell s i n k a b c
+labelled e p = rw e p
+
+pub plain-is : {s : List ℕ} {x n m e : ℕ} → Run true s x plain n (raw m) e → n ≡ m
 plain-is r-plain = refl
-
-var-held : {s : List ℕ} {i l n a b c : ℕ} → n ≡ a → IsCell s i 16 l a b c → HoldsTerm s i (var n)
-var-held e p = rw e (h-var p)
 
 pub run-type : {s : List ℕ} {x i e : ℕ} {o : Sort} → (A : Ty) → Run true s x (refers o) i (fromType A) e → HoldsType s i A
 unfolding fromType table rowIn rowOf
-run-type int t = let p = parts t refl in h-int (p .cell) (marked (int) (p .mark) (omega arith) refl)
-run-type top t = let p = parts t refl in h-top (p .cell) (marked (top) (p .mark) (omega arith) refl)
+run-type int t = let p = parts t refl in h-int (p .cell) (marked int p (omega arith) refl)
+run-type top t = let p = parts t refl in h-top (p .cell) (marked top p (omega arith) refl)
 run-type (arrow A B) t =
     let p = parts t refl in
-    let g = grows (p .first) in
-    let h = grows (p .second) in
-    let d = p .last in
-    let n = grows (p .third) in
-    h-arrow
-    (p .cell)
-    (marked (arrow A B) (p .mark) (omega arith) refl)
-    (below (p .first) (omega (arith, h, n)))
-    (below (p .second) n)
-    (run-type A (p .first))
-    (run-type B (p .second))
+    let m = marked (arrow A B) p (omega arith) refl in
+    h-arrow (p .cell) m (low-first p refl) (low-second p refl) (run-type A (p .first)) (run-type B (p .second))
 run-type (inter A B) t =
     let p = parts t refl in
-    let g = grows (p .first) in
-    let h = grows (p .second) in
-    let d = p .last in
-    let n = grows (p .third) in
-    h-inter
-    (p .cell)
-    (marked (inter A B) (p .mark) (omega arith) refl)
-    (below (p .first) (omega (arith, h, n)))
-    (below (p .second) n)
-    (run-type A (p .first))
-    (run-type B (p .second))
+    let m = marked (inter A B) p (omega arith) refl in
+    h-inter (p .cell) m (low-first p refl) (low-second p refl) (run-type A (p .first)) (run-type B (p .second))
 run-type (field k A) t =
     let p = parts t refl in
-    let h = grows (p .second) in
-    let d = p .last in
-    let n = grows (p .third) in
-    field-held
-    (p .label)
-    (p .cell)
-    (marked (field k A) (p .mark) (omega arith) refl)
-    (below (p .first) (omega (arith, h, n)))
-    (run-type A (p .first))
+    let m = marked (field k A) p (omega arith) refl in
+    h-field (labelled (p .label) (p .cell)) m (low-first p refl) (run-type A (p .first))
 
 pub run-term : {s : List ℕ} {x i e : ℕ} {o : Sort} → (t : Term) → TermFits t → Run true s x (refers o) i (fromTerm t) e
     → HoldsTerm s i t
 unfolding fromTerm table rowIn rowOf
-run-term (var n) f t = let p = parts t refl in var-held (sym (plain-is (p .first))) (p .cell)
+run-term {s} {i = i} (var n) f t =
+    let p = parts t refl in
+    subst (λ (j : ℕ). HoldsTerm s i (var j)) (plain-is (p .first)) (h-var (p .cell))
 run-term (lit z) f t =
     let p = parts t refl in
     let b = plain-is (p .second) in
@@ -155,78 +136,26 @@ run-term (lit z) f t =
 run-term unit f t = let p = parts t refl in h-unit (p .cell)
 run-term (anno a A) f t =
     let p = parts t refl in
-    let g = grows (p .first) in
-    let h = grows (p .second) in
-    let d = p .last in
-    let n = grows (p .third) in
-    h-anno
-    (p .cell)
-    (below (p .first) (omega (arith, h, n)))
-    (below (p .second) n)
-    (run-term a (f .0) (p .first))
-    (run-type A (p .second))
+    h-anno (p .cell) (low-first p refl) (low-second p refl) (run-term a (f .0) (p .first)) (run-type A (p .second))
 run-term (app a b) f t =
     let p = parts t refl in
-    let g = grows (p .first) in
-    let h = grows (p .second) in
-    let d = p .last in
-    let n = grows (p .third) in
-    h-app
-    (p .cell)
-    (below (p .first) (omega (arith, h, n)))
-    (below (p .second) n)
-    (run-term a (f .0) (p .first))
-    (run-term b (f .1) (p .second))
+    h-app (p .cell) (low-first p refl) (low-second p refl) (run-term a (f .0) (p .first)) (run-term b (f .1) (p .second))
 run-term (lam a A B) f t =
     let p = parts t refl in
-    let g = grows (p .first) in
-    let h = grows (p .second) in
-    let d = p .last in
-    let n = grows (p .third) in
-    h-lam
-    (p .cell)
-    (below (p .first) (omega (arith, h, n)))
-    (below (p .second) n)
-    (below (p .third) (omega arith))
-    (run-term a (f .0) (p .first))
-    (run-type A (p .second))
-    (run-type B (p .third))
+    let low = low-third p refl in
+    h-lam (p .cell) (low-first p refl) (low-second p refl) low (run-term a (f .0) (p .first)) (run-type A (p .second)) (run-type B (p .third))
 run-term (rcd k a) f t =
     let p = parts t refl in
-    let h = grows (p .second) in
-    let d = p .last in
-    let n = grows (p .third) in
-    rcd-held (p .label) (p .cell) (below (p .first) (omega (arith, h, n))) (run-term a (f .1) (p .first))
+    h-rcd (labelled (p .label) (p .cell)) (low-first p refl) (run-term a (f .1) (p .first))
 run-term (fix a A) f t =
     let p = parts t refl in
-    let g = grows (p .first) in
-    let h = grows (p .second) in
-    let d = p .last in
-    let n = grows (p .third) in
-    h-fix
-    (p .cell)
-    (below (p .first) (omega (arith, h, n)))
-    (below (p .second) n)
-    (run-term a (f .0) (p .first))
-    (run-type A (p .second))
+    h-fix (p .cell) (low-first p refl) (low-second p refl) (run-term a (f .0) (p .first)) (run-type A (p .second))
 run-term (merge a b) f t =
     let p = parts t refl in
-    let g = grows (p .first) in
-    let h = grows (p .second) in
-    let d = p .last in
-    let n = grows (p .third) in
-    h-merge
-    (p .cell)
-    (below (p .first) (omega (arith, h, n)))
-    (below (p .second) n)
-    (run-term a (f .0) (p .first))
-    (run-term b (f .1) (p .second))
+    h-merge (p .cell) (low-first p refl) (low-second p refl) (run-term a (f .0) (p .first)) (run-term b (f .1) (p .second))
 run-term (proj k a) f t =
     let p = parts t refl in
-    let h = grows (p .second) in
-    let d = p .last in
-    let n = grows (p .third) in
-    proj-held (p .label) (p .cell) (below (p .first) (omega (arith, h, n))) (run-term a (f .1) (p .first))
+    h-proj (labelled (p .label) (p .cell)) (low-first p refl) (run-term a (f .1) (p .first))
 
 pub holds-type : {s : List ℕ} {i : ℕ} {A : Ty} → RunsType s i A → HoldsType s i A
 holds-type {A = A} r = run-type A (r .run)

@@ -1,8 +1,10 @@
 -- Emitting a held tree into another buffer, as far as there is room: children first, root last. Assumes nothing.
 use Prim.Native.Nat.{ℕ, _+_, _*_, _-_, _≤_, _<_}
 use mathlib.Core.Path.{_≡_}
+use mathlib.Core.Bool.{Bool, true, false}
 use mathlib.Core.List.{List}
 use mathlib.Core.Option.{some}
+use lib.Dec.{eqb}
 use lib.ListN.{length}
 use lib.Seq.{sets}
 use Rattle.format.specs.Table.{Sort, Use, unused, plain, refers, Row, rowOf}
@@ -32,7 +34,7 @@ pub data HeldField (s : List ℕ) : ℕ → Use → ℕ → Tree → Type 0 wher
 
 -- A buffer to emit into, of which m cells are used.
 pub record Space (d : List ℕ) (m : ℕ) : Type 0 where
-  pub long : length d ≡ 65536
+  pub long : 32768 ≤ length d
   pub used : m ≤ sizeLimit
 
 -- The tree stands in the buffer from cell m on, and the answer is the next free cell; or it would pass 4,095 cells. In that case nothing
@@ -41,9 +43,21 @@ pub record Emits (d e : List ℕ) (m : ℕ) (r : Laid) (t : Tree) : Type 0 where
   pub fits : m + cells t ≤ sizeLimit → (r ≡ Next (m + cells t)) × (e ≡ sets d (8 * m) (lay m t))
   pub full : sizeLimit < m + cells t → r ≡ Full
 
+abbrev pickLaid : Bool → ℕ → Laid
+pickLaid true n = Full
+pickLaid false n = Next n
+
+-- An answer as a number: 4,096 for no room, else the next free cell.
+abbrev pub laidOf : ℕ → Laid
+laidOf n = pickLaid (eqb n 4096) n
+
+-- The next free cell is within the limit.
+pub record Within (r : Laid) : Type 0 where
+  pub says : (x : ℕ) → r ≡ Next x → x ≤ sizeLimit
+
 -- A cell to be written, and a buffer for it.
 pub record LastReady (d : List ℕ) (t : Cell) : Type 0 where
-  pub long : length d ≡ 65536
+  pub long : 32768 ≤ length d
   pub fits : CellFits t
 
 -- The cell stands at m, and the answer is the next free cell; or 4,095 cells stand already. In that case nothing is decided of the bytes.
@@ -74,7 +88,7 @@ rowCell t y x v w =
     }
 
 pub record RowReady (d : List ℕ) (t : Format.Cell) (y : Entry) (x v w : ℕ) : Type 0 where
-  pub long : length d ≡ 65536
+  pub long : 32768 ≤ length d
   pub fits : (t .a < 65536) × (t .b < 65536) × (t .c < 65536)
   pub first : ReferReady (y .a) x
   pub second : ReferReady (y .b) v

@@ -1,2 +1,3 @@
 pub mod Emits
 pub mod Runs
+pub mod Copies

@@ -1,6 +1,7 @@
 -- The root laid down and run; what the definition answers to a run means what demands 2 and 3 say. Assumes nothing.
 use Prim.Native.Nat.{ℕ, suc, _≤_}
-use mathlib.Core.Path.{_≡_, sym, subst}
+use mathlib.Core.Path.{_≡_, sym, subst, _∙_}
+use lib.ListN.{length}
 use mathlib.Core.List.{List}
 use native.Mathlib.Omega.{arith}
 use Rattle.calculus.specs.Syntax.{Term}
@@ -18,7 +19,7 @@ use Rattle.format.proofs.Trees.{term-cells}
 use Rattle.emission.proofs.Compose.{term-positive}
 use Rattle.emission.specs.Emits.{HeldField}
 use Rattle.emission.proofs.Fields.{term-field}
-use Rattle.layout.specs.Lays.{LayReady, LaysDown, SomeTree, Closes}
+use Rattle.layout.specs.Lays.{HereReady, LaysDown, SomeTree, Closes}
 use Rattle.layout.proofs.Laid.{lay-ready}
 use Rattle.cells.specs.Held.{HoldsTerm}
 use Rattle.format.specs.Table.{refers, term-sort}
@@ -33,32 +34,37 @@ use Rattle.engine.specs.Run.{Ran}
 root-held : {s : List ℕ} {i : ℕ} {e : Term} → IsBytes s → HoldsTerm s i e → HeldField s (suc i) (refers term-sort) i (fromTerm e)
 root-held bytes h = term-field bytes h (omega arith)
 
-module _ {s w : List ℕ} {i : ℕ} (bytes : IsBytes s) where
-  root-small : (e : Term) → RootAt s w i e → cells (fromTerm e) ≤ sizeLimit
+module _ {w : List ℕ} {i : ℕ} (bytes : IsBytes w) where
+  root-small : (e : Term) → RootAt w i e → cells (fromTerm e) ≤ sizeLimit
   root-small e p = omega (arith, term-cells e, p .small)
 
-  pub root-ready : SomeRoot s w i → LayReady s w 3 i
-  root-ready p = lay-ready (p .root .long) (root-held bytes (p .root .holds)) (term-positive (p .term)) (root-small (p .term) (p .root))
+  pub root-ready : {s : List ℕ} → 32768 ≤ length s → SomeRoot w i → HereReady s w 3 i
+  root-ready l p =
+      record {
+        long = omega (arith, p .root .long);
+        ready = lay-ready l (root-held bytes (p .root .holds)) (term-positive (p .term)) (root-small (p .term) (p .root));
+      }
 
-  module _ {v : List ℕ} {n : ℕ} (f : LaysDown s v 3 i n) where
-    root-lies : (e : Term) → RootAt s w i e → Lies v n e
+  module _ {v : List ℕ} {n : ℕ} (f : LaysDown w v 3 i n) where
+    root-lies : (e : Term) → RootAt w i e → Lies v n e
     root-lies e p =
         record { tree = f .says (suc i) (fromTerm e) (root-held bytes (p .holds)) (term-positive e) (root-small e p); fits = p .fits }
 
-    pub root-typed : SomeRoot s w i → StepReady s v n
-    root-typed p =
+    pub root-typed : {s : List ℕ} → 32768 ≤ length s → length v ≡ length w → SomeRoot w i → StepReady s v n
+    root-typed l k p =
         record {
-          long = p .root .cells;
+          long = l;
+          work = k ∙ p .root .long;
           at = record { term = p .term; lies = root-lies (p .term) (p .root); type = p .root .type; typed = p .root .typed };
         }
 
     module _ {u : List ℕ} {l : ℕ} {z : End} (y : Runs v u n l z) where
-      pub end-lies : SomeRoot s w i → SomeTree u (z .cells)
-      end-lies p =
+      pub end-lies : length u ≡ length w → SomeRoot w i → SomeTree u (z .cells)
+      end-lies h p =
           let k = y .says (p .term) (p .root .type) (root-lies (p .term) (p .root)) (p .root .typed) in
-          record { tree = fromTerm (k .term); lies = k .lies .tree }
+          record { work = h ∙ p .root .long; tree = fromTerm (k .term); lies = k .lies .tree }
 
-      pub root-runs : {t : List ℕ} → Closes u t (z .cells) → RunsRoot s w t i l (Stopped (z .stop))
+      pub root-runs : {t : List ℕ} → Closes u t (z .cells) → RunsRoot w t i l (Stopped (z .stop))
       unfolding told
       root-runs x =
           record {

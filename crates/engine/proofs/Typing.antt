@@ -6,7 +6,7 @@ use mathlib.Core.List.{List, [], _∷_}
 use native.Mathlib.Omega.{arith}
 use borrow.Author.Tests.{ltb-true}
 use lib.Dec.{ltb}
-use lib.ListN.{length, take}
+use lib.ListN.{length, take, replicate, length-replicate}
 use Rattle.calculus.specs.Syntax.{Ty, size}
 use Rattle.calculus.specs.Infer as Infer
 use Rattle.calculus.specs.Infer.{infer}
@@ -28,7 +28,7 @@ use Rattle.loading.specs.Loaded.{Loaded}
 use Rattle.emission.specs.Emits.{HeldField}
 use Rattle.emission.proofs.Compose.{type-positive}
 use Rattle.emission.proofs.Fields.{type-field}
-use Rattle.layout.specs.Lays.{LiesTree, LayReady, LaysDown, SomeTree, Closes}
+use Rattle.layout.specs.Lays.{LiesTree, HereReady, LaysDown, SomeTree, Closes}
 use Rattle.layout.proofs.Laid.{lay-ready}
 use Rattle.typing.specs.Finding.{Ready, Finds, Answered}
 use Rattle.typing.specs.declared.Found.{Found}
@@ -116,14 +116,16 @@ module _ {b w t : List ℕ} {i : ℕ} {r : Found} (p : Formed b w i) (bytes : Is
   type-small : {A : Ty} → infer [] (opened b) ≡ Infer.found A → cells (fromType A) ≤ sizeLimit
   type-small {A} e = omega (arith, type-cells A, typed-size (infer-says [] (opened b) A .0 e), opened-small b bytes (p .book .form))
 
-  pub type-ready : {c k : ℕ} → r ≡ Typed c k → LayReady t w 2 c
-  type-ready e = let a = found-of e in lay-ready (p .work) (type-held (a .2)) (type-positive (a .0)) (type-small (a .1))
+  pub type-ready : {s : List ℕ} {c k : ℕ} → 32768 ≤ length s → length t ≡ length w → r ≡ Typed c k → HereReady s t 2 c
+  type-ready l h e =
+      let a = found-of e in
+      record { long = omega (arith, h, p .work); ready = lay-ready l (type-held (a .2)) (type-positive (a .0)) (type-small (a .1)) }
 
   type-lies : {v : List ℕ} {c n : ℕ} (A : Ty) → infer [] (opened b) ≡ Infer.found A → HoldsType t c A → LaysDown t v 2 c n → LiesTree v n (fromType A)
   type-lies {c = c} A e h y = y .says (suc c) (fromType A) (type-held h) (type-positive A) (type-small e)
 
-  pub type-lain : {v : List ℕ} {c k n : ℕ} → r ≡ Typed c k → LaysDown t v 2 c n → SomeTree v n
-  type-lain e y = let a = found-of e in record { tree = fromType (a .0); lies = type-lies (a .0) (a .1) (a .2) y }
+  pub type-lain : {v : List ℕ} {c k n : ℕ} → length v ≡ length w → r ≡ Typed c k → LaysDown t v 2 c n → SomeTree v n
+  type-lain h e y = let a = found-of e in record { work = h ∙ p .work; tree = fromType (a .0); lies = type-lies (a .0) (a .1) (a .2) y }
 
   pub check-found : {v u : List ℕ} {c k n : ℕ} → r ≡ Typed c k → LaysDown t v 2 c n → Closes v u n → AfterTyping b shown u (Out.Accepted n)
   unfolding afterTyping shown
@@ -132,12 +134,11 @@ module _ {b w t : List ℕ} {i : ℕ} {r : Found} (p : Formed b w i) (bytes : Is
       let l = type-lies (a .0) (a .1) (a .2) y in
       rw (a .1) (record { answer = ap accepted (l .count ∙ type-cells (a .0)); left = z .says (fromType (a .0)) l })
 
-  pub root-of : {c k : ℕ} → length t ≡ 65536 → r ≡ Typed c k → RootAt t w i (opened b)
+  pub root-of : {c k : ℕ} → length t ≡ length w → r ≡ Typed c k → RootAt t i (opened b)
   root-of l e =
       let a = found-of e in
       record {
-        cells = l;
-        long = p .work;
+        long = l ∙ p .work;
         holds = a .3;
         small = opened-small b bytes (p .book .form);
         fits = opened-fits b bytes (p .book .form);
@@ -145,17 +146,21 @@ module _ {b w t : List ℕ} {i : ℕ} {r : Found} (p : Formed b w i) (bytes : Is
         typed = infer-says [] (opened b) (a .0) .0 (a .1);
       }
 
-  pub run-found : {v : List ℕ} {c k m : ℕ} {o : Outcome} → length t ≡ 65536 → r ≡ Typed c k → RunsRoot t w v i m o → AfterTyping b (reported b m) v o
+  pub run-found : {v : List ℕ} {c k m : ℕ} {o : Outcome} → length t ≡ length w → r ≡ Typed c k → RunsRoot t v i m o → AfterTyping b (reported b m) v o
   unfolding afterTyping
   run-found l e y = let a = found-of e in rw (a .1) (y .says (opened b) (root-of l e))
 
   -- a refusal is answered alike by both calls
-  pub ill-typed-book : {q : Refusal} {v : List ℕ} {o : Outcome} (g : Ty → Result) → r ≡ Refused q → TurnsBack w v q o → AfterTyping b g v o
+  pub ill-typed-book : {q : Refusal} {v : List ℕ} {o : Outcome} (g : Ty → Result) → length t ≡ length w → r ≡ Refused q → TurnsBack t v q o → AfterTyping b g v o
   unfolding afterTyping turnedBack
-  ill-typed-book {q} {v} {o} g e u = go d
+  ill-typed-book {q} {v} {o} g l e u = go d
     where
       go : FindsRoot b t i r → AfterTyping b g v o
       go (finds c f h k) = let z : _≡_ {A = ℕ} 0 1 = cc in absurd (omega arith)
       go (refuses {q = x} c f a) =
           let z : q ≡ x = cc in
-          rw (f, u .says) (record { answer = ap refusalAnswer z ∙ a; left = u .zeroed (p .work) })
+          rw (f, u .says) (record { answer = ap refusalAnswer z ∙ a; left = u .zeroed (l ∙ p .work) })
+
+-- a buffer of 4,096 cells
+pub scratch : 32768 ≤ length (replicate {A = ℕ} 32768 0)
+scratch = omega (arith, length-replicate {A = ℕ} 32768 0)

@@ -41,12 +41,12 @@ pub record Rooted (b : List ℕ) (i : ℕ) : Type 0 where
   pub form : WellFormed b
   pub root : i ≡ rootOf b
 
--- A buffer of 8,192 cells to load it into.
+-- A work buffer to load it into.
 pub record Findable (b s : List ℕ) (i : ℕ) : Type 0 where
   pub book : Rooted b i
   pub long : length s ≡ 65536
 
--- The root's type, held by the buffer t at c, and the root, still held; or typing's refusal, which names a cell of the book.
+-- The root's type, held by the work buffer t at c, and the root, still held; or typing's refusal, which names a cell of the book.
 pub data FindsRoot (b t : List ℕ) (i : ℕ) (r : Found) : Type 0 where
   finds : {A : Ty} {c k : ℕ} → r ≡ Found·Typed c k → infer [] (opened b) ≡ found A → HoldsType t c A → HoldsTerm t i (opened b) → FindsRoot b t i r
   refuses : {x : Reason} {p : List ℕ} {q : Refusal} → r ≡ Refused q → infer [] (opened b) ≡ Infer.refused x p →
@@ -66,19 +66,18 @@ pub record Gives (v : List ℕ) (r : Outcome) (x : Result) : Type 0 where
 abbrev pub AfterTyping : List ℕ → (Ty → Result) → List ℕ → Outcome → Type 0
 AfterTyping b g v r = Gives v r (afterTyping b g (infer [] (opened b)))
 
--- A typed book's root, held in a buffer of 8,192 cells, and a work buffer.
-pub record RootAt (s w : List ℕ) (i : ℕ) (e : Term) : Type 0 where
-  pub cells : length s ≡ 65536
+-- A typed book's root, held in the work buffer.
+pub record RootAt (w : List ℕ) (i : ℕ) (e : Term) : Type 0 where
   pub long : length w ≡ 65536
-  pub holds : HoldsTerm s i e
+  pub holds : HoldsTerm w i e
   pub small : size e ≤ sizeLimit
   pub fits : TermFits e
   pub type : Ty
   pub typed : Typed [] e type
 
-pub record SomeRoot (s w : List ℕ) (i : ℕ) : Type 0 where
+pub record SomeRoot (w : List ℕ) (i : ℕ) : Type 0 where
   pub term : Term
-  pub root : RootAt s w i term
+  pub root : RootAt w i term
 
-pub record RunsRoot (s w v : List ℕ) (i limit : ℕ) (r : Outcome) : Type 0 where
-  pub says : (e : Term) → RootAt s w i e → Gives v r (told (evaluate sizeLimit limit 0 e))
+pub record RunsRoot (w v : List ℕ) (i limit : ℕ) (r : Outcome) : Type 0 where
+  pub says : (e : Term) → RootAt w i e → Gives v r (told (evaluate sizeLimit limit 0 e))

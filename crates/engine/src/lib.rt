@@ -3,7 +3,7 @@ use book::Form;
 use book::check_form;
 use layout::clear;
 use layout::close;
-use layout::lay_down;
+use layout::lay_here;
 use loading::load;
 use outcome::Outcome;
 use outcome::Refusal;
@@ -35,7 +35,7 @@ fn turn_back(work: &mut [u8], refusal: Refusal) -> Outcome
     Outcome::Refused(refusal)
 }
 
-// A well-formed book's cells are loaded into a buffer, where typing adds cells, and the root's type is found.
+// A well-formed book's cells are loaded into the work buffer, where typing adds cells, and the root's type is found.
 fn find_root(book: &[u8], buffer: &mut [u8], root: usize) -> Found
     requires { ⌜ Findable (now book) (now buffer) root ⌝ }
     ensures { λ r. ⌜ FindsRoot (now (book .entry)) (now (buffer .exit)) root r ⌝ }
@@ -50,11 +50,11 @@ fn check_types(book: &[u8], work: &mut [u8], root: usize) -> Outcome
     requires { ⌜ Formed (now book) (now work) root ⌝ }
     ensures { λ r. ⌜ AfterTyping (now (book .entry)) shown (now (work .exit)) r ⌝ }
 {
-    let mut buffer = [0u8; 65536];
-    match find_root(book, &mut buffer, root) {
+    match find_root(book, work, root) {
         Found::Refused(refusal) => turn_back(work, refusal),
         Found::Typed(t, _) => {
-            let n = lay_down(&buffer, work, 2, t);
+            let mut s = [0u8; 32768];
+            let n = lay_here(&mut s, work, 2, t);
             close(work, n);
             Outcome::Accepted(n)
         }
@@ -71,13 +71,14 @@ pub fn check(book: &[u8], work: &mut [u8]) -> Outcome
     }
 }
 
-// The root, held in a buffer, is laid down in the work buffer and run there; the buffer serves the steps.
-fn run_root(s: &mut [u8], work: &mut [u8], root: usize, limit: u32) -> Outcome
-    requires { ⌜ SomeRoot (now s) (now work) root ⌝ }
-    ensures { λ r. ⌜ RunsRoot (now (s .entry)) (now (work .entry)) (now (work .exit)) root limit r ⌝ }
+// The root, held in the work buffer, is laid down and run there; a buffer of 4,096 cells serves both.
+fn run_root(work: &mut [u8], root: usize, limit: u32) -> Outcome
+    requires { ⌜ SomeRoot (now work) root ⌝ }
+    ensures { λ r. ⌜ RunsRoot (now (work .entry)) (now (work .exit)) root limit r ⌝ }
 {
-    let n = lay_down(s, work, 3, root);
-    let end = run_on(s, work, n, limit);
+    let mut s = [0u8; 32768];
+    let n = lay_here(&mut s, work, 3, root);
+    let end = run_on(&mut s, work, n, limit);
     let stop = end.stop;
     close(work, end.cells);
     Outcome::Stopped(stop)
@@ -88,10 +89,9 @@ fn run_types(book: &[u8], work: &mut [u8], root: usize, limit: u32) -> Outcome
     requires { ⌜ Formed (now book) (now work) root ⌝ }
     ensures { λ r. ⌜ AfterTyping (now (book .entry)) (reported (now (book .entry)) limit) (now (work .exit)) r ⌝ }
 {
-    let mut buffer = [0u8; 65536];
-    match find_root(book, &mut buffer, root) {
+    match find_root(book, work, root) {
         Found::Refused(fault) => turn_back(work, fault),
-        Found::Typed(_, _) => run_root(&mut buffer, work, root, limit),
+        Found::Typed(_, _) => run_root(work, root, limit),
     }
 }
 

@@ -27,7 +27,7 @@ use Rattle.layout.specs.Lays.{LiesTree, LayReady, LaysDown}
 abbrev pub WholeOrFull : List ℕ → Laid → Tree → Type 0
 WholeOrFull e r t = ((r ≡ Next (cells t)) × LiesTree e (cells t) t) ⊎ ((sizeLimit < cells t) × (r ≡ Full))
 
-pub whole-or-full : {d e : List ℕ} {r : Laid} {t : Tree} → length d ≡ 65536 → 1 ≤ cells t → Emits d e 0 r t → WholeOrFull e r t
+pub whole-or-full : {d e : List ℕ} {r : Laid} {t : Tree} → 32768 ≤ length d → 1 ≤ cells t → Emits d e 0 r t → WholeOrFull e r t
 whole-or-full {d} {e} {r} {t} h k m = go (decLe (cells t) sizeLimit)
   where
     same : 0 + cells t ≡ cells t
@@ -39,7 +39,7 @@ whole-or-full {d} {e} {r} {t} h k m = go (decLe (cells t) sizeLimit)
         let n : length x ≡ 8 * cells t = length-lay 0 t in
         let y : 0 + length x ≤ length d = omega arith in
         record {
-          long = ap length q ∙ length-sets d 0 x ∙ h;
+          long = omega (arith, ap length q ∙ length-sets d 0 x, h);
           count = refl;
           some = k;
           small = l;
@@ -51,7 +51,7 @@ whole-or-full {d} {e} {r} {t} h k m = go (decLe (cells t) sizeLimit)
     go (no u) = inr (omega arith, m .full (omega (arith, same)))
 
 -- a held tree that fits can be laid down
-pub lay-ready : {s d : List ℕ} {u x n : ℕ} {t : Tree} → length d ≡ 65536 → HeldField s n (useOf u) x t → 1 ≤ cells t → cells t ≤ sizeLimit →
+pub lay-ready : {s d : List ℕ} {u x n : ℕ} {t : Tree} → 32768 ≤ length d → HeldField s n (useOf u) x t → 1 ≤ cells t → cells t ≤ sizeLimit →
     LayReady s d u x
 lay-ready {n = n} {t} h f k l =
     record { field = record { space = record { long = h; used = zero-le }; cell = n; tree = t; holds = f }; some = k; small = l }
@@ -99,12 +99,12 @@ nothing-after a u h = post-is a (length u) u h ∙ drop-length u
 part-length : (a : ℕ) (u : List ℕ) → a ≤ length u → length (midOf a (length u - a) u) ≡ length u - a
 part-length a u h = simp (length-take, length-drop) (omega arith)
 
-pub closed : {d u z : List ℕ} {n : ℕ} (t : Tree) → LiesTree d n t → u ≡ sets d (8 * n) (cellBytes (trailerCell n)) →
+pub closed : {d u z : List ℕ} {n : ℕ} (t : Tree) → length d ≡ 65536 → LiesTree d n t → u ≡ sets d (8 * n) (cellBytes (trailerCell n)) →
     z ≡ replicate (length (midOf (8 * (n + 1)) (length u - 8 * (n + 1)) u)) 0 → putMid (8 * (n + 1)) (length u - 8 * (n + 1)) u z ≡ laid (book t)
 unfolding laid zeros
-closed {d} {u} {z} {n} t l q p =
+closed {d} {u} {z} {n} t w l q p =
     let a = 8 * (n + 1) in
-    let long : length u ≡ 65536 = ap length q ∙ length-sets d (8 * n) (cellBytes (trailerCell n)) ∙ l .long in
+    let long : length u ≡ 65536 = ap length q ∙ length-sets d (8 * n) (cellBytes (trailerCell n)) ∙ w in
     let h : a ≤ length u = omega (arith, l .small) in
     let size-is : length (book t) ≡ a = book-length t ∙ omega (arith, l .count) in
     let m : length (midOf a (length u - a) u) ≡ workLength - length (book t) = part-length a u h ∙ omega arith in

@@ -11,7 +11,7 @@ use Rattle.emission.specs.Emits.{HeldField, FieldReady}
 
 -- The tree lies in the first n cells of the buffer, children first and the root last. Of the bytes behind it nothing is decided.
 pub record LiesTree (d : List ℕ) (n : ℕ) (t : Tree) : Type 0 where
-  pub long : length d ≡ 65536
+  pub long : 32768 ≤ length d
   pub count : n ≡ cells t
   pub some : 1 ≤ n
   pub small : n ≤ sizeLimit
@@ -26,7 +26,14 @@ pub record LayReady (s d : List ℕ) (u x : ℕ) : Type 0 where
 pub record LaysDown (s d : List ℕ) (u x r : ℕ) : Type 0 where
   pub says : (n : ℕ) (t : Tree) → HeldField s n (useOf u) x t → 1 ≤ cells t → cells t ≤ sizeLimit → LiesTree d r t
 
+-- The same, to come to its own buffer by way of s.
+pub record HereReady (s w : List ℕ) (u x : ℕ) : Type 0 where
+  pub long : 32768 ≤ length w
+  pub ready : LayReady w s u x
+
+-- A work buffer that begins with a tree.
 pub record SomeTree (d : List ℕ) (n : ℕ) : Type 0 where
+  pub work : length d ≡ 65536
   pub tree : Tree
   pub lies : LiesTree d n tree
 

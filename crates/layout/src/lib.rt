@@ -3,9 +3,10 @@ use cells::Cell;
 use cells::write_cell;
 use emission::Laid;
 use emission::emit_field;
+use moving::copy;
 ghost use mathlib.Core.Path.{_≡_};
 ghost use lib.ListN.{length, replicate};
-ghost use Rattle.layout.specs.Lays.{LayReady, LaysDown, SomeTree, Closes};
+ghost use Rattle.layout.specs.Lays.{LayReady, LaysDown, HereReady, SomeTree, Closes};
 
 pub fn clear(d: &mut [u8])
     ensures { λ _. ⌜ now (d .exit) ≡ replicate (length (now (d .entry))) 0 ⌝ }
@@ -26,6 +27,16 @@ pub fn lay_down(s: &[u8], d: &mut [u8], u: u8, x: usize) -> usize
         Laid::Next(n) => n,
         Laid::Full => 0,
     }
+}
+
+// The tree of a field of w, for which there is room, from cell 0 of w on, by way of s; answers its cells.
+pub fn lay_here(s: &mut [u8], w: &mut [u8], u: u8, x: usize) -> usize
+    requires { ⌜ HereReady (now s) (now w) u x ⌝ }
+    ensures { λ r. ⌜ LaysDown (now (w .entry)) (now (w .exit)) u x r ⌝ }
+{
+    let n = lay_down(w, s, u, x);
+    copy(s, w, 8 * n);
+    n
 }
 
 // The tree becomes a book: its trailer behind it, and zeros behind that.

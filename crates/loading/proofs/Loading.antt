@@ -4,39 +4,35 @@ use Prim.Native.Nat.{ℕ, zero, suc, _+_, _*_, _≤_, _<_}
 use native.Mathlib.Decide.{decLt}
 use native.Mathlib.Omega.{arith}
 use mathlib.Core.Path.{_≡_, refl, ap, _∙_, sym}
-use mathlib.Core.Bool.{true, false}
-use mathlib.Core.Logic.{_⊎_, ⊎-elim}
+use mathlib.Core.Bool.{true}
 use mathlib.Core.Option.{some, Option·some-injective, Option·none-ne-some}
 use mathlib.Core.List.{List}
 use lib.ListN.{length}
 use lib.Seq.{sets}
-use lib.Dec.{eqb}
-use borrow.Author.Tests.{eqb-false}
-use Rattle.calculus.specs.Syntax.{Ty, Term}
-use Rattle.format.specs.Table.{Sort, type-sort, term-sort, Use, unused, plain, refers, Row, table, rowIn, rowOf}
+use Rattle.calculus.specs.Syntax.{Ty}
+use Rattle.format.specs.Table.{Sort, type-sort, term-sort, Use, unused, plain, refers, Row, table, rowOf}
 use Rattle.format.specs.Cell.{IsBytes, Cell, cellAt, cellBytes}
 use Rattle.format.specs.Tree.{Tree, raw, node, branch, grow, treeAt}
 use Rattle.format.specs.Terms.{plainOf, toType, toTerm}
-use Rattle.format.specs.Book.{sortIs, hasSort}
+use Rattle.format.specs.Book.{hasSort}
 use Rattle.format.proofs.Tests.{FieldOk, CellOk, cellFault-says, sortIs-says, All, _also_, view, cell-fits}
 use Rattle.format.proofs.Opening.{branch-lower, treeAt-grow}
 use Rattle.cells.specs.Coded.{CellFits, rowFrom}
 use Rattle.cells.specs.declared.Cell.{Cell as Struct}
 use Rattle.cells.specs.declared.Entry.{Entry}
-use Rattle.cells.specs.Held.{IsCell, mark, valueMark, HoldsType, h-int, h-top, h-arrow, h-inter, h-field, Same}
+use Rattle.cells.specs.Held.{IsCell, mark, HoldsType, h-int, h-top, h-arrow, h-inter, h-field, Same}
 use Rattle.cells.specs.Held.{HoldsTerm, h-var, h-lit, h-unit, h-anno, h-app, h-lam, h-merge, h-fix, h-rcd, h-proj}
-use Rattle.cells.proofs.Held.{same-cell, same-type, same-term, Written, written, term-one}
-use Rattle.loading.proofs.Marking.{small}
-use Rattle.loading.proofs.Valuing.{values-fit}
-use Rattle.loading.specs.Loaded.{Loadable, Loaded, LoadsNext, TypeCell, t-int, t-top, t-arrow, t-inter, t-field, Markable, Marks}
-use Rattle.loading.specs.Loaded.{Valued, TermCell, t-merge, t-record, t-other, Valuable, Values}
+use Rattle.cells.proofs.Held.{same-cell, same-type, same-term, Written, written}
+use Rattle.loading.specs.Marks.{markBy, MarkReady}
+use Rattle.loading.specs.Loaded.{Loadable, Loaded, LoadsNext}
+use Rattle.loading.proofs.Marking.{TypeCell, t-int, t-top, t-arrow, t-inter, t-field, marked, small, mark-ready}
 
 -- Field x of cell i, opened to the tree t: a reference holds what it opens to.
 abbrev Held : List ℕ → ℕ → Use → ℕ → Tree → Type 0
 Held s i unused x t = Unit {0}
 Held s i plain x t = t ≡ raw x
 Held s i (refers type-sort) x t = (x < i) × HoldsType s x (toType t)
-Held s i (refers term-sort) x t = (x < i) × Valued s x (toTerm t)
+Held s i (refers term-sort) x t = (x < i) × HoldsTerm s x (toTerm t)
 
 record Fields (s : List ℕ) (i : ℕ) (r : Row) : Type 0 where
   label : ℕ
@@ -50,23 +46,10 @@ record Fields (s : List ℕ) (i : ℕ) (r : Row) : Type 0 where
   held-b : Held s i (r .b) b tb
   held-c : Held s i (r .c) c tc
 
--- A term cell t at i, which may have another field c if it is a merge or a record.
-record MadeTerm (s : List ℕ) (i : ℕ) (t : Cell) (e : Term) : Type 0 where
-  names : TermCell s t e
-  holds : (m : ℕ) → ((t .kind ≡ 22 → ⊥) → (t .kind ≡ 24 → ⊥) → m ≡ t .c) → IsCell s i (t .kind) (t .label) (t .a) (t .b) m → HoldsTerm s i e
-
--- What cell t makes of the tree x at i. Its mark is yet to come.
+-- What cell t makes of the tree x at i. A type's mark is yet to come.
 abbrev Made : List ℕ → ℕ → Sort → Cell → Tree → Type 0
 Made s i type-sort t x = TypeCell s i t (toType x)
-Made s i term-sort t x = MadeTerm s i t (toTerm x)
-
--- a cell that keeps its field c
-as-it-is : {s : List ℕ} {i : ℕ} {t : Cell} {e : Term} → eqb (t .kind) 22 ≡ false → eqb (t .kind) 24 ≡ false
-    → (IsCell s i (t .kind) (t .label) (t .a) (t .b) (t .c) → HoldsTerm s i e) → MadeTerm s i t e
-as-it-is {t = t} p q f =
-    let u = eqb-false (t .kind) 22 p in
-    let v = eqb-false (t .kind) 24 q in
-    record { names = t-other u v; holds = λ m g c. f (rw (g u v) at c) }
+Made s i term-sort t x = IsCell s i (t .kind) (t .label) (t .a) (t .b) (t .c) → HoldsTerm s i (toTerm x)
 
 abbrev Makes : List ℕ → ℕ → Row → Type 0
 Makes s i r =
@@ -83,20 +66,16 @@ rows s i =
     also (λ p. t-arrow refl (p .held-a .0) (p .held-b .0) (p .held-a .1) (p .held-b .1))
     also (λ p. t-inter refl (p .held-a .0) (p .held-b .0) (p .held-a .1) (p .held-b .1))
     also (λ p. t-field refl (p .held-a .0) (p .held-a .1))
-    also (λ p. as-it-is refl refl (λ t. rw (p .held-a) (h-var t)))
-    also (λ p. as-it-is refl refl (λ t. h-lit t (rw (p .held-b, p .held-c))))
-    also (λ p. as-it-is refl refl (λ t. h-unit t))
-    also (λ p. as-it-is refl refl (λ t. h-anno t (p .held-a .0) (p .held-b .0) (p .held-a .1 .holds) (p .held-b .1)))
-    also (λ p. as-it-is refl refl (λ t. h-app t (p .held-a .0) (p .held-b .0) (p .held-a .1 .holds) (p .held-b .1 .holds)))
-    also (λ p. as-it-is refl refl
-    (λ t. h-lam t (p .held-a .0) (p .held-b .0) (p .held-c .0) (p .held-a .1 .holds) (p .held-b .1) (p .held-c .1)))
-    also (λ p. record {
-      names = t-merge refl (p .held-a .1) (p .held-b .1);
-      holds = λ m g t. h-merge t (p .held-a .0) (p .held-b .0) (p .held-a .1 .holds) (p .held-b .1 .holds);
-    })
-    also (λ p. as-it-is refl refl (λ t. h-fix t (p .held-a .0) (p .held-b .0) (p .held-a .1 .holds) (p .held-b .1)))
-    also (λ p. record { names = t-record refl (p .held-a .1); holds = λ m g t. h-rcd t (p .held-a .0) (p .held-a .1 .holds) })
-    also (λ p. as-it-is refl refl (λ t. h-proj t (p .held-a .0) (p .held-a .1 .holds)))
+    also (λ p t. rw (p .held-a) (h-var t))
+    also (λ p t. h-lit t (rw (p .held-b, p .held-c)))
+    also (λ p t. h-unit t)
+    also (λ p t. h-anno t (p .held-a .0) (p .held-b .0) (p .held-a .1) (p .held-b .1))
+    also (λ p t. h-app t (p .held-a .0) (p .held-b .0) (p .held-a .1) (p .held-b .1))
+    also (λ p t. h-lam t (p .held-a .0) (p .held-b .0) (p .held-c .0) (p .held-a .1) (p .held-b .1) (p .held-c .1))
+    also (λ p t. h-merge t (p .held-a .0) (p .held-b .0) (p .held-a .1) (p .held-b .1))
+    also (λ p t. h-fix t (p .held-a .0) (p .held-b .0) (p .held-a .1) (p .held-b .1))
+    also (λ p t. h-rcd t (p .held-a .0) (p .held-a .1))
+    also (λ p t. h-proj t (p .held-a .0) (p .held-a .1))
     also tt
 
 type-holds : {s : List ℕ} {i c : ℕ} {t : Cell} {A : Ty} → TypeCell s i t A → IsCell s i (t .kind) (t .label) (t .a) (t .b) c → c ≡ mark A
@@ -107,10 +86,6 @@ type-holds (t-arrow k p q h j) is m = h-arrow (rw k at is) m p q h j
 type-holds (t-inter k p q h j) is m = h-inter (rw k at is) m p q h j
 type-holds (t-field k p h) is m = h-field (rw k at is) m p h
 
--- a term that is loaded, with its mark
-loaded-term : {b s : List ℕ} {i : ℕ} → Loaded b s i → (x : ℕ) → x < i → hasSort b term-sort x ≡ true → Valued s x (toTerm (treeAt b x))
-loaded-term l x h o = record { holds = l .terms x h o; mark = λ k. l .values x h o (rw (l .kinds x h) at k) }
-
 branch-plain : (g : ℕ → Tree) (i x : ℕ) → branch g i plain x ≡ raw x
 unfolding branch
 branch-plain g i x = refl
@@ -119,7 +94,7 @@ held : {b s : List ℕ} {i : ℕ} → Loaded b s i → (u : Use) (x : ℕ) → F
 held l unused x h = tt
 held {b} {i = i} l plain x h = branch-plain (treeAt b) i x
 held {b} {i = i} l (refers type-sort) x h = (h .0, rw (branch-lower (treeAt b) i x type-sort (h .0)) (l .types x (h .0) (h .1)))
-held {b} {i = i} l (refers term-sort) x h = (h .0, rw (branch-lower (treeAt b) i x term-sort (h .0)) (loaded-term l x (h .0) (h .1)))
+held {b} {i = i} l (refers term-sort) x h = (h .0, rw (branch-lower (treeAt b) i x term-sort (h .0)) (l .terms x (h .0) (h .1)))
 
 made : {b s : List ℕ} {i : ℕ} (k : CellOk b i) → Loaded b s i → Made s i (k .row .sort) (cellAt b i) (treeAt b i)
 unfolding rowOf grow
@@ -141,10 +116,10 @@ made {b} {s} {i} k l =
     }) in
     rw (treeAt-grow b i, k .found) (rw (← v .0) at m)
 
--- What the cell at i holds, by its sort; t is the book's cell, c the field c of the buffer's.
-abbrev Holds : List ℕ → ℕ → Cell → ℕ → Sort → Tree → Type 0
-Holds s i t c type-sort x = HoldsType s i (toType x)
-Holds s i t c term-sort x = HoldsTerm s i (toTerm x) × ((t .kind ≡ 22) ⊎ (t .kind ≡ 24) → c ≡ valueMark (toTerm x))
+-- What the cell at i holds, by its sort.
+abbrev Holds : List ℕ → ℕ → Sort → Tree → Type 0
+Holds s i type-sort x = HoldsType s i (toType x)
+Holds s i term-sort x = HoldsTerm s i (toTerm x)
 
 -- cells that are loaded stay so while they stay the same
 loaded-same : {b s s′ : List ℕ} {i : ℕ} → Loaded b s i → Same s s′ i → Loaded b s′ i
@@ -156,7 +131,6 @@ loaded-same l q =
       first = λ j h. ap (λ (t : Cell). t .a) (same-cell q h) ∙ l .first j h;
       second = λ j h. ap (λ (t : Cell). t .b) (same-cell q h) ∙ l .second j h;
       kinds = λ j h. ap (λ (t : Cell). t .kind) (same-cell q h) ∙ l .kinds j h;
-      values = λ j h f k. ap (λ (t : Cell). t .c) (same-cell q h) ∙ l .values j h f k;
     }
 
 -- what holds of the cells below i, and of i
@@ -164,27 +138,25 @@ more : {P : ℕ → Type 0} {i : ℕ} → ((j : ℕ) → j < i → P j) → P i 
 more {i = i} f p j h = elim (decLt j i) [ yes l ↦ f j l | no u ↦ let e : j ≡ i = omega (arith, u) in rw e p ]
 
 -- the cell of a row's sort, asked for a sort
-asked : {b : List ℕ} {i : ℕ} (s : List ℕ) (c : ℕ) (k : CellOk b i) → Holds s i (cellAt b i) c (k .row .sort) (treeAt b i) → (o : Sort)
-    → hasSort b o i ≡ true
-    → Holds s i (cellAt b i) c o (treeAt b i)
-asked s c k h o e =
+asked : {b : List ℕ} {i : ℕ} (s : List ℕ) (k : CellOk b i) → Holds s i (k .row .sort) (treeAt b i) → (o : Sort) → hasSort b o i ≡ true
+    → Holds s i o (treeAt b i)
+asked s k h o e =
     let r = k .row in
     let q : r .sort ≡ o = sortIs-says o r .0 (rw (k .found) at e) in
     rw q at h
 
 loaded-more : {b s s′ : List ℕ} {i c : ℕ} (k : CellOk b i) → Loaded b s′ i
     → Written s s′ i (record { kind = cellAt b i .kind; label = cellAt b i .label; a = cellAt b i .a; b = cellAt b i .b; c = c })
-    → Holds s′ i (cellAt b i) c (k .row .sort) (treeAt b i)
+    → Holds s′ i (k .row .sort) (treeAt b i)
     → Loaded b s′ (i + 1)
 loaded-more {b} {s} {s′} {i} {c} k l w h =
     record {
       long = l .long;
-      types = more (l .types) (asked s′ c k h type-sort);
-      terms = more (l .terms) (λ o. asked s′ c k h term-sort o .0);
+      types = more (l .types) (asked s′ k h type-sort);
+      terms = more (l .terms) (asked s′ k h term-sort);
       first = more (l .first) (ap (λ (t : Cell). t .a) (w .there .is));
       second = more (l .second) (ap (λ (t : Cell). t .b) (w .there .is));
       kinds = more (l .kinds) (ap (λ (t : Cell). t .kind) (w .there .is));
-      values = more (l .values) (λ o q. ap (λ (t : Cell). t .c) (w .there .is) ∙ asked s′ c k h term-sort o .1 q);
     }
 
 -- the sort of an entry of the code's table
@@ -209,8 +181,8 @@ pub record Read (b s : List ℕ) (i : ℕ) (t : Cell) (y : Entry) : Type 0 where
 
 -- What field c is to hold.
 pub data NewThird (s : List ℕ) (t : Cell) (y : Entry) (c : ℕ) : Type 0 where
-  of-type : y .sort ≡ 2 → Marks s t c → NewThird s t y c
-  of-term : (y .sort ≡ 2 → ⊥) → Values s t c → NewThird s t y c
+  of-type : y .sort ≡ 2 → c ≡ markBy s t (t .kind) → NewThird s t y c
+  of-term : (y .sort ≡ 2 → ⊥) → c ≡ t .c → NewThird s t y c
 
 module _ {b s : List ℕ} {i : ℕ} {t : Cell} {y : Entry} (n : Read b s i t y) where
   ok : CellOk b i
@@ -222,23 +194,15 @@ module _ {b s : List ℕ} {i : ℕ} {t : Cell} {y : Entry} (n : Read b s i t y) 
   type-cell : y .sort ≡ 2 → TypeCell s i t (toType (treeAt b i))
   type-cell q = rw (n .cell) (rw (type-row (t .kind) y (ok .row) row q) at (made ok (n .next .done)))
 
-  term-cell : (y .sort ≡ 2 → ⊥) → TermCell s t (toTerm (treeAt b i))
-  term-cell q =
-      let m : MadeTerm s i (cellAt b i) (toTerm (treeAt b i)) = rw (term-row (t .kind) y (ok .row) row q) at (made ok (n .next .done)) in
-      rw (n .cell) (m .names)
-
-  pub markable : y .sort ≡ 2 → Markable s t
-  markable q = record { below = i; type = toType (treeAt b i); names = type-cell q }
-
-  pub valuable : (y .sort ≡ 2 → ⊥) → Valuable s t
-  valuable q = record { term = toTerm (treeAt b i); names = term-cell q }
+  pub ready : y .sort ≡ 2 → MarkReady s t
+  ready q = mark-ready (type-cell q)
 
   fields-fit : (t .label < 256) × (t .a < 65536) × (t .b < 65536) × (t .c < 65536)
   fields-fit = rw (n .cell) (cell-fits b (n .bytes) i)
 
   third-fits : {c : ℕ} → NewThird s t y c → c < 65536
-  third-fits (of-type q h) = omega (arith, small (toType (treeAt b i)), h .is i (toType (treeAt b i)) (type-cell q))
-  third-fits (of-term q h) = values-fit (term-cell q) (fields-fit .3) h
+  third-fits (of-type q h) = omega (arith, small (toType (treeAt b i)), h, marked (type-cell q))
+  third-fits (of-term q h) = rw h (fields-fit .3)
 
   pub room : 8 * i + 8 ≤ length s
   room = omega (arith, n .next .done .long, n .next .few)
@@ -249,17 +213,16 @@ module _ {b s : List ℕ} {i : ℕ} {t : Cell} {y : Entry} (n : Read b s i t y) 
   -- what the cell holds once it is written
   holds : {s′ : List ℕ} {c : ℕ} → NewThird s t y c → Loaded b s′ i
       → IsCell s′ i (cellAt b i .kind) (cellAt b i .label) (cellAt b i .a) (cellAt b i .b) c
-      → Holds s′ i (cellAt b i) c (ok .row .sort) (treeAt b i)
+      → Holds s′ i (ok .row .sort) (treeAt b i)
   holds {s′} {c} (of-type q h) l w =
       let o = type-row (t .kind) y (ok .row) row q in
       let k : TypeCell s′ i (cellAt b i) (toType (treeAt b i)) = rw o at (made ok l) in
-      rw o (type-holds k w (h .is i (toType (treeAt b i)) (type-cell q)))
+      rw o (type-holds k w (h ∙ marked (type-cell q)))
   holds {s′} {c} (of-term q h) l w =
       let o = term-row (t .kind) y (ok .row) row q in
-      let k : MadeTerm s′ i (cellAt b i) (toTerm (treeAt b i)) = rw o at (made ok l) in
-      let v : Values s (cellAt b i) c = rw (n .cell) at h in
-      let d : TermCell s (cellAt b i) (toTerm (treeAt b i)) = rw (n .cell) at (term-cell q) in
-      rw o (k .holds c (v .kept) w, v .mark (toTerm (treeAt b i)) d)
+      let k : IsCell s′ i (cellAt b i .kind) (cellAt b i .label) (cellAt b i .a) (cellAt b i .b) (cellAt b i .c) → HoldsTerm s′ i (toTerm (treeAt b i))
+      = rw o at (made ok l) in
+      rw o (k (rw (h ∙ ap (λ (x : Cell). x .c) (n .cell)) at w))
 
   pub loaded : {s′ : List ℕ} {c : ℕ} → NewThird s t y c
       → s′ ≡ sets s (8 * i) (cellBytes (record { kind = t .kind; label = t .label; a = t .a; b = t .b; c = c })) → Loaded b s′ (i + 1)
@@ -278,20 +241,7 @@ loaded-none l =
       first = λ j h. absurd (omega arith);
       second = λ j h. absurd (omega arith);
       kinds = λ j h. absurd (omega arith);
-      values = λ j h. absurd (omega arith);
     }
-
--- in a loaded buffer the mark of a merge or a record is that of the term that its cell holds
-term-kind : (k : ℕ) → (k ≡ 22) ⊎ (k ≡ 24) → sortIs term-sort (rowOf k) ≡ true
-unfolding table rowIn rowOf
-term-kind k h = ⊎-elim (λ e. rw e) (λ e. rw e) h
-
-pub value-marked : {b s : List ℕ} {n i : ℕ} {e : Term} → Loaded b s n → i < n → HoldsTerm s i e → (cellAt s i .kind ≡ 22) ⊎ (cellAt s i .kind ≡ 24)
-    → cellAt s i .c ≡ valueMark e
-value-marked {b} {i = i} l h p k =
-    let j = rw (l .kinds i h) at k in
-    let o = term-kind (cellAt b i .kind) j in
-    l .values i h o j ∙ ap valueMark (term-one (l .terms i h o) p)
 
 pub loads-next : {b s s′ : List ℕ} {n i : ℕ} → Loadable b s n → i < n → Loaded b s′ i → LoadsNext b s′ i
 loads-next {i = i} l h d = record { within = omega (arith, l .cells); few = omega (arith, l .few); sound = l .sound i h; done = d }

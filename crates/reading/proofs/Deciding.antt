@@ -18,12 +18,15 @@ use Rattle.calculus.specs.Evaluate.{within, orElse, mergeBoth, firstPart, castI
 use Rattle.calculus.proofs.Decisions.{topLike?-says, not-topLike}
 use Rattle.calculus.proofs.Tests.{cast-top, cast-arrow, cast-field, cast-merge}
 use Rattle.format.specs.Cell.{Cell, cellAt}
-use Rattle.cells.specs.Held.{HoldsType, h-int, h-top, h-arrow, h-inter, h-field, HoldsTerm}
-use Rattle.cells.proofs.Held.{kind-of, TwoTypes, OneType, FunctionAt, OneTerm, int-at, arrow-at, inter-at, field-at, lit-at, lam-at, merge-at, rcd-at, type-one, term-one}
+use Rattle.cells.specs.Held.{HoldsType, h-int, h-top, h-arrow, h-inter, h-field}
+use Rattle.cells.proofs.Held.{kind-of, int-at, lit-at, type-one, term-one}
+use Rattle.emission.specs.Runs.{RunsType, RunsTerm}
+use Rattle.emission.proofs.Runs.{holds-type, holds-term}
+use Rattle.emission.proofs.RunParts.{TwoTypes, OneType, FunctionAt, OneTerm, arrow-at, inter-at, field-at, lam-at, merge-at, rcd-at}
 use Rattle.types.specs.Says.{TypesAt, TypesSay}
 use Rattle.types.proofs.Parts.{and-both}
 use Rattle.types.proofs.Heads.{top-like, not-top-like}
-use Rattle.reading.specs.Reads.{isSome, ValueAndType, Readable, ProperAt, NoMerge, SingleAt, PartBy, FindsPart}
+use Rattle.reading.specs.Reads.{isSome, ValueAndType, Readable, ProperAt, NoMerge, SingleAt, PartBy, FindsPart, PartOf}
 use Rattle.reading.specs.declared.Part.{Part}
 use Rattle.reading.specs.declared.Part.the-variants.{At, Nothing}
 use Rattle.reading.proofs.Single.{single-int, single-arrow, single-field, no-number, no-function, no-record, no-merge}
@@ -70,7 +73,7 @@ ordinary-at (h-field p c u x) n = tt
 -- y stands in cell a
 module _ {s : List ℕ} {a : ℕ} {y : Cell} (is : y ≡ cellAt s a) (v : ℕ) where
   pub reads-top : y .c ≡ 1 → Readable s v a true
-  reads-top m = record { says = λ e A h k. sym (topLike-reads A e (topLike?-says A .0 (top-like k y is m))) }
+  reads-top m = record { says = λ e A h k. sym (topLike-reads A e (topLike?-says A .0 (top-like (holds-type k) y is m))) }
 
   pub halves : ValueAndType s v a → y .kind ≡ 4 → Halves s v a (y .a) (y .b)
   halves b = rw is λ k.
@@ -102,8 +105,8 @@ module _ {s : List ℕ} {a : ℕ} {y : Cell} (is : y ≡ cellAt s a) (v : ℕ) w
   pub proper : ValueAndType s v a → (y .c ≡ 1 → ⊥) → (y .kind ≡ 4 → ⊥) → ProperAt s v a
   proper b n o = record {
     both = b;
-    ordinary = ordinary-at (b .holds-type) (rw is at o);
-    proper = not-topLike (b .type) (not-top-like (b .holds-type) y is n);
+    ordinary = ordinary-at (holds-type (b .holds-type)) (rw is at o);
+    proper = not-topLike (b .type) (not-top-like (holds-type (b .holds-type)) y is n);
   }
 
 -- By a part.
@@ -149,14 +152,14 @@ pub record MergeHalves (s : List ℕ) (v a p q : ℕ) : Type 0 where
 
 module _ {s : List ℕ} {v a : ℕ} (p : ProperAt s v a) where
   -- the same of whatever the cell of the type holds
-  is-ordinary : {A : Ty} → HoldsType s a A → Ordinary A
-  is-ordinary k = rw (type-one k (p .both .holds-type)) (p .ordinary)
+  is-ordinary : {A : Ty} → RunsType s a A → Ordinary A
+  is-ordinary k = rw (type-one (holds-type k) (holds-type (p .both .holds-type))) (p .ordinary)
 
-  pub is-proper : {A : Ty} → HoldsType s a A → ¬ TopLike A
-  is-proper k = rw (type-one k (p .both .holds-type)) (p .proper)
+  pub is-proper : {A : Ty} → RunsType s a A → ¬ TopLike A
+  is-proper k = rw (type-one (holds-type k) (holds-type (p .both .holds-type))) (p .proper)
 
   -- another value under the type
-  under : {w : ℕ} {e : Term} → HoldsTerm s w e → ProperAt s w a
+  under : {w : ℕ} {e : Term} → RunsTerm s w e → ProperAt s w a
   under {e} h = record {
     both = record { value = e; type = p .both .type; holds-value = h; holds-type = p .both .holds-type };
     ordinary = p .ordinary;
@@ -192,7 +195,7 @@ module _ {s : List ℕ} {v a : ℕ} (p : ProperAt s v a) where
     }
 
     pub single : (x .kind ≡ 22 → ⊥) → SingleAt s v a
-    single = rw is λ n. record { at = p; single = no-merge (p .both .holds-value) n }
+    single = rw is λ n. record { at = p; single = no-merge (holds-term (p .both .holds-value)) n }
 
 module _ {s : List ℕ} {v a : ℕ} {r : Bool} (f : Readable s v a r) where
   pub finds-none : r ≡ false → FindsPart s v a Nothing
@@ -206,9 +209,17 @@ module _ {s : List ℕ} {v a : ℕ} {r : Bool} (f : Readable s v a r) where
     pub finds-itself : r ≡ true → FindsPart s v a (At v)
     finds-itself t = record { says = λ e A h k. go e A h (cast A e) refl (sym t ∙ f .says e A h k) }
       where
-        go : (e : Term) (A : Ty) → HoldsTerm s v e → (o : Option Term) → cast A e ≡ o → true ≡ isSome o → PartBy s A (At v) o
+        go : (e : Term) (A : Ty) → RunsTerm s v e → (o : Option Term) → cast A e ≡ o → true ≡ isSome o → PartBy s A (At v) o
         go e A h none q u = no-bool u
-        go e A h (some x) q u = (v, e, refl, h, q, rw (term-one h (p .at .both .holds-value)) (p .single))
+        go e A h (some x) q u = (v, e, refl, h, q, rw (term-one (holds-term h) (holds-term (p .at .both .holds-value))) (p .single))
+
+-- The part of a value that can be read.
+
+pub found-part : {s : List ℕ} {v a : ℕ} {r : Part} → FindsPart s v a r → PartOf s v a r
+found-part f = record { says = λ e x A h k c. rw c at (f .says e A h k) }
+
+pub itself-part : {s : List ℕ} {v a : ℕ} {x : Cell} → x ≡ cellAt s v → (x .kind ≡ 22 → ⊥) → PartOf s v a (At v)
+itself-part {v = v} is n = record { says = λ e y A h k c. (v, e, refl, h, c, no-merge (holds-term h) (rw is at n)) }
 
 -- A part under the head of a type.
 
@@ -252,29 +263,29 @@ pub record CellsOf (s : List ℕ) (v a : ℕ) (x y : Cell) : Type 0 where
 
 module _ {s : List ℕ} {v a : ℕ} {x y : Cell} (g : CellsOf s v a x y) where
   -- what both cells hold
-  own-value : HoldsTerm s v (g .given .at .both .value)
+  own-value : RunsTerm s v (g .given .at .both .value)
   own-value = g .given .at .both .holds-value
 
-  own-type : HoldsType s a (g .given .at .both .type)
+  own-type : RunsType s a (g .given .at .both .type)
   own-type = g .given .at .both .holds-type
 
   -- the same of whatever they hold
-  is-single : {e : Term} → HoldsTerm s v e → NoMerge e
-  is-single h = rw (term-one h own-value) (g .given .single)
+  is-single : {e : Term} → RunsTerm s v e → NoMerge e
+  is-single h = rw (term-one (holds-term h) (holds-term own-value)) (g .given .single)
 
-  not-top : {A B : Ty} → HoldsType s a A → A ≡ B → ¬ TopLike B
+  not-top : {A B : Ty} → RunsType s a A → A ≡ B → ¬ TopLike B
   not-top k e = rw (← e) (is-proper (g .given .at) k)
 
   pub reads-number : y .kind ≡ 1 → Readable s v a (eqb (x .kind) 17)
   unfolding castInt
   reads-number = rw (g .value, g .type) λ k. record {
     says = λ e A h w.
-        rw (int-at w k, single-int e (is-single h))
-        (by-cases (ℕ-discrete (cellAt s v .kind) 17) (λ n. rw (lit-at h n, n) refl) (λ n. rw (no-number h n) (ne-eqb _ _ n)));
+        rw (int-at (holds-type w) k, single-int e (is-single h))
+        (by-cases (ℕ-discrete (cellAt s v .kind) 17) (λ n. rw (lit-at (holds-term h) n, n) refl) (λ n. rw (no-number (holds-term h) n) (ne-eqb _ _ n)));
   }
 
   -- a function under a function type asks the inputs, then the outputs
-  function-asks : {e : Term} {A : Ty} → HoldsType s a A → (t : TwoTypes s a arrow A) (u : FunctionAt s v e) →
+  function-asks : {e : Term} {A : Ty} → RunsType s a A → (t : TwoTypes s a arrow A) (u : FunctionAt s v e) →
       isSome (cast A e) ≡ (below? (t .first) (u .input) && below? (u .output) (t .second))
   function-asks w t u =
       ap₂ (λ B g. isSome (cast B g)) (t .is) (u .is)
@@ -284,13 +295,13 @@ module _ {s : List ℕ} {v a : ℕ} {x y : Cell} (g : CellsOf s v a x y) where
   inputs = rw (g .value, g .type) λ k n.
       let t = arrow-at own-type k in
       let u = lam-at own-value n in
-      record { first = t .first; second = u .input; holds-first = t .holds-first; holds-second = u .holds-input }
+      record { first = t .first; second = u .input; holds-first = holds-type (t .holds-first); holds-second = holds-type (u .holds-input) }
 
   pub outputs : y .kind ≡ 3 → x .kind ≡ 21 → TypesAt s (x .c) (y .b)
   outputs = rw (g .value, g .type) λ k n.
       let t = arrow-at own-type k in
       let u = lam-at own-value n in
-      record { first = u .output; second = t .second; holds-first = u .holds-output; holds-second = t .holds-second }
+      record { first = u .output; second = t .second; holds-first = holds-type (u .holds-output); holds-second = holds-type (t .holds-second) }
 
   pub reads-function : {q r : Bool} → y .kind ≡ 3 → x .kind ≡ 21 → TypesSay s (y .a) (x .b) below? q → q ≡ true →
       TypesSay s (x .c) (y .b) below? r → Readable s v a r
@@ -298,7 +309,7 @@ module _ {s : List ℕ} {v a : ℕ} {x y : Cell} (g : CellsOf s v a x y) where
     says = λ e A h w.
         let t = arrow-at w k in
         let u = lam-at h n in
-        and-both (function-asks w t u) (f .says _ _ (t .holds-first) (u .holds-input)) m (g .says _ _ (u .holds-output) (t .holds-second));
+        and-both (function-asks w t u) (f .says _ _ (holds-type (t .holds-first)) (holds-type (u .holds-input))) m (g .says _ _ (holds-type (u .holds-output)) (holds-type (t .holds-second)));
   }
 
   pub reads-not-input : {q : Bool} → y .kind ≡ 3 → x .kind ≡ 21 → TypesSay s (y .a) (x .b) below? q → q ≡ false → Readable s v a false
@@ -306,7 +317,7 @@ module _ {s : List ℕ} {v a : ℕ} {x y : Cell} (g : CellsOf s v a x y) where
     says = λ e A h w.
         let t = arrow-at w k in
         let u = lam-at h n in
-        and-fails _ (function-asks w t u) (f .says _ _ (t .holds-first) (u .holds-input)) m;
+        and-fails _ (function-asks w t u) (f .says _ _ (holds-type (t .holds-first)) (holds-type (u .holds-input))) m;
   }
 
   pub reads-no-function : y .kind ≡ 3 → (x .kind ≡ 21 → ⊥) → Readable s v a false
@@ -316,17 +327,17 @@ module _ {s : List ℕ} {v a : ℕ} {x y : Cell} (g : CellsOf s v a x y) where
         rw (
           t .is,
           single-arrow (t .first) (t .second) e (not-top w (t .is)) (is-single h),
-          no-function (t .first) (t .second) h n,
+          no-function (t .first) (t .second) (holds-term h) n,
         )
         refl;
   }
 
   module _ (not-int : y .kind ≡ 1 → ⊥) (not-arrow : y .kind ≡ 3 → ⊥) where
     field-kind : cellAt s a .kind ≡ 5
-    field-kind = field-left own-type (g .given .at .ordinary) (g .given .at .proper) (rw (g .type) at not-int) (rw (g .type) at not-arrow)
+    field-kind = field-left (holds-type own-type) (g .given .at .ordinary) (g .given .at .proper) (rw (g .type) at not-int) (rw (g .type) at not-arrow)
 
     -- a record under a record type asks the labels, then the contents
-    record-asks : {e : Term} {A : Ty} → HoldsType s a A → (t : OneType s a A) (u : OneTerm s v rcd e) →
+    record-asks : {e : Term} {A : Ty} → RunsType s a A → (t : OneType s a A) (u : OneTerm s v rcd e) →
         isSome (cast A e) ≡ (eqb (cellAt s a .label) (cellAt s v .label) && isSome (cast (t .content) (u .term)))
     record-asks w t u =
         ap₂ (λ B g. isSome (cast B g)) (t .is) (u .is)
@@ -365,7 +376,7 @@ module _ {s : List ℕ} {v a : ℕ} {x y : Cell} (g : CellsOf s v a x y) where
           rw (
             t .is,
             single-field _ (t .content) e (not-top w (t .is)) (is-single h),
-            no-record _ (cast (t .content)) h n,
+            no-record _ (cast (t .content)) (holds-term h) n,
           )
           refl;
     }

@@ -1,5 +1,5 @@
 -- What a reading is made of, by the kinds of the cells of the value and of the type: where a value is read, its parts are. Assumes nothing.
-use Prim.Native.Nat.{ℕ}
+use Prim.Native.Nat.{ℕ, _+_, _*_}
 use native.Mathlib.Decide.{ℕ-discrete}
 use mathlib.Core.Path.{_≡_, refl, sym, ap, _∙_}
 use mathlib.Core.Bool.{Bool, true, false, _&&_, cond}
@@ -9,13 +9,15 @@ use mathlib.Core.Logic.{by-cases}
 use lib.Dec.{eqb}
 use borrow.Author.Tests.{eqb-true}
 use Rattle.calculus.specs.Syntax.{Ty, int, arrow, inter, field}
-use Rattle.calculus.specs.Syntax.{Term, lam, merge, rcd}
+use Rattle.calculus.specs.Syntax.{Term, lit, lam, merge, rcd}
 use Rattle.calculus.specs.Subtyping.{TopLike}
 use Rattle.calculus.specs.Decide.{below?}
 use Rattle.calculus.specs.Evaluate.{within, mergeBoth, castInt, castArrow, castField, cast}
-use Rattle.format.specs.Cell.{cellAt}
-use Rattle.cells.specs.Held.{HoldsTerm}
-use Rattle.cells.proofs.Held.{FunctionAt, OneTerm, lit-at, lam-at, rcd-at}
+use Rattle.format.specs.Cell.{cellAt, half, signed}
+use Rattle.cells.proofs.Held.{lit-at}
+use Rattle.emission.specs.Runs.{RunsTerm}
+use Rattle.emission.proofs.Runs.{holds-term}
+use Rattle.emission.proofs.RunParts.{FunctionAt, OneTerm, lam-at, rcd-at}
 use Rattle.reading.specs.Reads.{NoMerge}
 use Rattle.reading.proofs.Single.{single-int, single-arrow, single-field, no-number, no-function, no-record}
 
@@ -63,7 +65,7 @@ within-some {x} l k o = go (eqb l k) refl o refl
 -- the function f at i, read as x with the output type D
 pub record FunctionRead (s : List ℕ) (i : ℕ) (f x : Term) (D : Ty) : Type 0 where
   pub function : FunctionAt s i f
-  pub holds : HoldsTerm s i (lam (function .body) (function .input) (function .output))
+  pub holds : RunsTerm s i (lam (function .body) (function .input) (function .output))
   pub is : x ≡ lam (function .body) (function .input) D
 
 -- the record f at i, read as x with its content read under A
@@ -73,14 +75,14 @@ pub record RecordRead (s : List ℕ) (i : ℕ) (f x : Term) (A : Ty) : Type 0 wh
   pub reads : cast A (held .term) ≡ some content
   pub is : x ≡ rcd (cellAt s i .label) content
 
-module _ {s : List ℕ} {i : ℕ} {f x : Term} (h : HoldsTerm s i f) (n : NoMerge f) where
+module _ {s : List ℕ} {i : ℕ} {f x : Term} (h : RunsTerm s i f) (n : NoMerge f) where
   -- a number is read as it is
-  pub number-read : cast int f ≡ some x → x ≡ f
+  pub number-read : cast int f ≡ some x → x ≡ lit (signed half (cellAt s i .b + 65536 * cellAt s i .c))
   unfolding castInt
   number-read e =
       let g : castInt f ≡ some x = sym (single-int f n) ∙ e in
-      by-cases (ℕ-discrete (cellAt s i .kind) 17) (λ k. let z = lit-at h k in rw z (sym (Option·some-injective _ _ (rw z at g))))
-      (λ k. no-answer (sym (no-number h k) ∙ g))
+      by-cases (ℕ-discrete (cellAt s i .kind) 17) (λ k. sym (Option·some-injective _ _ (rw (lit-at (holds-term h) k) at g)))
+      (λ k. no-answer (sym (no-number (holds-term h) k) ∙ g))
 
   pub function-read : (C D : Ty) → ¬ TopLike D → cast (arrow C D) f ≡ some x → FunctionRead s i f x D
   unfolding castArrow
@@ -90,7 +92,7 @@ module _ {s : List ℕ} {i : ℕ} {f x : Term} (h : HoldsTerm s i f) (n : NoMerg
       (λ k.
       let z = lam-at h k in
       record { function = z; holds = rw (z .is) at h; is = when-some (below? C (z .input) && below? (z .output) D) (rw (z .is) at g) })
-      (λ k. no-answer (sym (no-function C D h k) ∙ g))
+      (λ k. no-answer (sym (no-function C D (holds-term h) k) ∙ g))
 
   pub record-read : (l : ℕ) (A : Ty) → ¬ TopLike A → cast (field l A) f ≡ some x → RecordRead s i f x A
   unfolding castField
@@ -101,4 +103,4 @@ module _ {s : List ℕ} {i : ℕ} {f x : Term} (h : HoldsTerm s i f) (n : NoMerg
       let z = rcd-at h k in
       let w = within-some l (cellAt s i .label) (cast A (z .term)) (rw (z .is) at g) in
       record { held = z; content = w .content; reads = w .reads; is = w .is ∙ ap (λ m. rcd m (w .content)) (w .same) })
-      (λ k. no-answer (sym (no-record l (cast A) h k) ∙ g))
+      (λ k. no-answer (sym (no-record l (cast A) (holds-term h) k) ∙ g))

@@ -1,4 +1,4 @@
--- Reading a held value under a held type: what a call needs, and what it answers and leaves. Assumes nothing.
+-- Reading a value under a type, each the end of a run of cells: what a call needs, and what it answers and leaves. Assumes nothing.
 use Prim.Native.Nat.{ℕ}
 use mathlib.Core.Path.{_≡_}
 use mathlib.Core.Bool.{Bool, true, false}
@@ -8,8 +8,8 @@ use Rattle.calculus.specs.Syntax.{Ty, arrow, Term, lam, merge}
 use Rattle.calculus.specs.Subtyping.{Ordinary, TopLike}
 use Rattle.calculus.specs.Evaluate.{cast}
 use Rattle.format.specs.Terms.{fromTerm}
-use Rattle.cells.specs.Held.{HoldsType, HoldsTerm}
 use Rattle.emission.specs.Emits.{Space, Emits}
+use Rattle.emission.specs.Runs.{RunsType, RunsTerm}
 use Rattle.emission.specs.declared.Laid.{Laid}
 use Rattle.reading.specs.declared.Part.{Part}
 use Rattle.reading.specs.declared.Part.the-variants.{At, Nothing}
@@ -21,12 +21,12 @@ isSome (some x) = true
 pub record ValueAndType (s : List ℕ) (v a : ℕ) : Type 0 where
   pub value : Term
   pub type : Ty
-  pub holds-value : HoldsTerm s v value
-  pub holds-type : HoldsType s a type
+  pub holds-value : RunsTerm s v value
+  pub holds-type : RunsType s a type
 
 -- Whether the value can be read under the type.
 pub record Readable (s : List ℕ) (v a : ℕ) (r : Bool) : Type 0 where
-  pub says : (e : Term) (A : Ty) → HoldsTerm s v e → HoldsType s a A → r ≡ isSome (cast A e)
+  pub says : (e : Term) (A : Ty) → RunsTerm s v e → RunsType s a A → r ≡ isSome (cast A e)
 
 -- The type is neither an intersection nor top-like.
 pub record ProperAt (s : List ℕ) (v a : ℕ) : Type 0 where
@@ -45,10 +45,14 @@ pub record SingleAt (s : List ℕ) (v a : ℕ) : Type 0 where
 -- The first part of the value that can be read under the type: what it reads, the value reads.
 abbrev pub PartBy : (s : List ℕ) (A : Ty) → Part → Option Term → Type 0
 PartBy s A r none = r ≡ Nothing
-PartBy s A r (some x) = (p : ℕ) × (f : Term) × (r ≡ At p) × HoldsTerm s p f × (cast A f ≡ some x) × NoMerge f
+PartBy s A r (some x) = (p : ℕ) × (f : Term) × (r ≡ At p) × RunsTerm s p f × (cast A f ≡ some x) × NoMerge f
 
 pub record FindsPart (s : List ℕ) (v a : ℕ) (r : Part) : Type 0 where
-  pub says : (e : Term) (A : Ty) → HoldsTerm s v e → HoldsType s a A → PartBy s A r (cast A e)
+  pub says : (e : Term) (A : Ty) → RunsTerm s v e → RunsType s a A → PartBy s A r (cast A e)
+
+-- The part by which a value that can be read is read.
+pub record PartOf (s : List ℕ) (v a : ℕ) (r : Part) : Type 0 where
+  pub says : (e x : Term) (A : Ty) → RunsTerm s v e → RunsType s a A → cast A e ≡ some x → PartBy s A r (some x)
 
 -- A value that can be read under a type, and a buffer for its reading.
 pub record ReadingReady (s d : List ℕ) (v a m : ℕ) : Type 0 where
@@ -64,7 +68,7 @@ pub record PartReady (s d : List ℕ) (v a m : ℕ) : Type 0 where
   pub proper : ¬ TopLike (ready .both .type)
 
 pub record EmitsReading (s d t : List ℕ) (v a m : ℕ) (r : Laid) : Type 0 where
-  pub says : (e x : Term) (A : Ty) → HoldsTerm s v e → HoldsType s a A → cast A e ≡ some x → Emits d t m r (fromTerm x)
+  pub says : (e x : Term) (A : Ty) → RunsTerm s v e → RunsType s a A → cast A e ≡ some x → Emits d t m r (fromTerm x)
 
 -- A function, a function type, and a buffer.
 pub record FunctionReady (s d : List ℕ) (p a m : ℕ) : Type 0 where
@@ -74,9 +78,9 @@ pub record FunctionReady (s d : List ℕ) (p a m : ℕ) : Type 0 where
   pub output : Ty
   pub first : Ty
   pub second : Ty
-  pub holds-function : HoldsTerm s p (lam body input output)
-  pub holds-type : HoldsType s a (arrow first second)
+  pub holds-function : RunsTerm s p (lam body input output)
+  pub holds-type : RunsType s a (arrow first second)
 
 -- The function with the output type of the other.
 pub record EmitsFunction (s d t : List ℕ) (p a m : ℕ) (r : Laid) : Type 0 where
-  pub says : (e : Term) (A B C D : Ty) → HoldsTerm s p (lam e A B) → HoldsType s a (arrow C D) → Emits d t m r (fromTerm (lam e A D))
+  pub says : (e : Term) (A B C D : Ty) → RunsTerm s p (lam e A B) → RunsType s a (arrow C D) → Emits d t m r (fromTerm (lam e A D))

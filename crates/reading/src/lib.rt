@@ -2,10 +2,11 @@
 use cells::Cell;
 use cells::read_cell;
 use emission::Laid;
-use emission::emit_field;
+use emission::emit_run;
+use emission::emit_run_to;
 use emission::finish;
 use types::subtype;
-ghost use Rattle.reading.specs.Reads.{ValueAndType, Readable, ProperAt, SingleAt, FindsPart};
+ghost use Rattle.reading.specs.Reads.{ValueAndType, Readable, ProperAt, SingleAt, FindsPart, PartOf};
 ghost use Rattle.reading.specs.Reads.{ReadingReady, PartReady, EmitsReading, FunctionReady, EmitsFunction};
 
 // A part of a value.
@@ -82,6 +83,18 @@ fn readable_part(s: &[u8], v: usize, a: usize) -> bool
     false
 }
 
+// The part by which the value at v is read, if it can be read: a value that is no merge is that part, so that nothing is asked of it.
+fn part_of(s: &[u8], v: usize, a: usize) -> Part
+    requires { ⌜ ProperAt (now s) v a ⌝ }
+    ensures { λ r. ⌜ PartOf (now (s .entry)) v a r ⌝ }
+{
+    let x = read_cell(s, v);
+    if x.kind == 22 {
+        return find_part(s, v, a);
+    }
+    Part::At(v)
+}
+
 // The function at p with the output type of the function type at a.
 fn emit_function(s: &[u8], d: &mut [u8], p: usize, a: usize, m: usize) -> Laid
     requires { ⌜ FunctionReady (now s) (now d) p a m ⌝ }
@@ -89,13 +102,13 @@ fn emit_function(s: &[u8], d: &mut [u8], p: usize, a: usize, m: usize) -> Laid
 {
     let f = read_cell(s, p);
     let t = read_cell(s, a);
-    let Laid::Next(x) = emit_field(s, d, 3, f.a, m) else {
+    let Laid::Next(x) = emit_run_to(s, d, f.a, m) else {
         return Laid::Full;
     };
-    let Laid::Next(y) = emit_field(s, d, 2, f.b, x) else {
+    let Laid::Next(y) = emit_run(s, d, f.a + 1, f.b + 1, x) else {
         return Laid::Full;
     };
-    let Laid::Next(z) = emit_field(s, d, 2, t.b, y) else {
+    let Laid::Next(z) = emit_run(s, d, t.a + 1, t.b + 1, y) else {
         return Laid::Full;
     };
     finish(
@@ -157,17 +170,27 @@ fn emit_part(s: &[u8], d: &mut [u8], v: usize, a: usize, m: usize) -> Laid
     requires { ⌜ PartReady (now s) (now d) v a m ⌝ }
     ensures { λ r. ⌜ EmitsReading (now (s .entry)) (now (d .entry)) (now (d .exit)) v a m r ⌝ }
 {
-    let Part::At(p) = find_part(s, v, a) else {
+    let Part::At(p) = part_of(s, v, a) else {
         return Laid::Full;
     };
     let y = read_cell(s, a);
-    if y.kind == 1 {
-        return emit_field(s, d, 3, p, m);
-    }
     if y.kind == 3 {
         return emit_function(s, d, p, a, m);
     }
     let x = read_cell(s, p);
+    if y.kind == 1 {
+        return finish(
+            d,
+            m,
+            Cell {
+                kind: 17,
+                label: 0,
+                a: 0,
+                b: x.b,
+                c: x.c,
+            },
+        );
+    }
     let Laid::Next(z) = emit_reading(s, d, x.a, y.a, m) else {
         return Laid::Full;
     };

@@ -3,4 +3,3 @@ pub mod Puts
 pub mod Two
 pub mod Nexts
 pub mod Opens
-pub mod Arms

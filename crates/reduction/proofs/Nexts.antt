@@ -1,94 +1,105 @@
--- The successor of a term, taken apart: which part steps, or what a value makes of it. Assumes nothing.
-use Prim.Native.Nat.{ℕ, _<_}
+-- The successor of a redex, by its kind: what a value makes of it. Assumes nothing.
+use Prim.Native.Nat.{ℕ, _*_, _+_, _≤_, _<_}
+use native.Mathlib.Omega.{arith}
 use mathlib.Core.Path.{_≡_, refl, sym}
-use mathlib.Core.Bool.{Bool, true, false, cond}
+use mathlib.Core.Bool.{true}
 use mathlib.Core.Option.{Option, none, some, Option·some-injective, Option·none-ne-some}
 use mathlib.Core.List.{List}
-use lib.Dec.{eqb}
-use Rattle.calculus.specs.Syntax.{Ty, Term, unit, anno, app, merge, fix, rcd, proj, put}
+use lib.ListN.{length}
+use Rattle.calculus.specs.Syntax.{Ty, Term, unit, anno, app, fix, put}
 use Rattle.calculus.specs.Decide.{value?}
-use Rattle.calculus.specs.Evaluate.{within, cast, apply, project, next}
+use Rattle.calculus.specs.Evaluate.{within, cast, apply, next}
 use Rattle.format.specs.Cell.{Cell, cellAt}
-use Rattle.cells.specs.Held.{HoldsType}
 use Rattle.cells.specs.Held.{HoldsTerm, h-var, h-lit, h-unit, h-anno, h-app, h-lam, h-merge, h-fix, h-rcd, h-proj}
+use Rattle.cells.proofs.Held.{kind-of, term-within}
+use Rattle.emission.specs.Runs.{RunsType, RunsTerm}
+use Rattle.emission.proofs.Runs.{holds-term}
+use Rattle.emission.proofs.RunParts.{lam-at}
+use Rattle.reduction.specs.Steps.{Redex, at-anno, at-app, at-fix}
 
 -- f of an answer
-pub record Within (f : Term → Term) (o : Option Term) (g : Term) : Type 0 where
-  pub to : Term
-  pub answers : o ≡ some to
-  pub is : g ≡ f to
+record Within (f : Term → Term) (o : Option Term) (g : Term) : Type 0 where
+  to : Term
+  answers : o ≡ some to
+  is : g ≡ f to
 
 within-some : (f : Term → Term) (o : Option Term) {g : Term} → within f o ≡ some g → Within f o g
 unfolding within
 within-some f none {g} h = absurd (Option·none-ne-some g h)
 within-some f (some x) {g} h = record { to = x; answers = refl; is = sym (Option·some-injective (f x) g h) }
 
-pub no-answer : {A : Type 0} {g : Term} → _≡_ {A = Option Term} none (some g) → A
+no-answer : {A : Type 0} {g : Term} → _≡_ {A = Option Term} none (some g) → A
 no-answer {g = g} h = absurd (Option·none-ne-some g h)
 
--- e steps inside f, and g is what comes of it
-pub record Stepped (f : Term → Term) (e g : Term) : Type 0 where
-  pub to : Term
-  pub steps : next e ≡ some to
-  pub is : g ≡ f to
-
-stepped : (f : Term → Term) {e g : Term} → within f (next e) ≡ some g → Stepped f e g
-stepped f {e} h = let w = within-some f (next e) h in record { to = w .to; steps = w .answers; is = w .is }
-
 module _ {g : Term} where
-  pub anno-reads : (e : Term) (A : Ty) → value? e ≡ true → next (anno e A) ≡ some g → cast A e ≡ some g
+  anno-reads : (e : Term) (A : Ty) → value? e ≡ true → next (anno e A) ≡ some g → cast A e ≡ some g
   unfolding next
   anno-reads e A v h = rw (v, next) at h
 
-  pub anno-steps : {e : Term} {A : Ty} → value? e ≡ false → next (anno e A) ≡ some g → Stepped (λ x. anno x A) e g
-  unfolding next
-  anno-steps v h = stepped _ (rw (v, next) at h)
-
-  pub app-first : {e f : Term} → value? e ≡ false → next (app e f) ≡ some g → Stepped (λ x. app x f) e g
-  unfolding next
-  app-first v h = stepped _ (rw (v, next) at h)
-
-  pub app-second : {e f : Term} → value? e ≡ true → value? f ≡ false → next (app e f) ≡ some g → Stepped (app e) f g
-  unfolding next
-  app-second v w h = stepped _ (rw (v, w, next) at h)
-
-  pub app-applies : (e f : Term) → value? e ≡ true → value? f ≡ true → next (app e f) ≡ some g → apply e f ≡ some g
+  app-applies : (e f : Term) → value? e ≡ true → value? f ≡ true → next (app e f) ≡ some g → apply e f ≡ some g
   unfolding next
   app-applies e f v w h = rw (v, w, next) at h
-
-  pub merge-first : {e f : Term} → value? e ≡ false → next (merge e f) ≡ some g → Stepped (λ x. merge x f) e g
-  unfolding next
-  merge-first v h = stepped _ (rw (v, next) at h)
-
-  pub merge-second : {e f : Term} → value? e ≡ true → next (merge e f) ≡ some g → Stepped (merge e) f g
-  unfolding next
-  merge-second v h = stepped _ (rw (v, next) at h)
 
   pub fix-opens : (e : Term) (A : Ty) → next (fix e A) ≡ some g → g ≡ anno (put 0 (fix e A) e) A
   unfolding next
   fix-opens e A h = sym (Option·some-injective _ g h)
 
-  pub rcd-steps : {l : ℕ} {e : Term} → next (rcd l e) ≡ some g → Stepped (rcd l) e g
-  unfolding next
-  rcd-steps h = stepped _ h
+-- ---- a redex, by its kind
 
-  pub proj-projects : (l : ℕ) (e : Term) → value? e ≡ true → next (proj l e) ≡ some g → project l e ≡ some g
-  unfolding next
-  proj-projects l e v h = rw (v, next) at h
+pub redex-within : {s : List ℕ} {i : ℕ} {e : Term} → Redex s i e → 8 * i + 8 ≤ length s
+redex-within (at-anno p _ _ _ _ _) = p .within
+redex-within (at-app p _ _ _ _ _ _) = p .within
+redex-within (at-fix r) = term-within (holds-term r)
 
-  pub proj-steps : {l : ℕ} {e : Term} → value? e ≡ false → next (proj l e) ≡ some g → Stepped (proj l) e g
-  unfolding next
-  proj-steps v h = stepped _ (rw (v, next) at h)
+fix-kind : {s : List ℕ} {i : ℕ} {e : Term} {A : Ty} → HoldsTerm s i (fix e A) → cellAt s i .kind ≡ 23
+fix-kind (h-fix p _ _ _ _) = kind-of p
 
--- ---- a value applied to a value, and a field read of one, by the cell that holds the value
+-- an annotated value: g is its reading
+pub record Read (s : List ℕ) (i : ℕ) (g : Term) : Type 0 where
+  pub value : Term
+  pub type : Ty
+  pub holds-value : RunsTerm s (cellAt s i .a) value
+  pub holds-type : RunsType s (cellAt s i .b) type
+  pub reads : cast type value ≡ some g
+
+pub anno-redex : {s : List ℕ} {i : ℕ} {e g : Term} → Redex s i e → next e ≡ some g → cellAt s i .kind ≡ 19 → Read s i g
+anno-redex (at-anno {v = v} {A = A} p _ _ d h k) n _ =
+    record { value = v; type = A; holds-value = rw (p .is) h; holds-type = rw (p .is) k; reads = anno-reads v A d n }
+anno-redex (at-app p _ _ _ _ _ _) n o = absurd (omega (arith, kind-of p, o))
+anno-redex (at-fix r) n o = absurd (omega (arith, fix-kind (holds-term r), o))
+
+-- a value applied to a value
+pub record Arguments (s : List ℕ) (i : ℕ) (g : Term) : Type 0 where
+  pub first : Term
+  pub second : Term
+  pub lower : cellAt s i .a < i
+  pub second-lower : cellAt s i .b < i
+  pub holds-first : RunsTerm s (cellAt s i .a) first
+  pub holds-second : RunsTerm s (cellAt s i .b) second
+  pub applies : apply first second ≡ some g
+
+pub app-redex : {s : List ℕ} {i : ℕ} {e g : Term} → Redex s i e → next e ≡ some g → cellAt s i .kind ≡ 20 → Arguments s i g
+app-redex (at-anno p _ _ _ _ _) n o = absurd (omega (arith, kind-of p, o))
+app-redex (at-app {v = v} {u = u} p l m c d h k) n _ =
+    record { first = v; second = u; lower = rw (p .is) l; second-lower = rw (p .is) m; holds-first = rw (p .is) h; holds-second = rw (p .is) k; applies = app-applies v u c d n }
+app-redex (at-fix r) n o = absurd (omega (arith, fix-kind (holds-term r), o))
+
+-- a fixpoint
+pub fix-redex : {s : List ℕ} {i : ℕ} {e : Term} → Redex s i e → cellAt s i .kind ≡ 23 → RunsTerm s i e
+fix-redex (at-anno p _ _ _ _ _) o = absurd (omega (arith, kind-of p, o))
+fix-redex (at-app p _ _ _ _ _ _) o = absurd (omega (arith, kind-of p, o))
+fix-redex (at-fix r) _ = r
+
+pub last-kind : {s : List ℕ} {i : ℕ} {e : Term} → Redex s i e → (cellAt s i .kind ≡ 19 → ⊥) → (cellAt s i .kind ≡ 20 → ⊥) → cellAt s i .kind ≡ 23
+last-kind (at-anno p _ _ _ _ _) n m = absurd (n (kind-of p))
+last-kind (at-app p _ _ _ _ _ _) n m = absurd (m (kind-of p))
+last-kind (at-fix r) n m = fix-kind (holds-term r)
+
+-- ---- a value applied to a value, by the cell that holds the value
 
 pub unit-applies : (v : Term) {g : Term} → apply unit v ≡ some g → g ≡ unit
 unfolding apply
 unit-applies v {g} h = sym (Option·some-injective unit g h)
-
-pub unit-projects : (l : ℕ) {g : Term} → project l unit ≡ some g → g ≡ unit
-unfolding project
-unit-projects l {g} h = sym (Option·some-injective unit g h)
 
 -- a function whose argument reads; t is its cell as it was read
 pub record Applied (s : List ℕ) (j : ℕ) (t : Cell) (v g : Term) : Type 0 where
@@ -97,54 +108,41 @@ pub record Applied (s : List ℕ) (j : ℕ) (t : Cell) (v g : Term) : Type 0 whe
   pub output : Ty
   pub reading : Term
   pub lower : t .a < j
-  pub holds-body : HoldsTerm s (t .a) body
-  pub holds-input : HoldsType s (t .b) input
-  pub holds-output : HoldsType s (t .c) output
+  pub input-lower : t .b < j
+  pub holds-body : RunsTerm s (t .a) body
+  pub holds-input : RunsType s (t .b) input
+  pub holds-output : RunsType s (t .c) output
   pub reads : cast input v ≡ some reading
   pub is : g ≡ anno (put 0 reading body) output
 
-pub applied : {s : List ℕ} {j : ℕ} {t : Cell} {e v g : Term} → t ≡ cellAt s j → HoldsTerm s j e → (t .kind ≡ 18 → ⊥) → apply e v ≡ some g
+pub applied : {s : List ℕ} {j : ℕ} {t : Cell} {e v g : Term} → t ≡ cellAt s j → RunsTerm s j e → (t .kind ≡ 18 → ⊥) → apply e v ≡ some g
     → Applied s j t v g
 unfolding apply
-applied c (h-var p) n h = no-answer h
-applied c (h-lit p z) n h = no-answer h
-applied c (h-unit p) n h = absurd (n (rw (c, p .is)))
-applied c (h-anno p u w x y) n h = no-answer h
-applied c (h-app p u w x y) n h = no-answer h
-applied {v = v} c (h-lam {e = e} {A = A} {B = B} p u w o x y z) n h =
-    let q = within-some (λ x. anno (put 0 x e) B) (cast A v) h in
-    record {
-      body = e;
-      input = A;
-      output = B;
-      reading = q .to;
-      lower = rw (c, p .is) u;
-      holds-body = rw (c, p .is) x;
-      holds-input = rw (c, p .is) y;
-      holds-output = rw (c, p .is) z;
-      reads = q .answers;
-      is = q .is;
-    }
-applied c (h-merge p u w x y) n h = no-answer h
-applied c (h-fix p u w x y) n h = no-answer h
-applied c (h-rcd p u x) n h = no-answer h
-applied c (h-proj p u x) n h = no-answer h
-
--- the content of a record
-content : (b : Bool) {e g : Term} → _≡_ {A = Option Term} (cond b (some e) none) (some g) → e ≡ g
-content true {e} {g} h = Option·some-injective e g h
-content false h = no-answer h
-
-pub projected : {s : List ℕ} {j : ℕ} {t : Cell} (l : ℕ) {e g : Term} → t ≡ cellAt s j → HoldsTerm s j e → (t .kind ≡ 18 → ⊥)
-    → project l e ≡ some g → HoldsTerm s (t .a) g
-unfolding project
-projected l c (h-var p) n h = no-answer h
-projected l c (h-lit p z) n h = no-answer h
-projected l c (h-unit p) n h = absurd (n (rw (c, p .is)))
-projected l c (h-anno p u w x y) n h = no-answer h
-projected l c (h-app p u w x y) n h = no-answer h
-projected l c (h-lam p u w o x y z) n h = no-answer h
-projected l c (h-merge p u w x y) n h = no-answer h
-projected l c (h-fix p u w x y) n h = no-answer h
-projected l c (h-rcd {l = k} p u x) n h = rw (c, p .is, ← content (eqb l k) h) x
-projected l c (h-proj p u x) n h = no-answer h
+applied {s} {j} {t} {v = v} {g} c r n h = go (holds-term r) r h
+  where
+    go : {e : Term} → HoldsTerm s j e → RunsTerm s j e → apply e v ≡ some g → Applied s j t v g
+    go (h-var p) r h = no-answer h
+    go (h-lit p z) r h = no-answer h
+    go (h-unit p) r h = absurd (n (rw (c, p .is)))
+    go (h-anno p u w x y) r h = no-answer h
+    go (h-app p u w x y) r h = no-answer h
+    go (h-lam {e = e} {A = A} {B = B} p u w o x y z) r h =
+        let q = within-some (λ x. anno (put 0 x e) B) (cast A v) h in
+        let f = lam-at r (kind-of p) in
+        record {
+          body = f .body;
+          input = f .input;
+          output = f .output;
+          reading = q .to;
+          lower = rw c (f .body-lower);
+          input-lower = rw (c, p .is) w;
+          holds-body = rw c (f .holds-body);
+          holds-input = rw c (f .holds-input);
+          holds-output = rw c (f .holds-output);
+          reads = cc (f .is, q .answers);
+          is = cc (f .is, q .is);
+        }
+    go (h-merge p u w x y) r h = no-answer h
+    go (h-fix p u w x y) r h = no-answer h
+    go (h-rcd p u x) r h = no-answer h
+    go (h-proj p u x) r h = no-answer h

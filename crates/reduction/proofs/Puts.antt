@@ -3,33 +3,37 @@
 use Prim.Native.Nat.{ℕ, zero, suc, _+_, _*_, _≤_, _<_}
 use native.Mathlib.Numerals.{add-one}
 use native.Mathlib.Omega.{arith}
-use mathlib.Core.Path.{_≡_, refl, _∙_}
+use mathlib.Core.Path.{_≡_, refl, ap, _∙_}
 use mathlib.Core.Bool.{Bool, true, false, cond}
 use mathlib.Core.Logic.{_⊎_, inl, inr, ⊎-elim}
 use mathlib.Core.Option.{some}
 use mathlib.Core.List.{List}
 use lib.Dec.{eqb}
 use borrow.Author.Tests.{eq-eqb, ne-eqb}
-use Rattle.calculus.specs.Syntax.{Term, var, put}
-use Rattle.format.specs.Table.{Use, Row, table, rowIn, rowOf}
+use Rattle.calculus.specs.Syntax.{Ty, Term, var, lit, unit, anno, app, lam, merge, fix, rcd, proj, put}
+use Rattle.format.specs.Table.{type-sort, term-sort, Use, refers, Row, table, rowIn, rowOf}
 use Rattle.format.specs.Cell.{IsBytes, Cell, cellAt}
-use Rattle.format.specs.Tree.{Tree, node}
-use Rattle.format.specs.Terms.{fromTerm}
-use Rattle.format.proofs.Tests.{number, cell-fits}
+use Rattle.format.specs.Tree.{Tree, raw, node}
+use Rattle.format.specs.Terms.{fromType, fromTerm, TermFits}
+use Rattle.format.specs.Book.{sizeLimit}
 use Rattle.cells.specs.Held.{IsCell}
-use Rattle.cells.specs.Held.{HoldsTerm, h-var, h-lit, h-unit, h-anno, h-app, h-lam, h-merge, h-fix, h-rcd, h-proj}
 use Rattle.cells.specs.Coded.{useOf, rowFrom}
 use Rattle.cells.specs.declared.Entry.{Entry}
 use Rattle.cells.proofs.Held.{var-at}
-use Rattle.emission.specs.Emits.{labelBy, HeldField, f-unused, f-plain, Space, Finishes, rowCell, RowReady, FieldReady, EmitsField}
+use Rattle.emission.specs.Emits.{labelBy, laidOf, Within, Space, Emits, LastReady, Finishes, rowCell, RowReady}
+use Rattle.emission.specs.Runs.{Run, RunsType, RunsTerm}
+use Rattle.emission.specs.Copies.{EndReady, EmitsEnd}
 use Rattle.emission.specs.declared.Laid.{Laid}
 use Rattle.emission.specs.declared.Laid.the-variants.{Next, Full}
 use Rattle.emission.proofs.Compose.{Placed, placed, no-room, placed-space, Stands, s-unused, s-plain, s-refers}
-use Rattle.emission.proofs.Compose.{type-positive, term-positive, row-ready, emits-row, full-first, full-second, full-third}
+use Rattle.emission.proofs.Compose.{type-positive, term-positive, row-ready, emits-row, emits-raw, emits-leaf, full-first, full-second, full-third}
 use Rattle.emission.proofs.Emitting.{uses, fields-fit}
-use Rattle.emission.proofs.Fields.{type-field, emits-term}
+use Rattle.emission.proofs.Runs.{grows, parts, below, plain-is, holds-term}
+use Rattle.emission.proofs.RunParts.{runs-type, runs-term}
+use Rattle.emission.proofs.Copies.{type-ready, type-emits}
+use Rattle.emission.proofs.Ends.{laid-within, emits-within}
 use Rattle.reduction.specs.Steps.{Puts, SourceReady, EmitsSource, inside, PutField, p-unused, p-plain, p-type, p-term}
-use Rattle.reduction.specs.Steps.{FieldPutReady, EmitsPutField, PutReady, EmitsPut}
+use Rattle.reduction.specs.Steps.{FieldPutReady, EmitsPutField, PutReady, VariableReady, EmitsPut}
 use Rattle.reduction.specs.declared.Source.{Source}
 
 -- ---- binders
@@ -56,18 +60,29 @@ put-stands p-plain = s-plain
 put-stands (p-type {A = A} l h) = s-refers (type-positive A)
 put-stands {k = k} {x = x} (p-term {e = e} l h) = s-refers (term-positive (put k x e))
 
--- what is no term is as it is held
-put-held : {s : List ℕ} {i k n : ℕ} {x : Term} {f : Tree} (u : ℕ) → u < 3 → PutField s i k x (useOf u) n f → HeldField s i (useOf u) n f
-put-held zero l p-unused = f-unused
-put-held (suc zero) l p-plain = f-plain
-put-held (suc (suc zero)) l (p-type v h) = type-field h v
-put-held (suc (suc (suc u))) l h = absurd (omega arith)
+-- no cell
+put-none : {s d : List ℕ} {i k m n : ℕ} {x : Term} {f : Tree} (u : ℕ) → u < 2 → m ≤ sizeLimit → PutField s i k x (useOf u) n f → Emits d d m (Next m) f
+put-none {d = d} {m = m} zero l b p-unused = emits-raw d m 0 b
+put-none {d = d} {m = m} {n = n} (suc zero) l b p-plain = emits-raw d m n b
+put-none (suc (suc u)) l b h = absurd (omega arith)
+
+-- a type
+record TypePut (s : List ℕ) (n : ℕ) (f : Tree) : Type 0 where
+  type : Ty
+  runs : RunsType s n type
+  is : f ≡ fromType type
+
+type-put : {s : List ℕ} {i k n : ℕ} {x : Term} {f : Tree} (u : ℕ) → u ≡ 2 → PutField s i k x (useOf u) n f → TypePut s n f
+type-put zero l h = absurd (omega arith)
+type-put (suc zero) l h = absurd (omega arith)
+type-put (suc (suc zero)) l (p-type {A = A} v h) = record { type = A; runs = h; is = refl }
+type-put (suc (suc (suc u))) l h = absurd (omega arith)
 
 -- a term
 record TermPut (s : List ℕ) (i k n : ℕ) (x : Term) (f : Tree) : Type 0 where
   term : Term
   lower : n < i
-  holds : HoldsTerm s n term
+  holds : RunsTerm s n term
   is : f ≡ fromTerm (put k x term)
 
 term-put : {s : List ℕ} {i k n : ℕ} {x : Term} {f : Tree} (u : ℕ) → 3 ≤ u → PutField s i k x (useOf u) n f → TermPut s i k n x f
@@ -98,11 +113,17 @@ body-less (suc (suc (suc u))) n h e = omega arith
 -- ---- the calls of `put_field`
 
 module _ {s d : List ℕ} {u n k m : ℕ} {p : Source} where
-  pub copy-ready : u < 3 → FieldPutReady s d u n k m p → FieldReady s d u n m
-  copy-ready l r = record { space = r .source .space; cell = r .cell; tree = r .tree; holds = put-held u l (r .holds) }
+  pub nothing-emits : u < 2 → FieldPutReady s d u n k m p → EmitsPutField s d d u n k m p (laidOf m)
+  nothing-emits l r = record { says = λ i x f v h. rw (laid-within (r .source .space .used)) (put-none u l (r .source .space .used) h) }
 
-  pub copy-emits : {e : List ℕ} {r : Laid} → u < 3 → EmitsField s d e u n m r → EmitsPutField s d e u n k m p r
-  copy-emits l q = record { says = λ i x f v h. q .says i f (put-held u l h) }
+  pub copy-ready : u ≡ 2 → FieldPutReady s d u n k m p → EndReady s d n m
+  copy-ready l r = type-ready (r .source .space) (type-put u l (r .holds) .runs)
+
+  pub copy-within : {e : List ℕ} {r : Laid} → u ≡ 2 → FieldPutReady s d u n k m p → EmitsEnd s d e n m r → Within r
+  copy-within l h q = emits-within (type-emits q (type-put u l (h .holds) .runs))
+
+  pub copy-emits : {e : List ℕ} {r : Laid} → u ≡ 2 → EmitsEnd s d e n m r → EmitsPutField s d e u n k m p r
+  copy-emits l q = record { says = λ i x f v h. let t = type-put u l h in rw (t .is) (type-emits q (t .runs)) }
 
   pub body-ready : 3 ≤ u → FieldPutReady s d u n k m p → PutReady s d n k m p
   body-ready l r =
@@ -114,19 +135,25 @@ module _ {s d : List ℕ} {u n k m : ℕ} {p : Source} where
 
 -- ---- a variable
 
+pub variable-ready : (s : List ℕ) (i : ℕ) {d : List ℕ} {m : ℕ} {t : Cell} → IsBytes s → t ≡ cellAt s i → Space d m
+    → LastReady d (record { kind = 16; label = 0; a = t .a; b = 0; c = 0 })
+variable-ready s i y c p = record { long = p .long; fits = record { a = fields-fit s i y c .0; b = omega arith; c = omega arith } }
+
 module _ {s : List ℕ} {i : ℕ} {t : Cell} (c : t ≡ cellAt s i) (v : t .kind ≡ 16) where
-  variable : {e : Term} → HoldsTerm s i e → e ≡ var (t .a)
-  variable h = rw c (var-at h (rw c at v))
+  variable : {e : Term} → RunsTerm s i e → e ≡ var (t .a)
+  variable h = rw c (var-at (holds-term h) (rw c at v))
 
   pub source-put : {d e : List ℕ} {k m : ℕ} {p : Source} {r : Laid} → t .a ≡ k → EmitsSource s d e m p r → EmitsPut s d e i k m p r
   unfolding put
   source-put {k = k} q w = record { says = λ e x h b. rw (variable h, eq-eqb (t .a) k q) (w .says x b) }
 
-  pub variable-kept : {d e : List ℕ} {k m : ℕ} {p : Source} {r : Laid} → IsBytes s → (t .a ≡ k → ⊥) → EmitsField s d e 3 i m r
-      → EmitsPut s d e i k m p r
-  unfolding put
-  variable-kept {k = k} y q w =
-      record { says = λ e x h b. rw (variable h, ne-eqb (t .a) k q) (rw (variable h) at (emits-term y w h)) }
+  pub variable-kept : {d e : List ℕ} {k m : ℕ} {p : Source} {r : Laid} → m ≤ sizeLimit → (t .a ≡ k → ⊥)
+      → Finishes d e m (record { kind = 16; label = 0; a = t .a; b = 0; c = 0 }) r → EmitsPut s d e i k m p r
+  unfolding put fromTerm
+  variable-kept {k = k} y q w = record { says = λ e x h b. rw (variable h, ne-eqb (t .a) k q) (emits-leaf y w) }
+
+  pub variable-at : {d : List ℕ} {k m : ℕ} {p : Source} → PutReady s d i k m p → VariableReady s d i k m p
+  variable-at r = record { ready = r; kind = rw (← c) v }
 
 -- ---- the cell that `emit_put` reads
 
@@ -167,20 +194,49 @@ module _ {s d : List ℕ} {i k m : ℕ} {p : Source} {t : Cell} {y : Entry} {g :
         holds-c = rw (c, ← z .c) w;
       }
 
-  opened : {e : Term} → HoldsTerm s i e → Opened s i k t y g x e
+  -- a term, a type that stands in a field
+  as-term : (e : Term) {l n y z : ℕ} → TermFits e → Run true s y (refers term-sort) n (fromTerm e) z → z ≤ i
+      → PutField s i l x (refers term-sort) n (fromTerm (put l x e))
+  as-term e f r h = p-term (below r h) (runs-term f r)
+
+  as-type : (A : Ty) {n y z : ℕ} → Run true s y (refers type-sort) n (fromType A) z → z ≤ i → PutField s i k x (refers type-sort) n (fromType A)
+  as-type A r h = p-type (below r h) (runs-type r)
+
+  opened : (e : Term) → RunsTerm s i e → Opened s i k t y g x e
   unfolding fromTerm put table rowIn rowOf
-  opened (h-var q) = absurd (j .inner (rw (j .cell, q .is)))
-  opened (h-lit {b = b} {c = c} q z) =
-      let f = rw (q .is) at (cell-fits s (j .bytes) i) in
-      by-row q refl (rw z (number b c (f .2) (f .3))) p-unused p-plain p-plain
-  opened (h-unit q) = by-row q refl refl p-unused p-unused p-unused
-  opened (h-anno q u v f h) = by-row q refl refl (p-term u f) (p-type v h) p-unused
-  opened (h-app q u v f h) = by-row q refl refl (p-term u f) (p-term v h) p-unused
-  opened (h-lam q u v w f h o) = by-row q refl refl (p-term u f) (p-type v h) (p-type w o)
-  opened (h-merge q u v f h) = by-row q refl refl (p-term u f) (p-term v h) p-unused
-  opened (h-fix q u v f h) = by-row q refl refl (p-term u f) (p-type v h) p-unused
-  opened (h-rcd q u f) = by-row q refl refl (p-term u f) p-unused p-unused
-  opened (h-proj q u f) = by-row q refl refl (p-term u f) p-unused p-unused
+  opened (var n) r = let p = parts (r .run) refl in absurd (j .inner (rw (j .cell, p .cell .is)))
+  opened (lit z) r =
+      let p = parts (r .run) refl in
+      by-row (p .cell) refl (rw (plain-is (p .second), plain-is (p .third))) p-unused p-plain p-plain
+  opened unit r = let p = parts (r .run) refl in by-row (p .cell) refl refl p-unused p-unused p-unused
+  opened (anno e A) r =
+      let p = parts (r .run) refl in
+      let h = grows (p .third) in
+      by-row (p .cell) refl refl (as-term e (r .fits .0) (p .first) (omega (arith, grows (p .second)))) (as-type A (p .second) h) p-unused
+  opened (app e f) r =
+      let p = parts (r .run) refl in
+      let h = grows (p .third) in
+      by-row (p .cell) refl refl (as-term e (r .fits .0) (p .first) (omega (arith, grows (p .second)))) (as-term f (r .fits .1) (p .second) h) p-unused
+  opened (lam e A B) r =
+      let p = parts (r .run) refl in
+      let h = grows (p .third) in
+      by-row (p .cell) refl refl (as-term e (r .fits .0) (p .first) (omega (arith, grows (p .second)))) (as-type A (p .second) h) (as-type B (p .third) (omega arith))
+  opened (merge e f) r =
+      let p = parts (r .run) refl in
+      let h = grows (p .third) in
+      by-row (p .cell) refl refl (as-term e (r .fits .0) (p .first) (omega (arith, grows (p .second)))) (as-term f (r .fits .1) (p .second) h) p-unused
+  opened (fix e A) r =
+      let p = parts (r .run) refl in
+      let h = grows (p .third) in
+      by-row (p .cell) refl refl (as-term e (r .fits .0) (p .first) (omega (arith, grows (p .second)))) (as-type A (p .second) h) p-unused
+  opened (rcd l e) r =
+      let p = parts (r .run) refl in
+      let h = grows (p .third) in
+      by-row (p .cell) refl (ap (λ a. node 24 a (fromTerm (put k x e)) (raw 0) (raw 0)) (p .label)) (as-term e (r .fits .1) (p .first) (omega (arith, grows (p .second)))) p-unused p-unused
+  opened (proj l e) r =
+      let p = parts (r .run) refl in
+      let h = grows (p .third) in
+      by-row (p .cell) refl (ap (λ a. node 25 a (fromTerm (put k x e)) (raw 0) (raw 0)) (p .label)) (as-term e (r .fits .1) (p .first) (omega (arith, grows (p .second)))) p-unused p-unused
 
 -- ---- a field emitted by a call
 
@@ -192,7 +248,7 @@ went w q = record { says = λ i x f v h. placed (w .says i x f v h) q }
 
 module _ {s d : List ℕ} {i k m : ℕ} {p : Source} {t : Cell} {y : Entry} {g : ℕ} (j : Started s d i k m p t y g) where
   own : Opened s i k t y g (j .ready .source .put-in) (j .ready .body)
-  own = opened j (j .ready .source .put-in) (j .ready .holds)
+  own = opened j (j .ready .source .put-in) (j .ready .body) (j .ready .holds)
 
   pub less : {n : ℕ} → 2 * i + 1 ≡ n → (putMeasure (y .a) (t .a) < n) × (putMeasure (y .b) (t .b) < n) × (putMeasure (y .c) (t .c) < n)
   less e = (put-less (y .a) (own .holds-a) e, put-less (y .b) (own .holds-b) e, put-less (y .c) (own .holds-c) e)
@@ -213,7 +269,7 @@ module _ {s d : List ℕ} {i k m : ℕ} {p : Source} {t : Cell} {y : Entry} {g :
 
   pub none-first : {e : List ℕ} {r : Laid} → EmitsPutField s d e (y .a) (t .a) g m p r → r ≡ Full → EmitsPut s d e i k m p Full
   none-first w q =
-      record { says = λ e x h v. let o = opened j x h in rw (o .is) (full-first (no-room (w .says i x (o .a) v (o .holds-a)) q) refl) }
+      record { says = λ e x h v. let o = opened j x e h in rw (o .is) (full-first (no-room (w .says i x (o .a) v (o .holds-a)) q) refl) }
 
   module _ {f : List ℕ} {x : ℕ} (p1 : Went s d f (y .a) (t .a) g m p x) where
     first-placed : Placed d f m x (own .a)
@@ -232,7 +288,7 @@ module _ {s d : List ℕ} {i k m : ℕ} {p : Source} {t : Cell} {y : Entry} {g :
     pub none-second : {e : List ℕ} {r : Laid} → EmitsPutField s f e (y .b) (t .b) k x p r → r ≡ Full → EmitsPut s d e i k m p Full
     none-second w q =
         record {
-          says = λ e z h v. let o = opened j z h in
+          says = λ e z h v. let o = opened j z e h in
               rw (o .is)
               (full-second (p1 .says i z (o .a) v (o .holds-a)) (no-room (w .says i z (o .b) v (o .holds-b)) q) refl);
         }
@@ -254,7 +310,7 @@ module _ {s d : List ℕ} {i k m : ℕ} {p : Source} {t : Cell} {y : Entry} {g :
       pub none-third : {e : List ℕ} {r : Laid} → EmitsPutField s a e (y .c) (t .c) k n p r → r ≡ Full → EmitsPut s d e i k m p Full
       none-third w q =
           record {
-            says = λ e z h v. let o = opened j z h in
+            says = λ e z h v. let o = opened j z e h in
                 rw (o .is)
                 (full-third (p1 .says i z (o .a) v (o .holds-a)) (p2 .says i z (o .b) v (o .holds-b))
                 (no-room (w .says i z (o .c) v (o .holds-c)) q) refl);
@@ -280,7 +336,7 @@ module _ {s d f a h : List ℕ} {i k m x v w : ℕ} {p : Source} {t : Cell} {y :
   pub all-put : {e : List ℕ} {r : Laid} → Finishes h e w (rowCell t y x v w) r → EmitsPut s d e i k m p r
   all-put z =
       record {
-        says = λ e b g b2. let o = opened (j .started) b g in
+        says = λ e b g b2. let o = opened (j .started) b e g in
             rw (o .is)
             (emits-row t y (j .first .says i b (o .a) b2 (o .holds-a)) (j .second .says i b (o .b) b2 (o .holds-b)) (j .third .says i b (o .c) b2 (o .holds-c))
             (put-stands (o .holds-a)) (put-stands (o .holds-b)) (put-stands (o .holds-c)) z);

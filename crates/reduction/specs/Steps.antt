@@ -1,46 +1,37 @@
--- One step on cells: what a call needs, and what it answers and leaves. Assumes nothing.
-use Prim.Native.Nat.{ℕ, suc, _+_, _≤_, _<_}
+-- Contraction on cells: what a call needs, and what it answers and leaves. Assumes nothing.
+use Prim.Native.Nat.{ℕ, suc, _+_, _/_, _%_, _≤_, _<_}
 use mathlib.Core.Path.{_≡_}
-use mathlib.Core.Bool.{Bool, true, false, cond}
-use mathlib.Core.Logic.{_⊎_}
+use mathlib.Core.Bool.{true, cond}
 use mathlib.Core.Option.{some}
 use mathlib.Core.List.{List}
 use lib.Dec.{eqb}
-use Rattle.calculus.specs.Syntax.{Ty, Term, anno, put}
+use Rattle.calculus.specs.Syntax.{Ty, Term, anno, app, fix, put}
 use Rattle.calculus.specs.Decide.{value?}
 use Rattle.calculus.specs.Evaluate.{cast, next}
 use Rattle.format.specs.Cell.{cellAt}
 use Rattle.format.specs.Table.{Use, unused, plain, refers, type-sort, term-sort}
 use Rattle.format.specs.Tree.{Tree, raw}
 use Rattle.format.specs.Terms.{fromType, fromTerm}
-use Rattle.cells.specs.Held.{valueMark, HoldsType, HoldsTerm}
+use Rattle.cells.specs.Held.{IsCell}
 use Rattle.cells.specs.Coded.{useOf}
 use Rattle.emission.specs.Emits.{Space, Emits}
+use Rattle.emission.specs.Runs.{Run, RunsType, RunsTerm}
 use Rattle.emission.specs.declared.Laid.{Laid}
 use Rattle.reduction.specs.declared.Source.{Source}
 
--- Among the first n cells, merges and records carry in field c, which neither names, whether they are values.
-pub record ValuesMarked (s : List ℕ) (n : ℕ) : Type 0 where
-  pub marks : (i : ℕ) (e : Term) → i < n → HoldsTerm s i e → (cellAt s i .kind ≡ 22) ⊎ (cellAt s i .kind ≡ 24) → cellAt s i .c ≡ valueMark e
+-- A source as one number: its three numbers below 2, 8,192 and 8,192.
+pub record SourceLow (p : Source) : Type 0 where
+  pub reading : p .reading < 2
+  pub term : p .term < 8192
+  pub under : p .under < 8192
 
--- A held term in such a buffer.
-pub record MarkedTerm (s : List ℕ) (i : ℕ) : Type 0 where
-  pub cells : ℕ
-  pub marked : ValuesMarked s cells
-  pub below : i < cells
-  pub term : Term
-  pub holds : HoldsTerm s i term
-
-pub record SaysValue (s : List ℕ) (i : ℕ) (r : Bool) : Type 0 where
-  pub says : (e : Term) → HoldsTerm s i e → r ≡ value? e
+abbrev pub sourceOf : ℕ → Source
+sourceOf q = record { reading = q / 67108864; term = q / 8192 % 8192; under = q % 8192 }
 
 -- What is put in for a variable: the reading of a value under a type, or a term as it stands.
-abbrev pub Puts : List ℕ → Source → Term → Type 0
-Puts s p x = byReading (p .reading)
-  where
-    byReading : Bool → Type 0
-    byReading true = (v : Term) × (A : Ty) × HoldsTerm s (p .term) v × HoldsType s (p .under) A × (cast A v ≡ some x)
-    byReading false = HoldsTerm s (p .term) x
+pub data Puts (s : List ℕ) (p : Source) (x : Term) : Type 0 where
+  reads : {v : Term} {A : Ty} → p .reading ≡ 1 → RunsTerm s (p .term) v → RunsType s (p .under) A → cast A v ≡ some x → Puts s p x
+  stands : p .reading ≡ 0 → Run true s (p .under) (refers term-sort) (p .term) (fromTerm x) (suc (p .term)) → Puts s p x
 
 pub record SourceReady (s d : List ℕ) (m : ℕ) (p : Source) : Type 0 where
   pub space : Space d m
@@ -54,12 +45,12 @@ pub record EmitsSource (s d t : List ℕ) (m : ℕ) (p : Source) (r : Laid) : Ty
 abbrev pub inside : ℕ → ℕ → ℕ
 inside kind k = cond (eqb kind 21) (suc k) (cond (eqb kind 23) (suc k) k)
 
--- The tree of a field n of a body's cell i: a term has x put in for the variable that skips k binders, all else is as it is held.
+-- The tree of a field n of a body's cell i: a term has x put in for the variable that skips k binders, all else is as it stands.
 pub data PutField (s : List ℕ) (i k : ℕ) (x : Term) : Use → ℕ → Tree → Type 0 where
   p-unused : {n : ℕ} → PutField s i k x unused n (raw 0)
   p-plain : {n : ℕ} → PutField s i k x plain n (raw n)
-  p-type : {n : ℕ} {A : Ty} → n < i → HoldsType s n A → PutField s i k x (refers type-sort) n (fromType A)
-  p-term : {n : ℕ} {e : Term} → n < i → HoldsTerm s n e → PutField s i k x (refers term-sort) n (fromTerm (put k x e))
+  p-type : {n : ℕ} {A : Ty} → n < i → RunsType s n A → PutField s i k x (refers type-sort) n (fromType A)
+  p-term : {n : ℕ} {e : Term} → n < i → RunsTerm s n e → PutField s i k x (refers term-sort) n (fromTerm (put k x e))
 
 -- A field n of use u, of some cell, and what is put in.
 pub record FieldPutReady (s d : List ℕ) (u n k m : ℕ) (p : Source) : Type 0 where
@@ -76,51 +67,46 @@ pub record PutReady (s d : List ℕ) (i k m : ℕ) (p : Source) : Type 0 where
   pub source : SourceReady s d m p
   pub small : k + i < 131072
   pub body : Term
-  pub holds : HoldsTerm s i body
+  pub holds : RunsTerm s i body
+
+-- The same at a variable.
+pub record VariableReady (s d : List ℕ) (i k m : ℕ) (p : Source) : Type 0 where
+  pub ready : PutReady s d i k m p
+  pub kind : cellAt s i .kind ≡ 16
 
 pub record EmitsPut (s d t : List ℕ) (i k m : ℕ) (p : Source) (r : Laid) : Type 0 where
-  pub says : (e x : Term) → HoldsTerm s i e → Puts s p x → Emits d t m r (fromTerm (put k x e))
+  pub says : (e x : Term) → RunsTerm s i e → Puts s p x → Emits d t m r (fromTerm (put k x e))
 
 -- A body at i, what is put in for its variable 0, and the type at a that is to annotate it.
 pub record OpenedReady (s d : List ℕ) (i a m : ℕ) (p : Source) : Type 0 where
   pub body : PutReady s d i 0 m p
+  pub low : SourceLow p
   pub type : Ty
-  pub holds : HoldsType s a type
+  pub holds : RunsType s a type
 
 pub record EmitsOpened (s d t : List ℕ) (i a m : ℕ) (p : Source) (r : Laid) : Type 0 where
-  pub says : (e x : Term) (A : Ty) → HoldsTerm s i e → Puts s p x → HoldsType s a A → Emits d t m r (fromTerm (anno (put 0 x e) A))
+  pub says : (e x : Term) (A : Ty) → RunsTerm s i e → Puts s p x → RunsType s a A → Emits d t m r (fromTerm (anno (put 0 x e) A))
 
--- A term that has a successor, and a buffer for it.
-pub record NextReady (s d : List ℕ) (i m : ℕ) : Type 0 where
+-- A redex at i: an annotated value, a value applied to a value, each part the end of a run; or a fixpoint, the end of a run itself.
+pub data Redex (s : List ℕ) (i : ℕ) : Term → Type 0 where
+  at-anno : {l a b c : ℕ} {v : Term} {A : Ty} → IsCell s i 19 l a b c → a < i → b < i → value? v ≡ true → RunsTerm s a v → RunsType s b A → Redex s i (anno v A)
+  at-app : {l a b c : ℕ} {v u : Term} → IsCell s i 20 l a b c → a < i → b < i → value? v ≡ true → value? u ≡ true → RunsTerm s a v → RunsTerm s b u →
+      Redex s i (app v u)
+  at-fix : {e : Term} {A : Ty} → RunsTerm s i (fix e A) → Redex s i (fix e A)
+
+-- A redex that has a successor, and a buffer for it.
+pub record ContractReady (s d : List ℕ) (i m : ℕ) : Type 0 where
   pub space : Space d m
-  pub at : MarkedTerm s i
   pub low : i < 8192
+  pub term : Term
+  pub redex : Redex s i term
   pub successor : Term
-  pub steps : next (at .term) ≡ some successor
+  pub steps : next term ≡ some successor
 
--- The same, at a term of kind k.
-pub record NextAt (s d : List ℕ) (i m k : ℕ) : Type 0 where
-  pub ready : NextReady s d i m
+-- The same, at a cell of kind k.
+pub record ContractAt (s d : List ℕ) (i m k : ℕ) : Type 0 where
+  pub ready : ContractReady s d i m
   pub kind : cellAt s i .kind ≡ k
 
--- The same, at a term whose part in field a is to step: no fixpoint, and that part no value, which need not be said of a record;
-pub record FirstReady (s d : List ℕ) (i m : ℕ) : Type 0 where
-  pub ready : NextReady s d i m
-  pub part : cellAt s i .kind ≡ 23 → ⊥
-  pub first : (cellAt s i .kind ≡ 24 → ⊥) → SaysValue s (cellAt s i .a) false
-
--- at an application or a merge whose left is a value, and the right of an application is none;
-pub record SecondReady (s d : List ℕ) (i m : ℕ) : Type 0 where
-  pub ready : NextReady s d i m
-  pub kind : (cellAt s i .kind ≡ 20) ⊎ (cellAt s i .kind ≡ 22)
-  pub first : SaysValue s (cellAt s i .a) true
-  pub second : cellAt s i .kind ≡ 20 → SaysValue s (cellAt s i .b) false
-
--- at an application of a value to a value.
-pub record ApplyReady (s d : List ℕ) (i m : ℕ) : Type 0 where
-  pub at : NextAt s d i m 20
-  pub first : SaysValue s (cellAt s i .a) true
-  pub second : SaysValue s (cellAt s i .b) true
-
-pub record EmitsNext (s d t : List ℕ) (i m : ℕ) (r : Laid) : Type 0 where
-  pub says : (e f : Term) → HoldsTerm s i e → next e ≡ some f → Emits d t m r (fromTerm f)
+pub record Contracts (s d t : List ℕ) (i m : ℕ) (r : Laid) : Type 0 where
+  pub says : (e f : Term) → Redex s i e → next e ≡ some f → Emits d t m r (fromTerm f)

@@ -1,1 +1,4 @@
+pub mod Waiting
+pub mod Contexts
+pub mod Places
 pub mod Turns

@@ -1,5 +1,5 @@
 -- The turns of a run over the lent buffer: what a step needs, and what it answers and leaves. Assumes nothing.
-use Prim.Native.Nat.{ℕ, _+_, _<_}
+use Prim.Native.Nat.{ℕ, _+_, _≤_, _<_}
 use mathlib.Core.Path.{_≡_}
 use mathlib.Core.Bool.{true, false}
 use mathlib.Core.Option.{some}
@@ -19,6 +19,8 @@ use Rattle.layout.specs.Lays.{LiesTree}
 use Rattle.outcome.specs.Numbers.{stopAnswer}
 use Rattle.outcome.specs.declared.Stop.{Stop}
 use Rattle.outcome.specs.declared.Stop.the-variants.{Value, Spent, Room}
+use Rattle.running.specs.Places.{Standing, Runnable, Ready, Settled}
+use Rattle.running.specs.declared.Focus.{Focus}
 use Rattle.running.specs.declared.State.{State}
 use Rattle.running.specs.declared.Turn.{Turn}
 use Rattle.running.specs.declared.Turn.the-variants.{Next, Ended}
@@ -36,22 +38,45 @@ pub record TypedLies (w : List ℕ) (n : ℕ) : Type 0 where
   pub type : Ty
   pub typed : Typed [] term type
 
--- The same, and a buffer of 8,192 cells to load into.
+-- The same in a work buffer, and a buffer of 4,096 cells.
 pub record StepReady (s w : List ℕ) (n : ℕ) : Type 0 where
-  pub long : length s ≡ 65536
+  pub long : 32768 ≤ length s
+  pub work : length w ≡ 65536
   pub at : TypedLies w n
 
--- One turn of e, which lies in n cells, after k steps of at most l: r is the answer, and v the work buffer then. "value when the term is
--- one; else spent when exactly the limit has been taken; else no room when the successor's size exceeds 4,095"
-pub data TurnOf (v : List ℕ) (n k l : ℕ) (e : Term) (r : Turn) : Type 0 where
-  t-value : value? e ≡ true → r ≡ Ended (Value k) n → Lies v n e → TurnOf v n k l e r
-  t-spent : value? e ≡ false → k ≡ l → r ≡ Ended (Spent k) n → Lies v n e → TurnOf v n k l e r
-  t-room : {f : Term} → value? e ≡ false → k < l → next e ≡ some f → ltb sizeLimit (size f) ≡ true → r ≡ Ended (Room k) n → Lies v n e → TurnOf v n k l e r
-  t-next : {f : Term} {x : State} → value? e ≡ false → k < l → next e ≡ some f → ltb sizeLimit (size f) ≡ false → r ≡ Next x →
-      x .steps ≡ k + 1 → Lies v (x .cells) f → TurnOf v n k l e r
+-- The term that lies there has its place.
+pub record Starts (w v : List ℕ) (n : ℕ) (r : Focus) : Type 0 where
+  pub long : length v ≡ 65536
+  pub settled : Settled r
+  pub says : (e : Term) (A : Ty) → Lies w n e → Typed [] e A → Standing v r e
 
-pub record Steps (w v : List ℕ) (n k l : ℕ) (r : Turn) : Type 0 where
-  pub says : (e : Term) (A : Ty) → Lies w n e → Typed [] e A → TurnOf v n k l e r
+-- A state within the limit l, and a buffer of 4,096 cells.
+pub record TurnReady (s w : List ℕ) (x : State) (l : ℕ) : Type 0 where
+  pub long : 32768 ≤ length s
+  pub ready : Ready w (x .focus)
+  pub settled : Settled (x .focus)
+  pub taken : x .steps ≤ l
+
+-- One turn of e, which stands at the focus x, after k steps of at most l: r is the answer, and v the work buffer then. "value when the term
+-- is one; else spent when exactly the limit has been taken; else no room when the successor's size exceeds 4,095"
+pub data TurnOf (v : List ℕ) (x : Focus) (k l : ℕ) (e : Term) (r : Turn) : Type 0 where
+  t-value : value? e ≡ true → r ≡ Ended (Value k) x → Standing v x e → TurnOf v x k l e r
+  t-spent : value? e ≡ false → k ≡ l → r ≡ Ended (Spent k) x → Standing v x e → TurnOf v x k l e r
+  t-room : {f : Term} → value? e ≡ false → k < l → next e ≡ some f → ltb sizeLimit (size f) ≡ true → r ≡ Ended (Room k) x → Standing v x e →
+      TurnOf v x k l e r
+  t-next : {f : Term} {y : State} → value? e ≡ false → k < l → next e ≡ some f → ltb sizeLimit (size f) ≡ false → r ≡ Next y →
+      y .steps ≡ k + 1 → Settled (y .focus) → Standing v (y .focus) f → TurnOf v x k l e r
+
+pub record Steps (w v : List ℕ) (x : State) (l : ℕ) (r : Turn) : Type 0 where
+  pub says : (e : Term) → Standing w (x .focus) e → Runnable e → TurnOf v (x .focus) (x .steps) l e r
+
+-- A term that has its place, and a buffer to lay it down in.
+pub record Laying (s w : List ℕ) (x : Focus) : Type 0 where
+  pub long : 32768 ≤ length s
+  pub ready : Ready w x
+
+pub record LaysWhole (w v : List ℕ) (x : Focus) (r : ℕ) : Type 0 where
+  pub says : (e : Term) → Standing w x e → Runnable e → Lies v r e
 
 -- The whole run of e with limit l: how it ended, by the definition, and the term reached, which lies in the work buffer.
 pub record RunOf (v : List ℕ) (l : ℕ) (e : Term) (r : End) : Type 0 where

@@ -1,24 +1,56 @@
-// The turns of a run. The term reached lies laid down at the start of the work buffer; a step loads it into a buffer of 8,192 cells and
-// emits the successor over it. The state is small and goes by value.
+// The turns of a run. The run keeps its place: what is done, values only, lies at the start of the work buffer, what is to come at its end in
+// the order of laying down, and the gap between them moves through the term. A cell that waits for a part says where the cell around it
+// is, so there is no stack. A step contracts the redex alone, by way of a buffer that keeps nothing between steps. The state is small and
+// goes by value.
+use cells::Cell;
+use cells::read_cell;
+use cells::write_cell;
 use emission::Laid;
-use emission::emit_field;
-use loading::load;
+use layout::lay_here;
+use moving::copy;
+use moving::place;
+use moving::shift;
 use outcome::Stop;
-use reduction::emit_next;
-use reduction::is_value;
-ghost use Prim.Native.Nat.{_≤_};
-ghost use Rattle.running.specs.Turns.{StepReady, Steps, Runs};
+use reduction::emit_contractum;
+ghost use mathlib.Core.Path.{_≡_};
+ghost use Prim.Native.Nat.{_<_};
+ghost use Rattle.cells.specs.Coded.{asCell};
+ghost use Rattle.running.specs.Places.{Taking, Descending, Entering, Enters, Leaving, Leaves, WaitingOne, WaitingFirst, WaitingSecond, Ready, Settles};
+ghost use Rattle.running.specs.Places.{doneAt, Becomes, RedexAt, TopAt, FunctionAt, ReadsHere};
+ghost use Rattle.running.specs.Places.{Installing, Halving, Installs, Contracting, ContractingAnno, Emitting, Contracts};
+ghost use Rattle.running.specs.Places.{Unwinding, Unwinds, MendReady, Mends, Holds};
+ghost use Rattle.running.specs.Turns.{StepReady, Starts, TurnReady, Steps, Laying, LaysWhole, Runs};
 
-// The cells that the term takes, and the steps taken.
+// The first left cells are done, those from right on are to come. The focus has the cells from start on among those done, and among those
+// to come the cells up to root. The cell up waits for it; 0: none does.
+pub struct Place {
+    pub left: usize,
+    pub start: usize,
+    pub right: usize,
+    pub root: usize,
+    pub up: usize,
+}
+
+pub enum Focus {
+    // to come, whole
+    Ahead(Place),
+    // a value, done, whole
+    Done(Place),
+    // a redex: its parts are done but for a type or a fixpoint, its cell is root
+    Redex(Place),
+    // a value, done, the whole term
+    Whole(Place),
+}
+
+// The focus and the steps taken.
 pub struct State {
-    pub cells: usize,
+    pub focus: Focus,
     pub steps: u32,
 }
 
 pub enum Turn {
     Next(State),
-    // why, and the cells that the term takes
-    Ended(Stop, usize),
+    Ended(Stop, Focus),
 }
 
 // How a run ended.
@@ -27,29 +59,529 @@ pub struct End {
     pub cells: usize,
 }
 
-// One step of the term that lies in the work buffer w, with s to load it into: value, then spent, then room. Where there is no room the
-// term is emitted again, as it was.
-pub fn step(s: &mut [u8], w: &mut [u8], state: State, limit: u32) -> Turn
-    requires { ⌜ StepReady (now s) (now w) (state .cells) × (state .steps ≤ limit) ⌝ }
-    ensures { λ r. ⌜ Steps (now (w .entry)) (now (w .exit)) (state .cells) (state .steps) limit r ⌝ }
+// What a redex became where it lies, or that it becomes nothing there.
+pub enum Here {
+    Became(Focus),
+    Elsewhere,
+}
+
+// What a redex became, or that there is no room for it.
+pub enum Contracted {
+    To(Focus),
+    Full,
+}
+
+// A focus that is to come and a value at sight: it is taken over the gap.
+fn take(w: &mut [u8], p: Place) -> Focus
+    requires { ⌜ Taking (now w) p ⌝ }
+    ensures { λ r. ⌜ Enters (now (w .entry)) (now (w .exit)) p r ⌝ }
 {
-    let n = state.cells;
-    let k = state.steps;
-    load(&w[..8 * n], s, n);
-    if is_value(s, n - 1) {
-        return Turn::Ended(Stop::Value(k), n);
+    let n = p.root + 1 - p.right;
+    shift(w, p.right, p.left, n);
+    Focus::Done(Place {
+        left: p.left + n,
+        start: p.start,
+        right: p.root + 1,
+        root: p.root,
+        up: p.up,
+    })
+}
+
+// The cell t of a focus that is to come waits for its first part.
+fn descend(w: &mut [u8], p: Place, t: Cell) -> Focus
+    requires { ⌜ Descending (now w) p (asCell t) ⌝ }
+    ensures { λ r. ⌜ Enters (now (w .entry)) (now (w .exit)) p r ⌝ }
+{
+    write_cell(
+        w,
+        p.root,
+        Cell {
+            kind: t.kind,
+            label: t.label,
+            a: p.up,
+            b: t.b,
+            c: 0,
+        },
+    );
+    Focus::Ahead(Place {
+        left: p.left,
+        start: p.start,
+        right: p.right,
+        root: t.a,
+        up: p.root,
+    })
+}
+
+// A focus that is to come: a number, the top value or a function is done, a fixpoint is a redex, all else waits for its first part.
+fn enter(w: &mut [u8], p: Place) -> Focus
+    requires { ⌜ Entering (now w) p ⌝ }
+    ensures { λ r. ⌜ Enters (now (w .entry)) (now (w .exit)) p r ⌝ }
+{
+    let t = read_cell(w, p.root);
+    let kind = t.kind;
+    match kind {
+        17 => take(w, p),
+        18 => take(w, p),
+        21 => take(w, p),
+        23 => Focus::Redex(p),
+        _ => descend(w, p, t),
     }
-    if k == limit {
-        return Turn::Ended(Stop::Spent(k), n);
-    }
-    if let Laid::Next(m) = emit_next(s, w, n - 1, 0) {
-        return Turn::Next(State {
-            cells: m,
-            steps: k + 1,
+}
+
+// The first part of the waiting cell t is a value, and t has no second: a record is done, all else is a redex.
+fn single(w: &mut [u8], p: Place, t: Cell) -> Focus
+    requires { ⌜ WaitingOne (now w) p (asCell t) ⌝ }
+    ensures { λ r. ⌜ Leaves (now (w .entry)) (now (w .exit)) p r ⌝ }
+{
+    let whole = Cell {
+        kind: t.kind,
+        label: t.label,
+        a: p.left - 1,
+        b: t.b,
+        c: 0,
+    };
+    if t.kind == 24 {
+        write_cell(w, p.left, whole);
+        return Focus::Done(Place {
+            left: p.left + 1,
+            start: p.start,
+            right: p.right + 1,
+            root: p.root,
+            up: t.a,
         });
     }
-    emit_field(s, w, 3, n - 1, 0);
-    Turn::Ended(Stop::Room(k), n)
+    write_cell(w, p.up, whole);
+    Focus::Redex(Place {
+        left: p.left,
+        start: p.start,
+        right: p.right,
+        root: p.up,
+        up: t.a,
+    })
+}
+
+// The first part of the waiting cell t is a value: t waits for its second.
+fn second(w: &mut [u8], p: Place, t: Cell) -> Focus
+    requires { ⌜ WaitingFirst (now w) p (asCell t) ⌝ }
+    ensures { λ r. ⌜ Leaves (now (w .entry)) (now (w .exit)) p r ⌝ }
+{
+    write_cell(
+        w,
+        p.up,
+        Cell {
+            kind: t.kind,
+            label: t.label,
+            a: p.left - 1,
+            b: t.a,
+            c: p.start + 1,
+        },
+    );
+    Focus::Ahead(Place {
+        left: p.left,
+        start: p.left,
+        right: p.right,
+        root: t.b,
+        up: p.up,
+    })
+}
+
+// Both parts of the waiting cell t are values: a merge is done, an application is a redex.
+fn both(w: &mut [u8], p: Place, t: Cell) -> Focus
+    requires { ⌜ WaitingSecond (now w) p (asCell t) ⌝ }
+    ensures { λ r. ⌜ Leaves (now (w .entry)) (now (w .exit)) p r ⌝ }
+{
+    let whole = Cell {
+        kind: t.kind,
+        label: t.label,
+        a: t.a,
+        b: p.left - 1,
+        c: 0,
+    };
+    if t.kind == 22 {
+        write_cell(w, p.left, whole);
+        return Focus::Done(Place {
+            left: p.left + 1,
+            start: t.c - 1,
+            right: p.right + 1,
+            root: p.root,
+            up: t.b,
+        });
+    }
+    write_cell(w, p.up, whole);
+    Focus::Redex(Place {
+        left: p.left,
+        start: t.c - 1,
+        right: p.right,
+        root: p.up,
+        up: t.b,
+    })
+}
+
+// A focus that is a value: the whole term, or a part for which a cell waits.
+fn leave(w: &mut [u8], p: Place) -> Focus
+    requires { ⌜ Leaving (now w) p ⌝ }
+    ensures { λ r. ⌜ Leaves (now (w .entry)) (now (w .exit)) p r ⌝ }
+{
+    if p.up == 0 {
+        return Focus::Whole(p);
+    }
+    let t = read_cell(w, p.up);
+    let kind = t.kind;
+    match kind {
+        20 | 22 => {
+            if t.c == 0 {
+                second(w, p, t)
+            } else {
+                both(w, p, t)
+            }
+        }
+        _ => single(w, p, t),
+    }
+}
+
+// The focus moves to the redex, or to the whole term if that is a value.
+fn settle(w: &mut [u8], x: Focus) -> Focus
+    requires { ⌜ Ready (now w) x ⌝ }
+    ensures { λ r. ⌜ Settles (now (w .entry)) (now (w .exit)) x r ⌝ }
+{
+    let mut focus = x;
+    loop {
+        match focus {
+            Focus::Ahead(p) => {
+                focus = enter(w, p);
+            }
+            Focus::Done(p) => {
+                focus = leave(w, p);
+            }
+            Focus::Redex(_) => {
+                return focus;
+            }
+            Focus::Whole(_) => {
+                return focus;
+            }
+        }
+    }
+}
+
+// The redex has become a value that ends before left.
+fn became(p: Place, left: usize) -> Focus
+    requires { ⌜ p .root < 8192 ⌝ }
+    ensures { λ r. ⌜ r ≡ doneAt p left ⌝ }
+{
+    Focus::Done(Place {
+        left,
+        start: p.start,
+        right: p.root + 1,
+        root: p.root,
+        up: p.up,
+    })
+}
+
+// A field read of a value, t: the top value stays, of a record the content.
+fn project(w: &[u8], p: Place, t: Cell) -> Focus
+    requires { ⌜ RedexAt (now w) p (asCell t) 25 ⌝ }
+    ensures { λ r. ⌜ Becomes (now (w .entry)) (now (w .entry)) p r ⌝ }
+{
+    let v = read_cell(w, t.a);
+    if v.kind == 18 {
+        return became(p, p.left);
+    }
+    became(p, p.left - 1)
+}
+
+// A value under a top-like type y that is no intersection: the top value.
+fn read_top(w: &mut [u8], p: Place, t: Cell, y: Cell) -> Focus
+    requires { ⌜ TopAt (now w) p (asCell t) (asCell y) ⌝ }
+    ensures { λ r. ⌜ Becomes (now (w .entry)) (now (w .exit)) p r ⌝ }
+{
+    write_cell(
+        w,
+        p.start,
+        Cell {
+            kind: 18,
+            label: 0,
+            a: 0,
+            b: 0,
+            c: 0,
+        },
+    );
+    became(p, p.start + 1)
+}
+
+// The function v under the function type y: body and input stay, the output's cells come behind them, and the last cell is written anew.
+fn retype(w: &mut [u8], p: Place, t: Cell, v: Cell, y: Cell) -> Focus
+    requires { ⌜ FunctionAt (now w) p (asCell t) (asCell v) (asCell y) ⌝ }
+    ensures { λ r. ⌜ Becomes (now (w .entry)) (now (w .exit)) p r ⌝ }
+{
+    let at = v.b + 1;
+    let n = y.b - y.a;
+    shift(w, y.a + 1, at, n);
+    write_cell(
+        w,
+        at + n,
+        Cell {
+            kind: 21,
+            label: 0,
+            a: v.a,
+            b: v.b,
+            c: at + n - 1,
+        },
+    );
+    became(p, at + n + 1)
+}
+
+// A value under a type, where its reading is short to say: the top value, a number, a function that is no part of a merge.
+fn read_here(w: &mut [u8], p: Place, t: Cell) -> Here
+    requires { ⌜ RedexAt (now w) p (asCell t) 19 ⌝ }
+    ensures { λ r. ⌜ ReadsHere (now (w .entry)) (now (w .exit)) p r ⌝ }
+{
+    let y = read_cell(w, t.b);
+    if y.kind == 4 {
+        return Here::Elsewhere;
+    }
+    if y.c == 1 {
+        return Here::Became(read_top(w, p, t, y));
+    }
+    let v = read_cell(w, t.a);
+    if v.kind == 21 {
+        if y.kind == 3 {
+            return Here::Became(retype(w, p, t, v, y));
+        }
+        return Here::Elsewhere;
+    }
+    if v.kind == 17 {
+        if y.kind == 1 {
+            return Here::Became(became(p, p.left));
+        }
+    }
+    Here::Elsewhere
+}
+
+// What a redex became, a function at cell a of s and its annotation: the function is done, its type is to come, and the annotation is a redex.
+fn install_halves(
+    s: &[u8],
+    w: &mut [u8],
+    p: Place,
+    kind: u8,
+    m: usize,
+    end: usize,
+    a: usize,
+) -> Focus
+    requires { ⌜ Halving (now s) (now w) p kind m end a ⌝ }
+    ensures { λ r. ⌜ Installs (now (s .entry)) (now (w .entry)) (now (w .exit)) p kind m end r ⌝ }
+{
+    let done = a + 1 - m;
+    let left = p.start + done;
+    place(s, w, m, p.start, done);
+    let n = end - 2 - a;
+    let right = p.root - n;
+    place(s, w, a + 1, right, n);
+    write_cell(
+        w,
+        p.root,
+        Cell {
+            kind: 19,
+            label: 0,
+            a: left - 1,
+            b: p.root - 1,
+            c: 0,
+        },
+    );
+    Focus::Redex(Place {
+        left,
+        start: p.start,
+        right,
+        root: p.root,
+        up: p.up,
+    })
+}
+
+// What a redex became, whole: it is to come.
+fn install_ahead(s: &[u8], w: &mut [u8], p: Place, kind: u8, m: usize, end: usize) -> Focus
+    requires { ⌜ Installing (now s) (now w) p kind m end ⌝ }
+    ensures { λ r. ⌜ Installs (now (s .entry)) (now (w .entry)) (now (w .exit)) p kind m end r ⌝ }
+{
+    let n = end - m;
+    let right = p.root + 1 - n;
+    place(s, w, m, right, n);
+    Focus::Ahead(Place {
+        left: p.start,
+        start: p.start,
+        right,
+        root: p.root,
+        up: p.up,
+    })
+}
+
+// What a redex of this kind became, laid down in s from cell m on before end, comes to the work buffer: a value is done, a function under its
+// annotation too, all else is to come.
+fn install(s: &[u8], w: &mut [u8], p: Place, kind: u8, m: usize, end: usize) -> Focus
+    requires { ⌜ Installing (now s) (now w) p kind m end ⌝ }
+    ensures { λ r. ⌜ Installs (now (s .entry)) (now (w .entry)) (now (w .exit)) p kind m end r ⌝ }
+{
+    if kind == 19 {
+        let n = end - m;
+        place(s, w, m, p.start, n);
+        return became(p, p.start + n);
+    }
+    let t = read_cell(s, end - 1);
+    if t.kind == 19 {
+        let a = t.a;
+        if read_cell(s, a).kind == 21 {
+            return install_halves(s, w, p, kind, m, end, a);
+        }
+    }
+    install_ahead(s, w, p, kind, m, end)
+}
+
+// The redex t is contracted by way of s where the whole successor has room. It is emitted from as many cells on as stand around it, so that
+// the test of emission is that of the whole.
+fn contract_through(s: &mut [u8], w: &mut [u8], p: Place, t: Cell) -> Contracted
+    requires { ⌜ Emitting (now s) (now w) p (asCell t) ⌝ }
+    ensures { λ r. ⌜ Contracts (now (w .entry)) (now (w .exit)) p r ⌝ }
+{
+    let m = p.start + 8191 - p.root;
+    let Laid::Next(end) = emit_contractum(w, s, p.root, m) else {
+        return Contracted::Full;
+    };
+    Contracted::To(install(s, w, p, t.kind, m, end))
+}
+
+// An annotated value, t.
+fn contract_anno(s: &mut [u8], w: &mut [u8], p: Place, t: Cell) -> Contracted
+    requires { ⌜ ContractingAnno (now s) (now w) p (asCell t) ⌝ }
+    ensures { λ r. ⌜ Contracts (now (w .entry)) (now (w .exit)) p r ⌝ }
+{
+    match read_here(w, p, t) {
+        Here::Became(x) => Contracted::To(x),
+        Here::Elsewhere => contract_through(s, w, p, t),
+    }
+}
+
+fn contract(s: &mut [u8], w: &mut [u8], p: Place) -> Contracted
+    requires { ⌜ Contracting (now s) (now w) p ⌝ }
+    ensures { λ r. ⌜ Contracts (now (w .entry)) (now (w .exit)) p r ⌝ }
+{
+    let t = read_cell(w, p.root);
+    let kind = t.kind;
+    match kind {
+        19 => contract_anno(s, w, p, t),
+        25 => Contracted::To(project(w, p, t)),
+        _ => contract_through(s, w, p, t),
+    }
+}
+
+// One turn: value, then spent, then room. Of s nothing is decided.
+pub fn step(s: &mut [u8], w: &mut [u8], state: State, limit: u32) -> Turn
+    requires { ⌜ TurnReady (now s) (now w) state limit ⌝ }
+    ensures { λ r. ⌜ Steps (now (w .entry)) (now (w .exit)) state limit r ⌝ }
+{
+    let focus = state.focus;
+    let k = state.steps;
+    let Focus::Redex(p) = focus else {
+        return Turn::Ended(Stop::Value(k), focus);
+    };
+    if k == limit {
+        return Turn::Ended(Stop::Spent(k), focus);
+    }
+    let Contracted::To(x) = contract(s, w, p) else {
+        return Turn::Ended(Stop::Room(k), focus);
+    };
+    let next = settle(w, x);
+    Turn::Next(State {
+        focus: next,
+        steps: k + 1,
+    })
+}
+
+// The waiting cell up is whole again with its part at child; answers the cell that waits around it.
+fn mend(w: &mut [u8], up: usize, child: usize) -> usize
+    requires { ⌜ MendReady (now w) up child ⌝ }
+    ensures { λ r. ⌜ Mends (now (w .entry)) (now (w .exit)) up child r ⌝ }
+{
+    let t = read_cell(w, up);
+    if t.c == 0 {
+        write_cell(
+            w,
+            up,
+            Cell {
+                kind: t.kind,
+                label: t.label,
+                a: child,
+                b: t.b,
+                c: 0,
+            },
+        );
+        return t.a;
+    }
+    write_cell(
+        w,
+        up,
+        Cell {
+            kind: t.kind,
+            label: t.label,
+            a: t.a,
+            b: child,
+            c: 0,
+        },
+    );
+    t.b
+}
+
+// All waiting cells are made whole, the innermost, up, first; answers the root.
+fn unwind(w: &mut [u8], up: usize, child: usize) -> usize
+    requires { ⌜ Unwinding (now w) up child ⌝ }
+    ensures { λ r. ⌜ Unwinds (now (w .entry)) (now (w .exit)) up child r ⌝ }
+{
+    let mut around = up;
+    let mut root = child;
+    while around > 0 {
+        let next = mend(w, around, root);
+        root = around;
+        around = next;
+    }
+    root
+}
+
+// All waiting cells are made whole; answers the cell that holds the term.
+fn hold(w: &mut [u8], focus: Focus) -> usize
+    requires { ⌜ Ready (now w) focus ⌝ }
+    ensures { λ r. ⌜ Holds (now (w .entry)) (now (w .exit)) focus r ⌝ }
+{
+    match focus {
+        Focus::Ahead(p) => unwind(w, p.up, p.root),
+        Focus::Done(p) => unwind(w, p.up, p.left - 1),
+        Focus::Redex(p) => unwind(w, p.up, p.root),
+        Focus::Whole(p) => p.left - 1,
+    }
+}
+
+// The whole term, laid down from cell 0 on; answers its cells.
+pub fn lay_whole(s: &mut [u8], w: &mut [u8], focus: Focus) -> usize
+    requires { ⌜ Laying (now s) (now w) focus ⌝ }
+    ensures { λ r. ⌜ LaysWhole (now (w .entry)) (now (w .exit)) focus r ⌝ }
+{
+    let root = hold(w, focus);
+    lay_here(s, w, 3, root)
+}
+
+// The term that lies in the first n cells of the work buffer has its place.
+pub fn start(s: &mut [u8], w: &mut [u8], n: usize) -> Focus
+    requires { ⌜ StepReady (now s) (now w) n ⌝ }
+    ensures { λ r. ⌜ Starts (now (w .entry)) (now (w .exit)) n r ⌝ }
+{
+    copy(w, s, 8 * n);
+    place(s, w, 0, 8192 - n, n);
+    settle(
+        w,
+        Focus::Ahead(Place {
+            left: 0,
+            start: 0,
+            right: 8192 - n,
+            root: 8191,
+            up: 0,
+        }),
+    )
 }
 
 // Steps until the term is a value, the limit is taken, or there is no room. Of s nothing is decided.
@@ -57,13 +589,17 @@ pub fn run_on(s: &mut [u8], w: &mut [u8], n: usize, limit: u32) -> End
     requires { ⌜ StepReady (now s) (now w) n ⌝ }
     ensures { λ r. ⌜ Runs (now (w .entry)) (now (w .exit)) n limit r ⌝ }
 {
-    let mut state = State { cells: n, steps: 0 };
+    let mut state = State {
+        focus: start(s, w, n),
+        steps: 0,
+    };
     loop {
         match step(s, w, state, limit) {
             Turn::Next(next) => {
                 state = next;
             }
-            Turn::Ended(stop, cells) => {
+            Turn::Ended(stop, focus) => {
+                let cells = lay_whole(s, w, focus);
                 return End { stop, cells };
             }
         }

@@ -32,7 +32,7 @@ same-length : tie.Need-same-length
 same-length c = search needs
 
 returns : tie.Need-returns
-returns c = record { says = λ t l. closed t l (c .before .before .before .before .before .before .write-cell .ensures) (c .before .before .clear .ensures) }
+returns c = record { says = λ t l. closed t (c .before .before .before .before .before .before .before .before .before .pre .work) l (c .before .before .before .before .before .before .write-cell .ensures) (c .before .before .clear .ensures) }
 
 pub close-spec : {M : Type 1} → statement M
 close-spec =

@@ -3,7 +3,7 @@ use mathlib.Core.Path.{refl}
 use mathlib.Core.Logic.{⊎-elim}
 use borrow.Author.Needs.{needs}
 use Rattle.cells.specs.Coded.{asCell}
-use Rattle.loading.proofs.Loading.{Read, NewThird, of-type, of-term, markable, valuable, fits, room, loaded}
+use Rattle.loading.proofs.Loading.{Read, NewThird, of-type, of-term, ready, fits, room, loaded}
 use Rattle.loading.proofs.load_cell.Statement.{statement}
 use Rattle.loading.proofs.load_cell.Tie as tie
 
@@ -25,7 +25,7 @@ third : (c : tie.Joined1) →
     let at = c .before .before in
     NewThird (at .before .before .before .before .args .s .now) (asCell (at .before .read-cell .result)) (at .entry-of .result) (c .if1 .c)
 third c =
-    ⊎-elim (λ w. of-type (w .0 .taken) (rw (w .3) (w .2 .ensures))) (λ w. of-term (w .0 .left) (rw (w .3) (w .2 .ensures))) (c .if1 .came)
+    ⊎-elim (λ w. of-type (w .0 .taken) (rw (w .3) (w .2 .ensures))) (λ w. of-term (w .0 .left) (rw (w .1))) (c .if1 .came)
 
 read-cell-requires : tie.Need-read-cell-requires
 read-cell-requires c κs = search needs
@@ -34,10 +34,7 @@ entry-of-requires : tie.Need-entry-of-requires
 entry-of-requires c κs = search needs
 
 mark-of-requires : tie.Need-mark-of-requires
-mark-of-requires c κs = markable (read (c .before .before .before)) (c .before .if1 .taken)
-
-value-of-requires : tie.Need-value-of-requires
-value-of-requires c κs = valuable (read (c .before .before .before)) (c .before .if1 .left)
+mark-of-requires c κs = ready (read (c .before .before .before)) (c .before .if1 .taken)
 
 write-cell-requires : tie.Need-write-cell-requires
 write-cell-requires c κs = let r = read (c .before .before .before) in (room r, fits r refl refl (third (c .before)))
@@ -52,4 +49,4 @@ returns c =
 pub load-cell-spec : {M : Type 1} → statement M
 load-cell-spec =
     tie.close
-    (tie.spec read-cell-requires entry-of-requires mark-of-requires value-of-requires write-cell-requires same-length returns)
+    (tie.spec read-cell-requires entry-of-requires mark-of-requires write-cell-requires same-length returns)

@@ -7,9 +7,10 @@ use mathlib.Core.Logic.{⊎-elim}
 use borrow.Author.Needs.{needs}
 use Rattle.cells.specs.Coded.{asCell}
 use Rattle.cells.proofs.Held.{type-within}
+use Rattle.emission.proofs.Runs.{holds-type}
 use Rattle.reading.specs.Reads.{EmitsReading}
 use Rattle.reading.proofs.Emitting.{Split, lower, first-ready, no-first, second-ready, no-second, Last, merge-last}
-use Rattle.reading.proofs.Emitting.{top-last, emits-top, part-ready, proper-at, no-part, Found, part-within, number-ready, emits-number}
+use Rattle.reading.proofs.Emitting.{top-last, emits-top, part-ready, proper-at, no-part, Found, part-within, number-last, emits-number}
 use Rattle.reading.proofs.Emitting.{function-ready, emits-arrow, content-lower, content-ready, no-content, record-last}
 use Prim.Native.Nat.{ℕ, _+_, _*_, _-_, _≤_, _<_}
 use borrow.Fn.Kinds.{In}
@@ -21,10 +22,9 @@ use Rattle.reading.proofs.emit_reading.Reads as emit-reading
 use Rattle.reading.proofs.emit_reading.Kinds as emit-reading-kinds
 use Rattle.reading.proofs.+emit_part+emit_reading.Lts-emit_reading as emit-reading-lts
 use Rattle.cells.proofs.read_cell.Reads as read-cell-reads
-use Rattle.emission.proofs.emit_field.Reads as emit-field-reads
 use Rattle.emission.proofs.finish.Reads as finish-reads
 use Rattle.reading.proofs.emit_function.Reads as emit-function-reads
-use Rattle.reading.proofs.find_part.Reads as find-part-reads
+use Rattle.reading.proofs.part_of.Reads as part-of-reads
 use Rattle.reading.proofs.+emit_part+emit_reading.{statement}
 use Rattle.reading.proofs.+emit_part+emit_reading.Tie.{close}
 
@@ -54,7 +54,7 @@ emit-reading-below t =
     emit-reading.Pre
 
 abbrev emit-part-calls : ℕ → emit-part-lts.Claims
-emit-part-calls t = (find-part-reads.Asked, find-part-reads.Learnt, read-cell-reads.Asked, read-cell-reads.Learnt, emit-field-reads.Asked, emit-field-reads.Learnt, emit-function-reads.Asked, emit-function-reads.Learnt, emit-reading-below t, emit-reading.Post, finish-reads.Asked, finish-reads.Learnt)
+emit-part-calls t = (part-of-reads.Asked, part-of-reads.Learnt, read-cell-reads.Asked, read-cell-reads.Learnt, emit-function-reads.Asked, emit-function-reads.Learnt, finish-reads.Asked, finish-reads.Learnt, emit-reading-below t, emit-reading.Post)
 
 abbrev emit-reading-calls : ℕ → emit-reading-lts.Claims
 emit-reading-calls t = (read-cell-reads.Asked, read-cell-reads.Learnt, finish-reads.Asked, finish-reads.Learnt, emit-part-below t, emit-part.Post, emit-reading-below t, emit-reading.Post)
@@ -68,8 +68,8 @@ found t c =
     record {
       bytes = λ j. c .before .before .before .before .before .before .shared-slice-known .given j .fits;
       ready = c .before .before .before .before .before .before .before .pre .1;
-      answer = c .before .before .before .before .find-part .result;
-      finds = c .before .before .before .before .find-part .ensures;
+      answer = c .before .before .before .before .part-of .result;
+      finds = c .before .before .before .before .part-of .ensures;
       at = c .before .before .p .given .1;
       is = c .read-cell .ensures;
     }
@@ -109,11 +109,11 @@ last-merge t c =
     (at-y .y .given .1)
 
 last-record :
-    (t : ℕ) (c : emit-part-lts.After-finish-arg (emit-part-calls t) (emit-part-at t) emit-part.Post) →
+    (t : ℕ) (c : emit-part-lts.After-finish-arg2 (emit-part-calls t) (emit-part-at t) emit-part.Post) →
     let at-z = c .before .before in
     let at-emit-reading = at-z .before .before .before .before in
-    let at-read-cell2 = at-emit-reading .before .before in
-    let at = at-read-cell2 .before .before .before .before .before .before .before .before .before .before .before .before .args in
+    let at-read-cell2 = at-emit-reading .before .before .before .before in
+    let at = at-read-cell2 .before .before .before .before .before .before .before .before .before .before .args in
     let z = at-z .z .given .0 .0 in
     Last (1 ≤ z) (λ o u. EmitsReading (at .s .now) (at .d .now) o (at .v) (at .a) (at .m) u)
     (at-emit-reading .emit-reading .last .1 .0)
@@ -122,15 +122,15 @@ last-record :
 last-record t c =
     let at-z = c .before .before in
     let at-emit-reading = at-z .before .before .before .before in
-    let at-read-cell2 = at-emit-reading .before .before in
-    let at-if2 = at-read-cell2 .before in
-    let at-if1 = at-if2 .before .before in
-    record-last (found t (at-if1 .before .before)) (at-read-cell2 .read-cell2 .ensures) (at-if1 .if1 .left) (at-if2 .if2 .left)
+    let at-if2 = at-emit-reading .before .before in
+    let at-read-cell2 = at-if2 .before .before in
+    let at-if1 = at-read-cell2 .before in
+    record-last (found t (at-if1 .before .before)) (at-read-cell2 .read-cell2 .ensures) (at-if2 .if2 .left) (at-if1 .if1 .left)
     (at-emit-reading .emit-reading .ensures)
     (at-z .z .given .1)
 
-emit-part-find-part-requires : (t : ℕ) → emit-part-lts.Need-find-part-requires (emit-part-calls t) (emit-part-at t) emit-part.Post
-emit-part-find-part-requires t c κs = proper-at (c .before .before .pre .1)
+emit-part-part-of-requires : (t : ℕ) → emit-part-lts.Need-part-of-requires (emit-part-calls t) (emit-part-at t) emit-part.Post
+emit-part-part-of-requires t c κs = proper-at (c .before .before .pre .1)
 
 emit-part-enum-known-p : (t : ℕ) → emit-part-lts.Need-enum-known-p (emit-part-calls t) (emit-part-at t) emit-part.Post
 emit-part-enum-known-p t c = search needs
@@ -139,45 +139,53 @@ emit-part-enum-told : (t : ℕ) → emit-part-lts.Need-enum-told (emit-part-call
 emit-part-enum-told t c = search needs
 
 emit-part-returns : (t : ℕ) → emit-part-lts.Need-returns (emit-part-calls t) (emit-part-at t) emit-part.Post
-emit-part-returns t c = no-part (c .before .before .find-part .ensures) (c .enum-told .given .1)
+emit-part-returns t c = no-part (c .before .before .part-of .ensures) (c .enum-told .given .1)
 
 emit-part-read-cell-requires : (t : ℕ) → emit-part-lts.Need-read-cell-requires (emit-part-calls t) (emit-part-at t) emit-part.Post
-emit-part-read-cell-requires t c κs = type-within (c .before .before .before .before .before .before .pre .1 .ready .both .holds-type)
+emit-part-read-cell-requires t c κs = type-within (holds-type (c .before .before .before .before .before .before .pre .1 .ready .both .holds-type))
 
-emit-part-emit-field-requires : (t : ℕ) → emit-part-lts.Need-emit-field-requires (emit-part-calls t) (emit-part-at t) emit-part.Post
-emit-part-emit-field-requires t c κs = number-ready (found t (c .before .before .before))
+emit-part-emit-function-requires : (t : ℕ) → emit-part-lts.Need-emit-function-requires (emit-part-calls t) (emit-part-at t) emit-part.Post
+emit-part-emit-function-requires t c κs = function-ready (found t (c .before .before .before)) (c .before .if1 .taken)
 
 emit-part-same-length : (t : ℕ) → emit-part-lts.Need-same-length (emit-part-calls t) (emit-part-at t) emit-part.Post
-emit-part-same-length t c = c .before .before .emit-field .kept .1 .0
+emit-part-same-length t c = c .before .before .emit-function .kept .1 .0
 
 emit-part-returns-2 : (t : ℕ) → emit-part-lts.Need-returns-2 (emit-part-calls t) (emit-part-at t) emit-part.Post
 emit-part-returns-2 t c =
-    emits-number (found t (c .before .before .before .before .before .before)) (c .before .before .before .before .if1 .taken) (c .before .before .emit-field .ensures)
+    let at-emit-function = c .before .before in
+    let at-if1 = at-emit-function .before .before in
+    let at-before = at-if1 .before in
+    emits-arrow (found t (at-before .before)) (at-if1 .if1 .taken) (at-emit-function .emit-function .ensures)
 
-emit-part-emit-function-requires : (t : ℕ) → emit-part-lts.Need-emit-function-requires (emit-part-calls t) (emit-part-at t) emit-part.Post
-emit-part-emit-function-requires t c κs = function-ready (found t (c .before .before .before .before .before)) (c .before .if2 .taken)
+emit-part-read-cell-requires-2 : (t : ℕ) → emit-part-lts.Need-read-cell-requires-2 (emit-part-calls t) (emit-part-at t) emit-part.Post
+emit-part-read-cell-requires-2 t c κs = part-within (found t (c .before .before))
+
+emit-part-finish-requires : (t : ℕ) → emit-part-lts.Need-finish-requires (emit-part-calls t) (emit-part-at t) emit-part.Post
+emit-part-finish-requires t c κs =
+    let at-read-cell2 = c .before .before .before in
+    let at-before = at-read-cell2 .before .before in
+    number-last (found t (at-before .before)) (at-read-cell2 .read-cell2 .ensures)
 
 emit-part-same-length-2 : (t : ℕ) → emit-part-lts.Need-same-length-2 (emit-part-calls t) (emit-part-at t) emit-part.Post
-emit-part-same-length-2 t c = c .before .before .emit-function .kept .1 .0
+emit-part-same-length-2 t c = c .before .before .finish .kept .0
 
 emit-part-returns-3 : (t : ℕ) → emit-part-lts.Need-returns-3 (emit-part-calls t) (emit-part-at t) emit-part.Post
 emit-part-returns-3 t c =
-    let at-emit-function = c .before .before in
-    let at-if2 = at-emit-function .before .before in
-    let at-read-cell = at-if2 .before .before .before .before in
-    emits-arrow (found t at-read-cell) (at-if2 .if2 .taken) (at-emit-function .emit-function .ensures)
-
-emit-part-read-cell-requires-2 : (t : ℕ) → emit-part-lts.Need-read-cell-requires-2 (emit-part-calls t) (emit-part-at t) emit-part.Post
-emit-part-read-cell-requires-2 t c κs = part-within (found t (c .before .before .before .before))
+    let at-finish = c .before .before in
+    let at-if2 = at-finish .before .before in
+    let at-read-cell2 = at-if2 .before .before in
+    let at-before = at-read-cell2 .before .before in
+    emits-number (found t (at-before .before)) (at-read-cell2 .read-cell2 .ensures) (at-if2 .if2 .taken) (at-finish .finish .ensures)
 
 emit-part-emit-reading-requires : (t : ℕ) → emit-part-lts.Need-emit-reading-requires (emit-part-calls t) (emit-part-at t) emit-part.Post
 emit-part-emit-reading-requires t c κs =
-    let at-read-cell2 = c .before in
-    let at-if2 = at-read-cell2 .before in
-    let at-if1 = at-if2 .before .before in
+    let at-if2 = c .before in
+    let at-read-cell2 = at-if2 .before .before in
+    let at-if1 = at-read-cell2 .before in
     let at-read-cell = at-if1 .before .before in
     let at-start = at-read-cell .before .before .before .before .before .before .before in
-    let g = found t at-read-cell in (omega (arith, content-lower g (at-read-cell2 .read-cell2 .ensures) (at-if1 .if1 .left) (at-if2 .if2 .left), at-start .pre .0), content-ready g (at-read-cell2 .read-cell2 .ensures) (at-if1 .if1 .left) (at-if2 .if2 .left))
+    let g = found t at-read-cell in
+    (omega (arith, content-lower g (at-read-cell2 .read-cell2 .ensures) (at-if2 .if2 .left) (at-if1 .if1 .left), at-start .pre .0), content-ready g (at-read-cell2 .read-cell2 .ensures) (at-if2 .if2 .left) (at-if1 .if1 .left))
 
 emit-part-enum-known-z : (t : ℕ) → emit-part-lts.Need-enum-known-z (emit-part-calls t) (emit-part-at t) emit-part.Post
 emit-part-enum-known-z t c = search needs
@@ -191,31 +199,32 @@ emit-part-same-length-3 t c = c .before .before .before .before .emit-reading .k
 emit-part-returns-4 : (t : ℕ) → emit-part-lts.Need-returns-4 (emit-part-calls t) (emit-part-at t) emit-part.Post
 emit-part-returns-4 t c =
     let at-emit-reading = c .before .before .before .before in
-    let at-read-cell2 = at-emit-reading .before .before in
-    let at-if2 = at-read-cell2 .before in
-    let at-if1 = at-if2 .before .before in
-    let at-read-cell = at-if1 .before .before in
-    no-content (found t at-read-cell) (at-read-cell2 .read-cell2 .ensures) (at-if1 .if1 .left) (at-if2 .if2 .left) (at-emit-reading .emit-reading .ensures) (c .enum-told2 .given .1)
+    let at-if2 = at-emit-reading .before .before in
+    let at-read-cell2 = at-if2 .before .before in
+    let at-if1 = at-read-cell2 .before in
+    no-content (found t (at-if1 .before .before)) (at-read-cell2 .read-cell2 .ensures) (at-if2 .if2 .left) (at-if1 .if1 .left) (at-emit-reading .emit-reading .ensures) (c .enum-told2 .given .1)
 
-emit-part-sub-t21 : (t : ℕ) → emit-part-lts.Need-sub-t21 (emit-part-calls t) (emit-part-at t) emit-part.Post
-emit-part-sub-t21 t c = last-record t c .after
+emit-part-sub-t22 : (t : ℕ) → emit-part-lts.Need-sub-t22 (emit-part-calls t) (emit-part-at t) emit-part.Post
+emit-part-sub-t22 t c = last-record t c .after
 
-emit-part-finish-requires : (t : ℕ) → emit-part-lts.Need-finish-requires (emit-part-calls t) (emit-part-at t) emit-part.Post
-emit-part-finish-requires t c κs = last-record t c .ready
+emit-part-finish-requires-2 : (t : ℕ) → emit-part-lts.Need-finish-requires-2 (emit-part-calls t) (emit-part-at t) emit-part.Post
+emit-part-finish-requires-2 t c κs = last-record t c .ready
 
 emit-part-same-length-4 : (t : ℕ) → emit-part-lts.Need-same-length-4 (emit-part-calls t) (emit-part-at t) emit-part.Post
 emit-part-same-length-4 t c =
-    c .before .before .finish .kept .0 ∙ c .before .before .before .before .before .before .before .before .before .emit-reading .kept .1 .0
+    c .before .before .finish2 .kept .0 ∙ c .before .before .before .before .before .before .before .before .before .emit-reading .kept .1 .0
 
 emit-part-returns-5 : (t : ℕ) → emit-part-lts.Need-returns-5 (emit-part-calls t) (emit-part-at t) emit-part.Post
-emit-part-returns-5 t c = last-record t (c .before .before .before) .leaves (c .before .before .finish .ensures)
+emit-part-returns-5 t c = last-record t (c .before .before .before) .leaves (c .before .before .finish2 .ensures)
 
 emit-reading-read-cell-requires : (t : ℕ) → emit-reading-lts.Need-read-cell-requires (emit-reading-calls t) (emit-reading-at t) emit-reading.Post
-emit-reading-read-cell-requires t c κs = type-within (c .before .before .pre .1 .both .holds-type)
+emit-reading-read-cell-requires t c κs = type-within (holds-type (c .before .before .pre .1 .both .holds-type))
 
 emit-reading-finish-requires : (t : ℕ) → emit-reading-lts.Need-finish-requires (emit-reading-calls t) (emit-reading-at t) emit-reading.Post
 emit-reading-finish-requires t c κs =
-    top-last (c .before .before .before .before .before .read-cell .ensures) (c .before .before .before .before .before .before .before .before .pre .1)
+    let at-read-cell = c .before .before .before .before .before in
+    let at-start = at-read-cell .before .before .before in
+    top-last (at-read-cell .read-cell .ensures) (at-start .pre .1)
 
 emit-reading-same-length : (t : ℕ) → emit-reading-lts.Need-same-length (emit-reading-calls t) (emit-reading-at t) emit-reading.Post
 emit-reading-same-length t c = c .before .before .finish .kept .0
@@ -258,7 +267,9 @@ emit-reading-same-length-3 t c = c .before .before .before .before .emit-reading
 
 emit-reading-returns-3 : (t : ℕ) → emit-reading-lts.Need-returns-3 (emit-reading-calls t) (emit-reading-at t) emit-reading.Post
 emit-reading-returns-3 t c =
-    no-first (split t (c .before .before .before .before .before .before)) (c .before .before .before .before .emit-reading .ensures) (c .enum-told .given .1)
+    let at-emit-reading = c .before .before .before .before in
+    let at-before = at-emit-reading .before in
+    no-first (split t (at-before .before)) (at-emit-reading .emit-reading .ensures) (c .enum-told .given .1)
 
 emit-reading-emit-reading-requires-2 : (t : ℕ) → emit-reading-lts.Need-emit-reading-requires-2 (emit-reading-calls t) (emit-reading-at t) emit-reading.Post
 emit-reading-emit-reading-requires-2 t c κs =
@@ -311,25 +322,25 @@ pub +emit-part+emit-reading-spec : {M : Type 1} → statement M
 +emit-part+emit-reading-spec = close μ-emit-part μ-emit-reading (λ t. emit-part-lts.spec (emit-part-calls t)
     (emit-part-at t)
     emit-part.Post
-    (emit-part-find-part-requires t)
+    (emit-part-part-of-requires t)
     (emit-part-enum-known-p t)
     (emit-part-enum-told t)
     (emit-part-returns t)
     (emit-part-read-cell-requires t)
-    (emit-part-emit-field-requires t)
+    (emit-part-emit-function-requires t)
     (emit-part-same-length t)
     (emit-part-returns-2 t)
-    (emit-part-emit-function-requires t)
+    (emit-part-read-cell-requires-2 t)
+    (emit-part-finish-requires t)
     (emit-part-same-length-2 t)
     (emit-part-returns-3 t)
-    (emit-part-read-cell-requires-2 t)
     (emit-part-emit-reading-requires t)
     (emit-part-enum-known-z t)
     (emit-part-enum-told-2 t)
     (emit-part-same-length-3 t)
     (emit-part-returns-4 t)
-    (emit-part-sub-t21 t)
-    (emit-part-finish-requires t)
+    (emit-part-sub-t22 t)
+    (emit-part-finish-requires-2 t)
     (emit-part-same-length-4 t)
     (emit-part-returns-5 t))
     λ t. emit-reading-lts.spec (emit-reading-calls t)

@@ -4,6 +4,7 @@ use native.Mathlib.Omega.{arith}
 use borrow.Author.Needs.{needs}
 use Rattle.cells.specs.Coded.{asCell}
 use Rattle.cells.proofs.Held.{type-within, term-within}
+use Rattle.emission.proofs.Runs.{holds-type, holds-term}
 use Rattle.reading.proofs.Deciding.{reads-top, halves, reads-both, reads-not-first, proper, reads-part, reads-nothing}
 use Rattle.reading.proofs.Deciding.{merge-halves, finds-left, finds-right, single, finds-none, finds-itself}
 use Rattle.reading.proofs.Deciding.{CellsOf, reads-number, inputs, outputs, reads-function, reads-not-input, reads-no-function}
@@ -70,7 +71,7 @@ abbrev readable-part-calls : ℕ → readable-part-lts.Claims
 readable-part-calls t = (read-cell-reads.Asked, read-cell-reads.Learnt, subtype-reads.Asked, subtype-reads.Learnt, readable-below t, readable.Post)
 
 find-part-read-cell-requires : (t : ℕ) → find-part-lts.Need-read-cell-requires (find-part-calls t) (find-part-at t) find-part.Post
-find-part-read-cell-requires t c κs = term-within (c .before .pre .1 .both .holds-value)
+find-part-read-cell-requires t c κs = term-within (holds-term (c .before .pre .1 .both .holds-value))
 
 find-part-find-part-requires : (t : ℕ) → find-part-lts.Need-find-part-requires (find-part-calls t) (find-part-at t) find-part.Post
 find-part-find-part-requires t c κs =
@@ -124,7 +125,7 @@ find-part-returns-4 : (t : ℕ) → find-part-lts.Need-returns-4 (find-part-call
 find-part-returns-4 t c = finds-none (c .before .readable-part .ensures) (c .if2 .left)
 
 readable-read-cell-requires : (t : ℕ) → readable-lts.Need-read-cell-requires (readable-calls t) (readable-at t) readable.Post
-readable-read-cell-requires t c κs = type-within (c .before .pre .1 .holds-type)
+readable-read-cell-requires t c κs = type-within (holds-type (c .before .pre .1 .holds-type))
 
 readable-returns : (t : ℕ) → readable-lts.Need-returns (readable-calls t) (readable-at t) readable.Post
 readable-returns t c = reads-top (c .before .before .read-cell .ensures) _ (c .if1 .taken)
@@ -182,10 +183,10 @@ cells-of t c =
     record { given = c .before .before .before .pre .1; value = c .before .read-cell .ensures; type = c .read-cell2 .ensures }
 
 readable-part-read-cell-requires : (t : ℕ) → readable-part-lts.Need-read-cell-requires (readable-part-calls t) (readable-part-at t) readable-part.Post
-readable-part-read-cell-requires t c κs = term-within (c .before .pre .1 .at .both .holds-value)
+readable-part-read-cell-requires t c κs = term-within (holds-term (c .before .pre .1 .at .both .holds-value))
 
 readable-part-read-cell-requires-2 : (t : ℕ) → readable-part-lts.Need-read-cell-requires-2 (readable-part-calls t) (readable-part-at t) readable-part.Post
-readable-part-read-cell-requires-2 t c κs = type-within (c .before .before .pre .1 .at .both .holds-type)
+readable-part-read-cell-requires-2 t c κs = type-within (holds-type (c .before .before .pre .1 .at .both .holds-type))
 
 readable-part-returns : (t : ℕ) → readable-part-lts.Need-returns (readable-part-calls t) (readable-part-at t) readable-part.Post
 readable-part-returns t c = reads-number (cells-of t (c .before .before .before)) (c .before .if1 .taken)

@@ -1,18 +1,18 @@
 -- `reduction::next_apply` meets its contract. Assumes nothing.
 use borrow.Author.Needs.{needs}
-use Rattle.cells.proofs.Held.{term-within}
+use Rattle.reduction.proofs.Nexts.{redex-within}
 use Rattle.reduction.proofs.Opens.{first-within, unit-ready, unit-applied, function-ready, function-emits}
 use Rattle.reduction.proofs.next_apply.Statement.{statement}
 use Rattle.reduction.proofs.next_apply.Tie as tie
 
 read-cell-requires : tie.Need-read-cell-requires
-read-cell-requires c κs = term-within (c .before .before .pre .at .ready .at .holds)
+read-cell-requires c κs = redex-within (c .before .before .pre .ready .redex)
 
 read-cell-requires-2 : tie.Need-read-cell-requires-2
 read-cell-requires-2 c κs = first-within (c .read-cell .ensures) (c .before .before .before .pre)
 
 finish-requires : tie.Need-finish-requires
-finish-requires c κs = unit-ready (c .before .before .before .before .before .before .before .pre .at .ready .space)
+finish-requires c κs = unit-ready (c .before .before .before .before .before .before .before .pre .ready .space)
 
 same-length : tie.Need-same-length
 same-length c = search needs

@@ -77,127 +77,102 @@ apart-pair-calls t = (read-cell-reads.Asked, read-cell-reads.Learnt, disjoint-be
 abbrev disjoint-calls : ℕ → disjoint-lts.Claims
 disjoint-calls t = (read-cell-reads.Asked, read-cell-reads.Learnt, kind-at-reads.Asked, kind-at-reads.Learnt, disjoint-below t, disjoint.Post, apart-each-below t, apart-each.Post)
 
--- src/lib.rt:134:5
 apart-each-loop-holds : (t : ℕ) → apart-each-lts.Need-loop-holds (apart-each-calls t) (apart-each-at t) apart-each.Post apart-each-Inv-loop apart-each-μ-loop
 apart-each-loop-holds t c =
     sets-out (c .before .pre .1 .types)
 
--- src/lib.rt:134:11
 apart-each-kind-at-requires : (t : ℕ) → apart-each-lts.Need-kind-at-requires (apart-each-calls t) (apart-each-at t) apart-each.Post apart-each-Inv-loop apart-each-μ-loop
 apart-each-kind-at-requires t c κs =
     type-within (c .loop .inv .at .holds-second)
 
--- src/lib.rt:135:13
 apart-each-read-cell-requires : (t : ℕ) → apart-each-lts.Need-read-cell-requires (apart-each-calls t) (apart-each-at t) apart-each.Post apart-each-Inv-loop apart-each-μ-loop
 apart-each-read-cell-requires t c κs =
     type-within (c .before .before .loop .inv .at .holds-second)
 
--- src/lib.rt:136:12
 apart-each-kind-at-requires-2 : (t : ℕ) → apart-each-lts.Need-kind-at-requires-2 (apart-each-calls t) (apart-each-at t) apart-each.Post apart-each-Inv-loop apart-each-μ-loop
 apart-each-kind-at-requires-2 t c κs =
     type-within (Apart.right-halves (read refl (c .read-cell .ensures) (c .before .before .before .loop .inv .at .holds-first) (c .before .before .before .loop .inv .at .holds-second)) (kind-read (c .read-cell .ensures) (c .before .before .kind-at .ensures) (c .before .if1 .taken)) .second .holds-second)
 
--- src/lib.rt:137:17
 apart-each-apart-each-requires : (t : ℕ) → apart-each-lts.Need-apart-each-requires (apart-each-calls t) (apart-each-at t) apart-each.Post apart-each-Inv-loop apart-each-μ-loop
 apart-each-apart-each-requires t c κs =
     let p = Apart.right-halves (read refl (c .before .before .read-cell .ensures) (c .before .before .before .before .before .loop .inv .at .holds-first) (c .before .before .before .before .before .loop .inv .at .holds-second)) (kind-read (c .before .before .read-cell .ensures) (c .before .before .before .before .kind-at .ensures) (c .before .before .before .if1 .taken)) in (omega (arith, c .before .before .before .before .before .before .before .pre .0, p .first-less, c .before .before .before .before .before .loop .inv .lower), record { types = p .first; first-single = c .before .before .before .before .before .before .before .pre .1 .first-single })
 
--- src/lib.rt:138:17
 apart-each-returns : (t : ℕ) → apart-each-lts.Need-returns (apart-each-calls t) (apart-each-at t) apart-each.Post apart-each-Inv-loop apart-each-μ-loop
 apart-each-returns t c =
     and-ends (c .before .before .before .before .before .before .before .loop .inv) (λ A B h k. Apart.right-halves (read refl (c .before .before .before .before .read-cell .ensures) h k) (kind-read (c .before .before .before .before .read-cell .ensures) (c .before .before .before .before .before .before .kind-at .ensures) (c .before .before .before .before .before .if1 .taken))) (c .before .apart-each .ensures) (not-true _ (c .if3 .taken))
 
--- src/lib.rt:134:5
 apart-each-loop-less : (t : ℕ) → apart-each-lts.Need-loop-less (apart-each-calls t) (apart-each-at t) apart-each.Post apart-each-Inv-loop apart-each-μ-loop
 apart-each-loop-less t c =
     let p = Apart.right-halves (read refl (c .before .before .before .before .read-cell .ensures) (c .before .before .before .before .before .before .before .loop .inv .at .holds-first) (c .before .before .before .before .before .before .before .loop .inv .at .holds-second)) (kind-read (c .before .before .before .before .read-cell .ensures) (c .before .before .before .before .before .before .kind-at .ensures) (c .before .before .before .before .before .if1 .taken)) in omega (arith, p .second-less)
 
--- src/lib.rt:134:5
 apart-each-loop-again : (t : ℕ) → apart-each-lts.Need-loop-again (apart-each-calls t) (apart-each-at t) apart-each.Post apart-each-Inv-loop apart-each-μ-loop
 apart-each-loop-again t c =
     and-goes-on (c .before .before .before .before .before .before .before .loop .inv) (λ A B h k. Apart.right-halves (read refl (c .before .before .before .before .read-cell .ensures) h k) (kind-read (c .before .before .before .before .read-cell .ensures) (c .before .before .before .before .before .before .kind-at .ensures) (c .before .before .before .before .before .if1 .taken))) (c .before .apart-each .ensures) (not-false _ (c .if3 .left))
 
--- src/lib.rt:142:17
 apart-each-apart-pair-requires : (t : ℕ) → apart-each-lts.Need-apart-pair-requires (apart-each-calls t) (apart-each-at t) apart-each.Post apart-each-Inv-loop apart-each-μ-loop
 apart-each-apart-pair-requires t c κs =
     let p = Apart.right-halves (read refl (c .before .before .read-cell .ensures) (c .before .before .before .before .before .loop .inv .at .holds-first) (c .before .before .before .before .before .loop .inv .at .holds-second)) (kind-read (c .before .before .read-cell .ensures) (c .before .before .before .before .kind-at .ensures) (c .before .before .before .if1 .taken)) in (omega (arith, c .before .before .before .before .before .before .before .pre .0, p .second-less, c .before .before .before .before .before .loop .inv .lower), record { first = record { types = p .second; first-single = c .before .before .before .before .before .before .before .pre .1 .first-single }; second-single = λ k. c .if2 .left (c .before .kind-at2 .ensures ∙ k) })
 
--- src/lib.rt:143:17
 apart-each-returns-2 : (t : ℕ) → apart-each-lts.Need-returns-2 (apart-each-calls t) (apart-each-at t) apart-each.Post apart-each-Inv-loop apart-each-μ-loop
 apart-each-returns-2 t c =
     and-ends (c .before .before .before .before .before .before .before .loop .inv) (λ A B h k. and-swapped (Apart.right-halves (read refl (c .before .before .before .before .read-cell .ensures) h k) (kind-read (c .before .before .before .before .read-cell .ensures) (c .before .before .before .before .before .before .kind-at .ensures) (c .before .before .before .before .before .if1 .taken)))) (c .before .apart-pair .ensures) (not-true _ (c .if4 .taken))
 
--- src/lib.rt:134:5
 apart-each-loop-less-2 : (t : ℕ) → apart-each-lts.Need-loop-less-2 (apart-each-calls t) (apart-each-at t) apart-each.Post apart-each-Inv-loop apart-each-μ-loop
 apart-each-loop-less-2 t c =
     let p = Apart.right-halves (read refl (c .before .before .before .before .read-cell .ensures) (c .before .before .before .before .before .before .before .loop .inv .at .holds-first) (c .before .before .before .before .before .before .before .loop .inv .at .holds-second)) (kind-read (c .before .before .before .before .read-cell .ensures) (c .before .before .before .before .before .before .kind-at .ensures) (c .before .before .before .before .before .if1 .taken)) in omega (arith, p .first-less)
 
--- src/lib.rt:134:5
 apart-each-loop-again-2 : (t : ℕ) → apart-each-lts.Need-loop-again-2 (apart-each-calls t) (apart-each-at t) apart-each.Post apart-each-Inv-loop apart-each-μ-loop
 apart-each-loop-again-2 t c =
     and-goes-on (c .before .before .before .before .before .before .before .loop .inv) (λ A B h k. and-swapped (Apart.right-halves (read refl (c .before .before .before .before .read-cell .ensures) h k) (kind-read (c .before .before .before .before .read-cell .ensures) (c .before .before .before .before .before .before .kind-at .ensures) (c .before .before .before .before .before .if1 .taken)))) (c .before .apart-pair .ensures) (not-false _ (c .if4 .left))
 
--- src/lib.rt:148:5
 apart-each-apart-pair-requires-2 : (t : ℕ) → apart-each-lts.Need-apart-pair-requires-2 (apart-each-calls t) (apart-each-at t) apart-each.Post apart-each-Inv-loop apart-each-μ-loop
 apart-each-apart-pair-requires-2 t c κs =
     (omega (arith, c .before .before .before .before .pre .0, c .before .before .loop .inv .lower), record { first = record { types = c .before .before .loop .inv .at; first-single = c .before .before .before .before .pre .1 .first-single }; second-single = λ k. c .if1 .left (c .before .kind-at .ensures ∙ k) })
 
--- src/lib.rt:129:1
 apart-each-returns-3 : (t : ℕ) → apart-each-lts.Need-returns-3 (apart-each-calls t) (apart-each-at t) apart-each.Post apart-each-Inv-loop apart-each-μ-loop
 apart-each-returns-3 t c =
     c .before .before .before .loop .inv .on _ (c .apart-pair2 .ensures)
 
--- src/lib.rt:156:9
 apart-pair-read-cell-requires : (t : ℕ) → apart-pair-lts.Need-read-cell-requires (apart-pair-calls t) (apart-pair-at t) apart-pair.Post
 apart-pair-read-cell-requires t c κs =
     type-within (c .before .pre .1 .first .types .holds-first)
 
--- src/lib.rt:157:9
 apart-pair-read-cell-requires-2 : (t : ℕ) → apart-pair-lts.Need-read-cell-requires-2 (apart-pair-calls t) (apart-pair-at t) apart-pair.Post
 apart-pair-read-cell-requires-2 t c κs =
     type-within (c .before .before .pre .1 .first .types .holds-second)
 
--- src/lib.rt:159:9
 apart-pair-returns : (t : ℕ) → apart-pair-lts.Need-returns (apart-pair-calls t) (apart-pair-at t) apart-pair.Post
 apart-pair-returns t c =
     outright (λ A B h k. Apart.left-top B h _ (c .before .before .before .read-cell .ensures) (c .if1 .taken))
 
--- src/lib.rt:162:9
 apart-pair-returns-2 : (t : ℕ) → apart-pair-lts.Need-returns-2 (apart-pair-calls t) (apart-pair-at t) apart-pair.Post
 apart-pair-returns-2 t c =
     outright (λ A B h k. Apart.right-top A k _ (c .before .before .before .before .read-cell2 .ensures) (c .if2 .taken))
 
--- src/lib.rt:165:9
 apart-pair-returns-3 : (t : ℕ) → apart-pair-lts.Need-returns-3 (apart-pair-calls t) (apart-pair-at t) apart-pair.Post
 apart-pair-returns-3 t c =
     outright (λ A B h k. Apart.other-kinds (read (c .before .before .before .before .before .before .before .before .read-cell .ensures) (c .before .before .before .before .before .before .before .read-cell2 .ensures) h k) (c .before .before .before .before .before .if1 .left) (not-kind (c .before .before .before .before .before .before .before .before .read-cell .ensures) (c .before .before .before .before .before .before .before .before .before .before .pre .1 .first .first-single)) (c .before .before .before .if2 .left) (not-kind (c .before .before .before .before .before .before .before .read-cell2 .ensures) (c .before .before .before .before .before .before .before .before .before .before .pre .1 .second-single)) (c .if3 .taken))
 
--- src/lib.rt:168:9
 apart-pair-disjoint-requires : (t : ℕ) → apart-pair-lts.Need-disjoint-requires (apart-pair-calls t) (apart-pair-at t) apart-pair.Post
 apart-pair-disjoint-requires t c κs =
     let p = Apart.outputs (read-at (c .before .before .before .before .before .before .before .before .before .before .read-cell .ensures) (c .before .before .before .before .before .before .before .before .before .read-cell2 .ensures) (c .before .before .before .before .before .before .before .before .before .before .before .before .pre .1 .first .types)) (c .before .before .if3 .left) (c .if4 .taken) in (omega (arith, p .less, c .before .before .before .before .before .before .before .before .before .before .before .before .pre .0), p .part)
 
--- src/lib.rt:168:9
 apart-pair-returns-4 : (t : ℕ) → apart-pair-lts.Need-returns-4 (apart-pair-calls t) (apart-pair-at t) apart-pair.Post
 apart-pair-returns-4 t c =
     passed (λ A B h k. Apart.outputs (read (c .before .before .before .before .before .before .before .before .before .before .before .read-cell .ensures) (c .before .before .before .before .before .before .before .before .before .before .read-cell2 .ensures) h k) (c .before .before .before .if3 .left) (c .before .if4 .taken)) (c .disjoint .ensures)
 
--- src/lib.rt:171:38
 apart-pair-disjoint-requires-2 : (t : ℕ) → apart-pair-lts.Need-disjoint-requires-2 (apart-pair-calls t) (apart-pair-at t) apart-pair.Post
 apart-pair-disjoint-requires-2 t c κs =
     let p = Apart.fields (read-at (c .before .before .before .before .before .before .before .before .before .before .before .before .before .before .before .read-cell .ensures) (c .before .before .before .before .before .before .before .before .before .before .before .before .before .before .read-cell2 .ensures) (c .before .before .before .before .before .before .before .before .before .before .before .before .before .before .before .before .before .pre .1 .first .types)) (c .before .before .before .before .before .before .before .if3 .left) (c .before .before .before .if5 .taken) (c .if6 .left) in (omega (arith, p .less, c .before .before .before .before .before .before .before .before .before .before .before .before .before .before .before .before .before .pre .0), p .part)
 
--- src/lib.rt:171:9
 apart-pair-returns-5 : (t : ℕ) → apart-pair-lts.Need-returns-5 (apart-pair-calls t) (apart-pair-at t) apart-pair.Post
 apart-pair-returns-5 t c =
     flagged (ap not (ne-eqb _ _ (c .if6 .taken))) (λ A B h k. Apart.other-labels (read (c .before .before .before .before .before .before .before .before .before .before .before .before .before .before .before .read-cell .ensures) (c .before .before .before .before .before .before .before .before .before .before .before .before .before .before .read-cell2 .ensures) h k) (c .before .before .before .before .before .before .before .if3 .left) (c .before .before .before .if5 .taken) (c .if6 .taken))
 
--- src/lib.rt:171:9
 apart-pair-returns-6 : (t : ℕ) → apart-pair-lts.Need-returns-6 (apart-pair-calls t) (apart-pair-at t) apart-pair.Post
 apart-pair-returns-6 t c =
     passed (λ A B h k. Apart.fields (read (c .before .before .before .before .before .before .before .before .before .before .before .before .before .before .before .before .read-cell .ensures) (c .before .before .before .before .before .before .before .before .before .before .before .before .before .before .before .read-cell2 .ensures) h k) (c .before .before .before .before .before .before .before .before .if3 .left) (c .before .before .before .before .if5 .taken) (c .before .if6 .left)) (c .disjoint2 .ensures)
 
--- src/lib.rt:152:1
 apart-pair-returns-7 : (t : ℕ) → apart-pair-lts.Need-returns-7 (apart-pair-calls t) (apart-pair-at t) apart-pair.Post
 apart-pair-returns-7 t c =
     outright (λ A B h k. Apart.numbers (read (c .before .before .before .before .before .before .before .before .before .before .before .before .read-cell .ensures) (c .before .before .before .before .before .before .before .before .before .before .before .read-cell2 .ensures) h k) (c .before .before .before .before .before .before .before .before .before .if1 .left) (not-kind (c .before .before .before .before .before .before .before .before .before .before .before .before .read-cell .ensures) (c .before .before .before .before .before .before .before .before .before .before .before .before .before .before .pre .1 .first .first-single)) (c .before .before .before .before .before .before .before .if2 .left) (not-kind (c .before .before .before .before .before .before .before .before .before .before .before .read-cell2 .ensures) (c .before .before .before .before .before .before .before .before .before .before .before .before .before .before .pre .1 .second-single)) (c .before .before .before .before .if3 .left) (c .before .before .if4 .left) (c .if5 .left))
@@ -208,87 +183,70 @@ disjoint-Inv-loop s a b i₀ i = Leads (HoldsType s) disjoint? a b i b
 abbrev disjoint-μ-loop : disjoint-lts.MeasureT-loop
 disjoint-μ-loop s a b i₀ i = i
 
--- src/lib.rt:104:8
 disjoint-read-cell-requires : (t : ℕ) → disjoint-lts.Need-read-cell-requires (disjoint-calls t) (disjoint-at t) disjoint.Post disjoint-Inv-loop disjoint-μ-loop
 disjoint-read-cell-requires t c κs =
     type-within (c .before .pre .1 .holds-second)
 
--- src/lib.rt:105:9
 disjoint-returns : (t : ℕ) → disjoint-lts.Need-returns (disjoint-calls t) (disjoint-at t) disjoint.Post disjoint-Inv-loop disjoint-μ-loop
 disjoint-returns t c =
     outright (λ A B h k. Apart.right-top A k _ (c .before .before .read-cell .ensures) (c .if1 .taken))
 
--- src/lib.rt:108:5
 disjoint-loop-holds : (t : ℕ) → disjoint-lts.Need-loop-holds (disjoint-calls t) (disjoint-at t) disjoint.Post disjoint-Inv-loop disjoint-μ-loop
 disjoint-loop-holds t c =
     sets-out (c .before .before .before .before .pre .1)
 
--- src/lib.rt:108:11
 disjoint-kind-at-requires : (t : ℕ) → disjoint-lts.Need-kind-at-requires (disjoint-calls t) (disjoint-at t) disjoint.Post disjoint-Inv-loop disjoint-μ-loop
 disjoint-kind-at-requires t c κs =
     type-within (c .loop .inv .at .holds-first)
 
--- src/lib.rt:109:13
 disjoint-read-cell-requires-2 : (t : ℕ) → disjoint-lts.Need-read-cell-requires-2 (disjoint-calls t) (disjoint-at t) disjoint.Post disjoint-Inv-loop disjoint-μ-loop
 disjoint-read-cell-requires-2 t c κs =
     type-within (c .before .before .loop .inv .at .holds-first)
 
--- src/lib.rt:111:13
 disjoint-returns-2 : (t : ℕ) → disjoint-lts.Need-returns-2 (disjoint-calls t) (disjoint-at t) disjoint.Post disjoint-Inv-loop disjoint-μ-loop
 disjoint-returns-2 t c =
     c .before .before .before .before .before .loop .inv .on _ (outright (λ A B h k. Apart.left-top B h _ (c .before .before .read-cell2 .ensures) (c .if3 .taken)))
 
--- src/lib.rt:113:12
 disjoint-kind-at-requires-2 : (t : ℕ) → disjoint-lts.Need-kind-at-requires-2 (disjoint-calls t) (disjoint-at t) disjoint.Post disjoint-Inv-loop disjoint-μ-loop
 disjoint-kind-at-requires-2 t c κs =
     type-within (Apart.left-halves (read (c .before .before .read-cell2 .ensures) refl (c .before .before .before .before .before .loop .inv .at .holds-first) (c .before .before .before .before .before .loop .inv .at .holds-second)) (kind-read (c .before .before .read-cell2 .ensures) (c .before .before .before .before .kind-at .ensures) (c .before .before .before .if2 .taken)) .second .holds-first)
 
--- src/lib.rt:114:17
 disjoint-disjoint-requires : (t : ℕ) → disjoint-lts.Need-disjoint-requires (disjoint-calls t) (disjoint-at t) disjoint.Post disjoint-Inv-loop disjoint-μ-loop
 disjoint-disjoint-requires t c κs =
     let p = Apart.left-halves (read (c .before .before .before .before .read-cell2 .ensures) refl (c .before .before .before .before .before .before .before .loop .inv .at .holds-first) (c .before .before .before .before .before .before .before .loop .inv .at .holds-second)) (kind-read (c .before .before .before .before .read-cell2 .ensures) (c .before .before .before .before .before .before .kind-at .ensures) (c .before .before .before .before .before .if2 .taken)) in (omega (arith, c .before .before .before .before .before .before .before .before .before .before .before .before .pre .0, p .first-less, c .before .before .before .before .before .before .before .loop .inv .lower), p .first)
 
--- src/lib.rt:115:17
 disjoint-returns-3 : (t : ℕ) → disjoint-lts.Need-returns-3 (disjoint-calls t) (disjoint-at t) disjoint.Post disjoint-Inv-loop disjoint-μ-loop
 disjoint-returns-3 t c =
     and-ends (c .before .before .before .before .before .before .before .before .before .loop .inv) (λ A B h k. Apart.left-halves (read (c .before .before .before .before .before .before .read-cell2 .ensures) refl h k) (kind-read (c .before .before .before .before .before .before .read-cell2 .ensures) (c .before .before .before .before .before .before .before .before .kind-at .ensures) (c .before .before .before .before .before .before .before .if2 .taken))) (c .before .disjoint .ensures) (not-true _ (c .if5 .taken))
 
--- src/lib.rt:108:5
 disjoint-loop-less : (t : ℕ) → disjoint-lts.Need-loop-less (disjoint-calls t) (disjoint-at t) disjoint.Post disjoint-Inv-loop disjoint-μ-loop
 disjoint-loop-less t c =
     let p = Apart.left-halves (read (c .before .before .before .before .before .before .read-cell2 .ensures) refl (c .before .before .before .before .before .before .before .before .before .loop .inv .at .holds-first) (c .before .before .before .before .before .before .before .before .before .loop .inv .at .holds-second)) (kind-read (c .before .before .before .before .before .before .read-cell2 .ensures) (c .before .before .before .before .before .before .before .before .kind-at .ensures) (c .before .before .before .before .before .before .before .if2 .taken)) in omega (arith, p .second-less)
 
--- src/lib.rt:108:5
 disjoint-loop-again : (t : ℕ) → disjoint-lts.Need-loop-again (disjoint-calls t) (disjoint-at t) disjoint.Post disjoint-Inv-loop disjoint-μ-loop
 disjoint-loop-again t c =
     and-goes-on (c .before .before .before .before .before .before .before .before .before .loop .inv) (λ A B h k. Apart.left-halves (read (c .before .before .before .before .before .before .read-cell2 .ensures) refl h k) (kind-read (c .before .before .before .before .before .before .read-cell2 .ensures) (c .before .before .before .before .before .before .before .before .kind-at .ensures) (c .before .before .before .before .before .before .before .if2 .taken))) (c .before .disjoint .ensures) (not-false _ (c .if5 .left))
 
--- src/lib.rt:119:17
 disjoint-apart-each-requires : (t : ℕ) → disjoint-lts.Need-apart-each-requires (disjoint-calls t) (disjoint-at t) disjoint.Post disjoint-Inv-loop disjoint-μ-loop
 disjoint-apart-each-requires t c κs =
     let p = Apart.left-halves (read (c .before .before .before .before .read-cell2 .ensures) refl (c .before .before .before .before .before .before .before .loop .inv .at .holds-first) (c .before .before .before .before .before .before .before .loop .inv .at .holds-second)) (kind-read (c .before .before .before .before .read-cell2 .ensures) (c .before .before .before .before .before .before .kind-at .ensures) (c .before .before .before .before .before .if2 .taken)) in (omega (arith, c .before .before .before .before .before .before .before .before .before .before .before .before .pre .0, p .second-less, c .before .before .before .before .before .before .before .loop .inv .lower), record { types = p .second; first-single = λ k. c .if4 .left (c .before .kind-at2 .ensures ∙ k) })
 
--- src/lib.rt:120:17
 disjoint-returns-4 : (t : ℕ) → disjoint-lts.Need-returns-4 (disjoint-calls t) (disjoint-at t) disjoint.Post disjoint-Inv-loop disjoint-μ-loop
 disjoint-returns-4 t c =
     and-ends (c .before .before .before .before .before .before .before .before .before .loop .inv) (λ A B h k. and-swapped (Apart.left-halves (read (c .before .before .before .before .before .before .read-cell2 .ensures) refl h k) (kind-read (c .before .before .before .before .before .before .read-cell2 .ensures) (c .before .before .before .before .before .before .before .before .kind-at .ensures) (c .before .before .before .before .before .before .before .if2 .taken)))) (c .before .apart-each .ensures) (not-true _ (c .if6 .taken))
 
--- src/lib.rt:108:5
 disjoint-loop-less-2 : (t : ℕ) → disjoint-lts.Need-loop-less-2 (disjoint-calls t) (disjoint-at t) disjoint.Post disjoint-Inv-loop disjoint-μ-loop
 disjoint-loop-less-2 t c =
     let p = Apart.left-halves (read (c .before .before .before .before .before .before .read-cell2 .ensures) refl (c .before .before .before .before .before .before .before .before .before .loop .inv .at .holds-first) (c .before .before .before .before .before .before .before .before .before .loop .inv .at .holds-second)) (kind-read (c .before .before .before .before .before .before .read-cell2 .ensures) (c .before .before .before .before .before .before .before .before .kind-at .ensures) (c .before .before .before .before .before .before .before .if2 .taken)) in omega (arith, p .first-less)
 
--- src/lib.rt:108:5
 disjoint-loop-again-2 : (t : ℕ) → disjoint-lts.Need-loop-again-2 (disjoint-calls t) (disjoint-at t) disjoint.Post disjoint-Inv-loop disjoint-μ-loop
 disjoint-loop-again-2 t c =
     and-goes-on (c .before .before .before .before .before .before .before .before .before .loop .inv) (λ A B h k. and-swapped (Apart.left-halves (read (c .before .before .before .before .before .before .read-cell2 .ensures) refl h k) (kind-read (c .before .before .before .before .before .before .read-cell2 .ensures) (c .before .before .before .before .before .before .before .before .kind-at .ensures) (c .before .before .before .before .before .before .before .if2 .taken)))) (c .before .apart-each .ensures) (not-false _ (c .if6 .left))
 
--- src/lib.rt:125:5
 disjoint-apart-each-requires-2 : (t : ℕ) → disjoint-lts.Need-apart-each-requires-2 (disjoint-calls t) (disjoint-at t) disjoint.Post disjoint-Inv-loop disjoint-μ-loop
 disjoint-apart-each-requires-2 t c κs =
     (omega (arith, c .before .before .before .before .before .before .before .pre .0, c .before .before .loop .inv .lower), record { types = c .before .before .loop .inv .at; first-single = λ k. c .if2 .left (c .before .kind-at .ensures ∙ k) })
 
--- src/lib.rt:100:1
 disjoint-returns-5 : (t : ℕ) → disjoint-lts.Need-returns-5 (disjoint-calls t) (disjoint-at t) disjoint.Post disjoint-Inv-loop disjoint-μ-loop
 disjoint-returns-5 t c =
     c .before .before .before .loop .inv .on _ (c .apart-each2 .ensures)

@@ -66,113 +66,92 @@ closed-value-calls t = (kind-at-reads.Asked, kind-at-reads.Learnt, read-cell-rea
 abbrev single-value-calls : ℕ → single-value-lts.Claims
 single-value-calls t = (read-cell-reads.Asked, read-cell-reads.Learnt, closed-value-below t, closed-value.Post, closed-reads.Asked, closed-reads.Learnt)
 
--- src/lib.rt:355:5
 closed-value-loop-holds : (t : ℕ) → closed-value-lts.Need-loop-holds (closed-value-calls t) (closed-value-at t) closed-value.Post closed-value-Inv-loop closed-value-μ-loop
 closed-value-loop-holds t c =
     one-sets-out (c .before .pre .1 .0)
 
--- src/lib.rt:355:11
 closed-value-kind-at-requires : (t : ℕ) → closed-value-lts.Need-kind-at-requires (closed-value-calls t) (closed-value-at t) closed-value.Post closed-value-Inv-loop closed-value-μ-loop
 closed-value-kind-at-requires t c κs =
     term-within (c .loop .inv .at .holds)
 
--- src/lib.rt:356:13
 closed-value-read-cell-requires : (t : ℕ) → closed-value-lts.Need-read-cell-requires (closed-value-calls t) (closed-value-at t) closed-value.Post closed-value-Inv-loop closed-value-μ-loop
 closed-value-read-cell-requires t c κs =
     term-within (c .before .before .loop .inv .at .holds)
 
--- src/lib.rt:357:12
 closed-value-kind-at-requires-2 : (t : ℕ) → closed-value-lts.Need-kind-at-requires-2 (closed-value-calls t) (closed-value-at t) closed-value.Post closed-value-Inv-loop closed-value-μ-loop
 closed-value-kind-at-requires-2 t c κs =
     term-within (merge-value (c .read-cell .ensures) (c .before .before .before .loop .inv .at .holds) (kind-read (c .read-cell .ensures) (c .before .before .kind-at .ensures) (c .before .if1 .taken)) .second .holds)
 
--- src/lib.rt:358:17
 closed-value-closed-value-requires : (t : ℕ) → closed-value-lts.Need-closed-value-requires (closed-value-calls t) (closed-value-at t) closed-value.Post closed-value-Inv-loop closed-value-μ-loop
 closed-value-closed-value-requires t c κs =
     let p = merge-value (c .before .before .read-cell .ensures) (c .before .before .before .before .before .loop .inv .at .holds) (kind-read (c .before .before .read-cell .ensures) (c .before .before .before .before .kind-at .ensures) (c .before .before .before .if1 .taken)) in
     (omega (arith, c .before .before .before .before .before .before .before .pre .0, p .first-less, c .before .before .before .before .before .loop .inv .lower), (p .first, omega (arith, c .before .before .before .before .before .before .before .pre .1 .1, p .first-less, c .before .before .before .before .before .loop .inv .lower)))
 
--- src/lib.rt:359:17
 closed-value-returns : (t : ℕ) → closed-value-lts.Need-returns (closed-value-calls t) (closed-value-at t) closed-value.Post closed-value-Inv-loop closed-value-μ-loop
 closed-value-returns t c =
     one-ends (c .before .before .before .before .before .before .before .loop .inv) (λ e h. merge-value (c .before .before .before .before .read-cell .ensures) h (kind-read (c .before .before .before .before .read-cell .ensures) (c .before .before .before .before .before .before .kind-at .ensures) (c .before .before .before .before .before .if1 .taken))) (c .before .closed-value .ensures) (not-true _ (c .if3 .taken))
 
--- src/lib.rt:355:5
 closed-value-loop-less : (t : ℕ) → closed-value-lts.Need-loop-less (closed-value-calls t) (closed-value-at t) closed-value.Post closed-value-Inv-loop closed-value-μ-loop
 closed-value-loop-less t c =
     let p = merge-value (c .before .before .before .before .read-cell .ensures) (c .before .before .before .before .before .before .before .loop .inv .at .holds) (kind-read (c .before .before .before .before .read-cell .ensures) (c .before .before .before .before .before .before .kind-at .ensures) (c .before .before .before .before .before .if1 .taken)) in
     omega (arith, p .second-less)
 
--- src/lib.rt:355:5
 closed-value-loop-again : (t : ℕ) → closed-value-lts.Need-loop-again (closed-value-calls t) (closed-value-at t) closed-value.Post closed-value-Inv-loop closed-value-μ-loop
 closed-value-loop-again t c =
     one-goes-on (c .before .before .before .before .before .before .before .loop .inv) (λ e h. merge-value (c .before .before .before .before .read-cell .ensures) h (kind-read (c .before .before .before .before .read-cell .ensures) (c .before .before .before .before .before .before .kind-at .ensures) (c .before .before .before .before .before .if1 .taken))) (c .before .closed-value .ensures) (not-false _ (c .if3 .left))
 
--- src/lib.rt:363:17
 closed-value-single-value-requires : (t : ℕ) → closed-value-lts.Need-single-value-requires (closed-value-calls t) (closed-value-at t) closed-value.Post closed-value-Inv-loop closed-value-μ-loop
 closed-value-single-value-requires t c κs =
     let p = merge-value (c .before .before .read-cell .ensures) (c .before .before .before .before .before .loop .inv .at .holds) (kind-read (c .before .before .read-cell .ensures) (c .before .before .before .before .kind-at .ensures) (c .before .before .before .if1 .taken)) in
     (omega (arith, c .before .before .before .before .before .before .before .pre .0, p .second-less, c .before .before .before .before .before .loop .inv .lower), (record { at = p .second; single = λ k. c .if2 .left (c .before .kind-at2 .ensures ∙ k) }, omega (arith, c .before .before .before .before .before .before .before .pre .1 .1, p .second-less, c .before .before .before .before .before .loop .inv .lower)))
 
--- src/lib.rt:364:17
 closed-value-returns-2 : (t : ℕ) → closed-value-lts.Need-returns-2 (closed-value-calls t) (closed-value-at t) closed-value.Post closed-value-Inv-loop closed-value-μ-loop
 closed-value-returns-2 t c =
     one-ends (c .before .before .before .before .before .before .before .loop .inv) (λ e h. one-swapped (merge-value (c .before .before .before .before .read-cell .ensures) h (kind-read (c .before .before .before .before .read-cell .ensures) (c .before .before .before .before .before .before .kind-at .ensures) (c .before .before .before .before .before .if1 .taken)))) (c .before .single-value .ensures) (not-true _ (c .if4 .taken))
 
--- src/lib.rt:355:5
 closed-value-loop-less-2 : (t : ℕ) → closed-value-lts.Need-loop-less-2 (closed-value-calls t) (closed-value-at t) closed-value.Post closed-value-Inv-loop closed-value-μ-loop
 closed-value-loop-less-2 t c =
     let p = merge-value (c .before .before .before .before .read-cell .ensures) (c .before .before .before .before .before .before .before .loop .inv .at .holds) (kind-read (c .before .before .before .before .read-cell .ensures) (c .before .before .before .before .before .before .kind-at .ensures) (c .before .before .before .before .before .if1 .taken)) in
     omega (arith, p .first-less)
 
--- src/lib.rt:355:5
 closed-value-loop-again-2 : (t : ℕ) → closed-value-lts.Need-loop-again-2 (closed-value-calls t) (closed-value-at t) closed-value.Post closed-value-Inv-loop closed-value-μ-loop
 closed-value-loop-again-2 t c =
     one-goes-on (c .before .before .before .before .before .before .before .loop .inv) (λ e h. one-swapped (merge-value (c .before .before .before .before .read-cell .ensures) h (kind-read (c .before .before .before .before .read-cell .ensures) (c .before .before .before .before .before .before .kind-at .ensures) (c .before .before .before .before .before .if1 .taken)))) (c .before .single-value .ensures) (not-false _ (c .if4 .left))
 
--- src/lib.rt:369:5
 closed-value-single-value-requires-2 : (t : ℕ) → closed-value-lts.Need-single-value-requires-2 (closed-value-calls t) (closed-value-at t) closed-value.Post closed-value-Inv-loop closed-value-μ-loop
 closed-value-single-value-requires-2 t c κs =
     (omega (arith, c .before .before .before .before .pre .0, c .before .before .loop .inv .lower), (record { at = c .before .before .loop .inv .at; single = λ k. c .if1 .left (c .before .kind-at .ensures ∙ k) }, omega (arith, c .before .before .before .before .pre .1 .1, c .before .before .loop .inv .lower)))
 
--- src/lib.rt:350:1
 closed-value-returns-3 : (t : ℕ) → closed-value-lts.Need-returns-3 (closed-value-calls t) (closed-value-at t) closed-value.Post closed-value-Inv-loop closed-value-μ-loop
 closed-value-returns-3 t c =
     c .before .before .before .loop .inv .on _ (c .single-value2 .ensures)
 
--- src/lib.rt:377:9
 single-value-read-cell-requires : (t : ℕ) → single-value-lts.Need-read-cell-requires (single-value-calls t) (single-value-at t) single-value.Post
 single-value-read-cell-requires t c κs =
     term-within (c .before .pre .1 .0 .at .holds)
 
--- src/lib.rt:379:9
 single-value-closed-value-requires : (t : ℕ) → single-value-lts.Need-closed-value-requires (single-value-calls t) (single-value-at t) single-value.Post
 single-value-closed-value-requires t c κs =
     let p = record-value (c .before .before .read-cell .ensures) (c .before .before .before .before .pre .1 .0 .at .holds) (c .if1 .taken) in
     (omega (arith, p .less, c .before .before .before .before .pre .0), (p .part, omega (arith, p .less, c .before .before .before .before .pre .1 .1)))
 
--- src/lib.rt:379:9
 single-value-returns : (t : ℕ) → single-value-lts.Need-returns (single-value-calls t) (single-value-at t) single-value.Post
 single-value-returns t c =
     one-passed (λ e h. record-value (c .before .before .before .read-cell .ensures) h (c .before .if1 .taken)) (c .closed-value .ensures)
 
--- src/lib.rt:382:9
 single-value-closed-requires : (t : ℕ) → single-value-lts.Need-closed-requires (single-value-calls t) (single-value-at t) single-value.Post
 single-value-closed-requires t c κs =
     let p = function-value (c .before .before .before .before .read-cell .ensures) (c .before .before .before .before .before .before .pre .1 .0 .at .holds) (c .if2 .taken) in
     (p .part, omega (arith, p .less, c .before .before .before .before .before .before .pre .1 .1))
 
--- src/lib.rt:382:9
 single-value-returns-2 : (t : ℕ) → single-value-lts.Need-returns-2 (single-value-calls t) (single-value-at t) single-value.Post
 single-value-returns-2 t c =
     one-passed (λ e h. function-value (c .before .before .before .before .before .read-cell .ensures) h (c .before .if2 .taken)) (c .closed .ensures)
 
--- src/lib.rt:373:1
 single-value-returns-3 : (t : ℕ) → single-value-lts.Need-returns-3 (single-value-calls t) (single-value-at t) single-value.Post
 single-value-returns-3 t c =
     one-flagged (eq-eqb _ _ (c .if3 .taken)) (λ e h. number-value (c .before .before .before .before .before .before .read-cell .ensures) h (c .if3 .taken))
 
--- src/lib.rt:373:1
 single-value-returns-4 : (t : ℕ) → single-value-lts.Need-returns-4 (single-value-calls t) (single-value-at t) single-value.Post
 single-value-returns-4 t c =
     one-outright (λ e h. other-value (c .before .before .before .before .before .before .before .read-cell .ensures) h (not-kind (c .before .before .before .before .before .before .before .read-cell .ensures) (c .before .before .before .before .before .before .before .before .before .pre .1 .0 .single)) (c .before .before .before .before .before .if1 .left) (c .before .before .before .if2 .left) (c .before .if3 .left))

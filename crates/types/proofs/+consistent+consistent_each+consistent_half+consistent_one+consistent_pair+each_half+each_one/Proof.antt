@@ -185,72 +185,58 @@ each-half-calls t = (equal-numbers-reads.Asked, equal-numbers-reads.Learnt, cons
 abbrev each-one-calls : ℕ → each-one-lts.Claims
 each-one-calls t = (equal-numbers-reads.Asked, equal-numbers-reads.Learnt, read-cell-reads.Asked, read-cell-reads.Learnt, consistent-pair-below t, consistent-pair.Post)
 
--- src/lib.rt:236:5
 consistent-loop-holds : (t : ℕ) → consistent-lts.Need-loop-holds (consistent-calls t) (consistent-at t) consistent.Post consistent-Inv-loop consistent-μ-loop
 consistent-loop-holds t c =
     sets-out (c .before .pre .1)
 
--- src/lib.rt:236:11
 consistent-kind-at-requires : (t : ℕ) → consistent-lts.Need-kind-at-requires (consistent-calls t) (consistent-at t) consistent.Post consistent-Inv-loop consistent-μ-loop
 consistent-kind-at-requires t c κs =
     term-within (c .loop .inv .at .holds-first)
 
--- src/lib.rt:237:13
 consistent-read-cell-requires : (t : ℕ) → consistent-lts.Need-read-cell-requires (consistent-calls t) (consistent-at t) consistent.Post consistent-Inv-loop consistent-μ-loop
 consistent-read-cell-requires t c κs =
     term-within (c .before .before .loop .inv .at .holds-first)
 
--- src/lib.rt:238:12
 consistent-kind-at-requires-2 : (t : ℕ) → consistent-lts.Need-kind-at-requires-2 (consistent-calls t) (consistent-at t) consistent.Post consistent-Inv-loop consistent-μ-loop
 consistent-kind-at-requires-2 t c κs =
     term-within (Agree.left-halves (c .read-cell .ensures) (c .before .before .before .loop .inv .at .holds-first) (c .before .before .before .loop .inv .at .holds-second) (kind-read (c .read-cell .ensures) (c .before .before .kind-at .ensures) (c .before .if1 .taken)) .second .holds-first)
 
--- src/lib.rt:239:17
 consistent-consistent-half-requires : (t : ℕ) → consistent-lts.Need-consistent-half-requires (consistent-calls t) (consistent-at t) consistent.Post consistent-Inv-loop consistent-μ-loop
 consistent-consistent-half-requires t c κs =
     let p = Agree.left-halves (c .before .before .read-cell .ensures) (c .before .before .before .before .before .loop .inv .at .holds-first) (c .before .before .before .before .before .loop .inv .at .holds-second) (kind-read (c .before .before .read-cell .ensures) (c .before .before .before .before .kind-at .ensures) (c .before .before .before .if1 .taken)) in (omega (arith, c .before .before .before .before .before .before .before .pre .0, p .first-less, c .before .before .before .before .before .loop .inv .lower), p .first)
 
--- src/lib.rt:240:17
 consistent-returns : (t : ℕ) → consistent-lts.Need-returns (consistent-calls t) (consistent-at t) consistent.Post consistent-Inv-loop consistent-μ-loop
 consistent-returns t c =
     and-ends (c .before .before .before .before .before .before .before .loop .inv) (λ e f h k. Agree.left-halves (c .before .before .before .before .read-cell .ensures) h k (kind-read (c .before .before .before .before .read-cell .ensures) (c .before .before .before .before .before .before .kind-at .ensures) (c .before .before .before .before .before .if1 .taken))) (c .before .consistent-half .ensures) (not-true _ (c .if3 .taken))
 
--- src/lib.rt:236:5
 consistent-loop-less : (t : ℕ) → consistent-lts.Need-loop-less (consistent-calls t) (consistent-at t) consistent.Post consistent-Inv-loop consistent-μ-loop
 consistent-loop-less t c =
     let p = Agree.left-halves (c .before .before .before .before .read-cell .ensures) (c .before .before .before .before .before .before .before .loop .inv .at .holds-first) (c .before .before .before .before .before .before .before .loop .inv .at .holds-second) (kind-read (c .before .before .before .before .read-cell .ensures) (c .before .before .before .before .before .before .kind-at .ensures) (c .before .before .before .before .before .if1 .taken)) in omega (arith, p .second-less)
 
--- src/lib.rt:236:5
 consistent-loop-again : (t : ℕ) → consistent-lts.Need-loop-again (consistent-calls t) (consistent-at t) consistent.Post consistent-Inv-loop consistent-μ-loop
 consistent-loop-again t c =
     and-goes-on (c .before .before .before .before .before .before .before .loop .inv) (λ e f h k. Agree.left-halves (c .before .before .before .before .read-cell .ensures) h k (kind-read (c .before .before .before .before .read-cell .ensures) (c .before .before .before .before .before .before .kind-at .ensures) (c .before .before .before .before .before .if1 .taken))) (c .before .consistent-half .ensures) (not-false _ (c .if3 .left))
 
--- src/lib.rt:244:17
 consistent-consistent-half-requires-2 : (t : ℕ) → consistent-lts.Need-consistent-half-requires-2 (consistent-calls t) (consistent-at t) consistent.Post consistent-Inv-loop consistent-μ-loop
 consistent-consistent-half-requires-2 t c κs =
     let p = Agree.left-halves (c .before .before .read-cell .ensures) (c .before .before .before .before .before .loop .inv .at .holds-first) (c .before .before .before .before .before .loop .inv .at .holds-second) (kind-read (c .before .before .read-cell .ensures) (c .before .before .before .before .kind-at .ensures) (c .before .before .before .if1 .taken)) in (omega (arith, c .before .before .before .before .before .before .before .pre .0, p .second-less, c .before .before .before .before .before .loop .inv .lower), p .second)
 
--- src/lib.rt:245:17
 consistent-returns-2 : (t : ℕ) → consistent-lts.Need-returns-2 (consistent-calls t) (consistent-at t) consistent.Post consistent-Inv-loop consistent-μ-loop
 consistent-returns-2 t c =
     and-ends (c .before .before .before .before .before .before .before .loop .inv) (λ e f h k. and-swapped (Agree.left-halves (c .before .before .before .before .read-cell .ensures) h k (kind-read (c .before .before .before .before .read-cell .ensures) (c .before .before .before .before .before .before .kind-at .ensures) (c .before .before .before .before .before .if1 .taken)))) (c .before .consistent-half2 .ensures) (not-true _ (c .if4 .taken))
 
--- src/lib.rt:236:5
 consistent-loop-less-2 : (t : ℕ) → consistent-lts.Need-loop-less-2 (consistent-calls t) (consistent-at t) consistent.Post consistent-Inv-loop consistent-μ-loop
 consistent-loop-less-2 t c =
     let p = Agree.left-halves (c .before .before .before .before .read-cell .ensures) (c .before .before .before .before .before .before .before .loop .inv .at .holds-first) (c .before .before .before .before .before .before .before .loop .inv .at .holds-second) (kind-read (c .before .before .before .before .read-cell .ensures) (c .before .before .before .before .before .before .kind-at .ensures) (c .before .before .before .before .before .if1 .taken)) in omega (arith, p .first-less)
 
--- src/lib.rt:236:5
 consistent-loop-again-2 : (t : ℕ) → consistent-lts.Need-loop-again-2 (consistent-calls t) (consistent-at t) consistent.Post consistent-Inv-loop consistent-μ-loop
 consistent-loop-again-2 t c =
     and-goes-on (c .before .before .before .before .before .before .before .loop .inv) (λ e f h k. and-swapped (Agree.left-halves (c .before .before .before .before .read-cell .ensures) h k (kind-read (c .before .before .before .before .read-cell .ensures) (c .before .before .before .before .before .before .kind-at .ensures) (c .before .before .before .before .before .if1 .taken)))) (c .before .consistent-half2 .ensures) (not-false _ (c .if4 .left))
 
--- src/lib.rt:250:5
 consistent-consistent-one-requires : (t : ℕ) → consistent-lts.Need-consistent-one-requires (consistent-calls t) (consistent-at t) consistent.Post consistent-Inv-loop consistent-μ-loop
 consistent-consistent-one-requires t c κs =
     (omega (arith, c .before .before .before .before .pre .0, c .before .before .loop .inv .lower), record { terms = c .before .before .loop .inv .at; single = λ k. c .if1 .left (c .before .kind-at .ensures ∙ k) })
 
--- src/lib.rt:231:1
 consistent-returns-3 : (t : ℕ) → consistent-lts.Need-returns-3 (consistent-calls t) (consistent-at t) consistent.Post consistent-Inv-loop consistent-μ-loop
 consistent-returns-3 t c =
     c .before .before .before .loop .inv .on _ (c .consistent-one .ensures)
@@ -261,240 +247,193 @@ consistent-each-Inv-loop s i j k₀ k = Leads (HoldsTerm s) consistent? i j i k
 abbrev consistent-each-μ-loop : consistent-each-lts.MeasureT-loop
 consistent-each-μ-loop s i j k₀ k = k
 
--- src/lib.rt:283:5
 consistent-each-loop-holds : (t : ℕ) → consistent-each-lts.Need-loop-holds (consistent-each-calls t) (consistent-each-at t) consistent-each.Post consistent-each-Inv-loop consistent-each-μ-loop
 consistent-each-loop-holds t c =
     sets-out (c .before .pre .1 .terms)
 
--- src/lib.rt:283:11
 consistent-each-kind-at-requires : (t : ℕ) → consistent-each-lts.Need-kind-at-requires (consistent-each-calls t) (consistent-each-at t) consistent-each.Post consistent-each-Inv-loop consistent-each-μ-loop
 consistent-each-kind-at-requires t c κs =
     term-within (c .loop .inv .at .holds-second)
 
--- src/lib.rt:284:13
 consistent-each-read-cell-requires : (t : ℕ) → consistent-each-lts.Need-read-cell-requires (consistent-each-calls t) (consistent-each-at t) consistent-each.Post consistent-each-Inv-loop consistent-each-μ-loop
 consistent-each-read-cell-requires t c κs =
     term-within (c .before .before .loop .inv .at .holds-second)
 
--- src/lib.rt:285:12
 consistent-each-kind-at-requires-2 : (t : ℕ) → consistent-each-lts.Need-kind-at-requires-2 (consistent-each-calls t) (consistent-each-at t) consistent-each.Post consistent-each-Inv-loop consistent-each-μ-loop
 consistent-each-kind-at-requires-2 t c κs =
     term-within (Agree.each-half (c .read-cell .ensures) (c .before .before .before .before .before .pre .1 .plain) (c .before .before .before .loop .inv .at .holds-first) (c .before .before .before .loop .inv .at .holds-second) (kind-read (c .read-cell .ensures) (c .before .before .kind-at .ensures) (c .before .if1 .taken)) .second .holds-second)
 
--- src/lib.rt:286:17
 consistent-each-each-half-requires : (t : ℕ) → consistent-each-lts.Need-each-half-requires (consistent-each-calls t) (consistent-each-at t) consistent-each.Post consistent-each-Inv-loop consistent-each-μ-loop
 consistent-each-each-half-requires t c κs =
     let p = Agree.each-half (c .before .before .read-cell .ensures) (c .before .before .before .before .before .before .before .pre .1 .plain) (c .before .before .before .before .before .loop .inv .at .holds-first) (c .before .before .before .before .before .loop .inv .at .holds-second) (kind-read (c .before .before .read-cell .ensures) (c .before .before .before .before .kind-at .ensures) (c .before .before .before .if1 .taken)) in (omega (arith, c .before .before .before .before .before .before .before .pre .0, p .first-less, c .before .before .before .before .before .loop .inv .lower), record { terms = p .first; plain = c .before .before .before .before .before .before .before .pre .1 .plain })
 
--- src/lib.rt:287:17
 consistent-each-returns : (t : ℕ) → consistent-each-lts.Need-returns (consistent-each-calls t) (consistent-each-at t) consistent-each.Post consistent-each-Inv-loop consistent-each-μ-loop
 consistent-each-returns t c =
     and-ends (c .before .before .before .before .before .before .before .loop .inv) (λ e f h k. Agree.each-half (c .before .before .before .before .read-cell .ensures) (c .before .before .before .before .before .before .before .before .before .pre .1 .plain) h k (kind-read (c .before .before .before .before .read-cell .ensures) (c .before .before .before .before .before .before .kind-at .ensures) (c .before .before .before .before .before .if1 .taken))) (c .before .each-half .ensures) (not-true _ (c .if3 .taken))
 
--- src/lib.rt:283:5
 consistent-each-loop-less : (t : ℕ) → consistent-each-lts.Need-loop-less (consistent-each-calls t) (consistent-each-at t) consistent-each.Post consistent-each-Inv-loop consistent-each-μ-loop
 consistent-each-loop-less t c =
     let p = Agree.each-half (c .before .before .before .before .read-cell .ensures) (c .before .before .before .before .before .before .before .before .before .pre .1 .plain) (c .before .before .before .before .before .before .before .loop .inv .at .holds-first) (c .before .before .before .before .before .before .before .loop .inv .at .holds-second) (kind-read (c .before .before .before .before .read-cell .ensures) (c .before .before .before .before .before .before .kind-at .ensures) (c .before .before .before .before .before .if1 .taken)) in omega (arith, p .second-less)
 
--- src/lib.rt:283:5
 consistent-each-loop-again : (t : ℕ) → consistent-each-lts.Need-loop-again (consistent-each-calls t) (consistent-each-at t) consistent-each.Post consistent-each-Inv-loop consistent-each-μ-loop
 consistent-each-loop-again t c =
     and-goes-on (c .before .before .before .before .before .before .before .loop .inv) (λ e f h k. Agree.each-half (c .before .before .before .before .read-cell .ensures) (c .before .before .before .before .before .before .before .before .before .pre .1 .plain) h k (kind-read (c .before .before .before .before .read-cell .ensures) (c .before .before .before .before .before .before .kind-at .ensures) (c .before .before .before .before .before .if1 .taken))) (c .before .each-half .ensures) (not-false _ (c .if3 .left))
 
--- src/lib.rt:291:17
 consistent-each-each-half-requires-2 : (t : ℕ) → consistent-each-lts.Need-each-half-requires-2 (consistent-each-calls t) (consistent-each-at t) consistent-each.Post consistent-each-Inv-loop consistent-each-μ-loop
 consistent-each-each-half-requires-2 t c κs =
     let p = Agree.each-half (c .before .before .read-cell .ensures) (c .before .before .before .before .before .before .before .pre .1 .plain) (c .before .before .before .before .before .loop .inv .at .holds-first) (c .before .before .before .before .before .loop .inv .at .holds-second) (kind-read (c .before .before .read-cell .ensures) (c .before .before .before .before .kind-at .ensures) (c .before .before .before .if1 .taken)) in (omega (arith, c .before .before .before .before .before .before .before .pre .0, p .second-less, c .before .before .before .before .before .loop .inv .lower), record { terms = p .second; plain = c .before .before .before .before .before .before .before .pre .1 .plain })
 
--- src/lib.rt:292:17
 consistent-each-returns-2 : (t : ℕ) → consistent-each-lts.Need-returns-2 (consistent-each-calls t) (consistent-each-at t) consistent-each.Post consistent-each-Inv-loop consistent-each-μ-loop
 consistent-each-returns-2 t c =
     and-ends (c .before .before .before .before .before .before .before .loop .inv) (λ e f h k. and-swapped (Agree.each-half (c .before .before .before .before .read-cell .ensures) (c .before .before .before .before .before .before .before .before .before .pre .1 .plain) h k (kind-read (c .before .before .before .before .read-cell .ensures) (c .before .before .before .before .before .before .kind-at .ensures) (c .before .before .before .before .before .if1 .taken)))) (c .before .each-half2 .ensures) (not-true _ (c .if4 .taken))
 
--- src/lib.rt:283:5
 consistent-each-loop-less-2 : (t : ℕ) → consistent-each-lts.Need-loop-less-2 (consistent-each-calls t) (consistent-each-at t) consistent-each.Post consistent-each-Inv-loop consistent-each-μ-loop
 consistent-each-loop-less-2 t c =
     let p = Agree.each-half (c .before .before .before .before .read-cell .ensures) (c .before .before .before .before .before .before .before .before .before .pre .1 .plain) (c .before .before .before .before .before .before .before .loop .inv .at .holds-first) (c .before .before .before .before .before .before .before .loop .inv .at .holds-second) (kind-read (c .before .before .before .before .read-cell .ensures) (c .before .before .before .before .before .before .kind-at .ensures) (c .before .before .before .before .before .if1 .taken)) in omega (arith, p .first-less)
 
--- src/lib.rt:283:5
 consistent-each-loop-again-2 : (t : ℕ) → consistent-each-lts.Need-loop-again-2 (consistent-each-calls t) (consistent-each-at t) consistent-each.Post consistent-each-Inv-loop consistent-each-μ-loop
 consistent-each-loop-again-2 t c =
     and-goes-on (c .before .before .before .before .before .before .before .loop .inv) (λ e f h k. and-swapped (Agree.each-half (c .before .before .before .before .read-cell .ensures) (c .before .before .before .before .before .before .before .before .before .pre .1 .plain) h k (kind-read (c .before .before .before .before .read-cell .ensures) (c .before .before .before .before .before .before .kind-at .ensures) (c .before .before .before .before .before .if1 .taken)))) (c .before .each-half2 .ensures) (not-false _ (c .if4 .left))
 
--- src/lib.rt:297:5
 consistent-each-each-one-requires : (t : ℕ) → consistent-each-lts.Need-each-one-requires (consistent-each-calls t) (consistent-each-at t) consistent-each.Post consistent-each-Inv-loop consistent-each-μ-loop
 consistent-each-each-one-requires t c κs =
     (omega (arith, c .before .before .before .before .pre .0, c .before .before .loop .inv .lower), record { first = record { terms = c .before .before .loop .inv .at; plain = c .before .before .before .before .pre .1 .plain }; single = λ k. c .if1 .left (c .before .kind-at .ensures ∙ k) })
 
--- src/lib.rt:278:1
 consistent-each-returns-3 : (t : ℕ) → consistent-each-lts.Need-returns-3 (consistent-each-calls t) (consistent-each-at t) consistent-each.Post consistent-each-Inv-loop consistent-each-μ-loop
 consistent-each-returns-3 t c =
     c .before .before .before .loop .inv .on _ (c .each-one .ensures)
 
--- src/lib.rt:257:8
 consistent-half-equal-numbers-requires : (t : ℕ) → consistent-half-lts.Need-equal-numbers-requires (consistent-half-calls t) (consistent-half-at t) consistent-half.Post
 consistent-half-equal-numbers-requires t c κs =
     c .before .pre .1
 
--- src/lib.rt:258:9
 consistent-half-returns : (t : ℕ) → consistent-half-lts.Need-returns (consistent-half-calls t) (consistent-half-at t) consistent-half.Post
 consistent-half-returns t c =
     c .before .equal-numbers .ensures .says (c .if1 .taken)
 
--- src/lib.rt:260:5
 consistent-half-consistent-requires : (t : ℕ) → consistent-half-lts.Need-consistent-requires (consistent-half-calls t) (consistent-half-at t) consistent-half.Post
 consistent-half-consistent-requires t c κs =
     (omega (arith, c .before .before .before .pre .0), c .before .before .before .pre .1)
 
--- src/lib.rt:253:1
 consistent-half-returns-2 : (t : ℕ) → consistent-half-lts.Need-returns-2 (consistent-half-calls t) (consistent-half-at t) consistent-half.Post
 consistent-half-returns-2 t c =
     c .consistent .ensures
 
--- src/lib.rt:268:9
 consistent-one-read-cell-requires : (t : ℕ) → consistent-one-lts.Need-read-cell-requires (consistent-one-calls t) (consistent-one-at t) consistent-one.Post
 consistent-one-read-cell-requires t c κs =
     term-within (c .before .pre .1 .terms .holds-first)
 
--- src/lib.rt:272:25
 consistent-one-consistent-each-requires :
     (t : ℕ) → consistent-one-lts.Need-consistent-each-requires (consistent-one-calls t) (consistent-one-at t) consistent-one.Post
 consistent-one-consistent-each-requires t c κs =
     (omega (arith, c .before .before .before .pre .0), Agree.plain-left (c .before .read-cell .ensures) (c .before .before .before .pre .1 .terms) (c .match .keys2))
 
--- src/lib.rt:264:1
 consistent-one-returns : (t : ℕ) → consistent-one-lts.Need-returns (consistent-one-calls t) (consistent-one-at t) consistent-one.Post
 consistent-one-returns t c =
     outright (λ e f h k. Agree.left-unit (c .before .read-cell .ensures) h f (c .match .keys1))
 
--- src/lib.rt:264:1
 consistent-one-returns-2 : (t : ℕ) → consistent-one-lts.Need-returns-2 (consistent-one-calls t) (consistent-one-at t) consistent-one.Post
 consistent-one-returns-2 t c =
     c .consistent-each .ensures
 
--- src/lib.rt:264:1
 consistent-one-returns-3 : (t : ℕ) → consistent-one-lts.Need-returns-3 (consistent-one-calls t) (consistent-one-at t) consistent-one.Post
 consistent-one-returns-3 t c =
     outright (λ e f h k. Agree.left-none (c .before .read-cell .ensures) h f (c .match .rest .0 .1) (not-kind (c .before .read-cell .ensures) (c .before .before .before .pre .1 .single)) (c .match .rest .1))
 
--- src/lib.rt:332:9
 consistent-pair-read-cell-requires : (t : ℕ) → consistent-pair-lts.Need-read-cell-requires (consistent-pair-calls t) (consistent-pair-at t) consistent-pair.Post
 consistent-pair-read-cell-requires t c κs =
     term-within (c .before .pre .1 .first .terms .holds-first)
 
--- src/lib.rt:333:9
 consistent-pair-read-cell-requires-2 : (t : ℕ) → consistent-pair-lts.Need-read-cell-requires-2 (consistent-pair-calls t) (consistent-pair-at t) consistent-pair.Post
 consistent-pair-read-cell-requires-2 t c κs =
     term-within (c .before .before .pre .1 .first .terms .holds-second)
 
--- src/lib.rt:335:9
 consistent-pair-returns : (t : ℕ) → consistent-pair-lts.Need-returns (consistent-pair-calls t) (consistent-pair-at t) consistent-pair.Post
 consistent-pair-returns t c =
     outright (λ e f h k. Agree.pair-kinds (read (c .before .before .before .before .read-cell .ensures) (c .before .before .before .read-cell2 .ensures) h k) (c .before .before .before .before .before .before .pre .1 .first .plain) (c .before .before .before .before .before .before .pre .1 .plain) (c .if1 .taken))
 
--- src/lib.rt:338:9
 consistent-pair-returns-2 : (t : ℕ) → consistent-pair-lts.Need-returns-2 (consistent-pair-calls t) (consistent-pair-at t) consistent-pair.Post
 consistent-pair-returns-2 t c =
     outright (λ e f h k. Agree.numbers (read (c .before .before .before .before .before .before .before .before .before .before .before .read-cell .ensures) (c .before .before .before .before .before .before .before .before .before .before .read-cell2 .ensures) h k) (c .before .before .before .before .before .before .before .if1 .left) (λ n. c .before .before .before .before .before .before .before .before .before .before .before .before .shared-slice-known .given n .fits) (c .before .before .before .before .before .if2 .taken) (c .before .before .if3 .taken))
 
--- src/lib.rt:338:9
 consistent-pair-returns-3 : (t : ℕ) → consistent-pair-lts.Need-returns-3 (consistent-pair-calls t) (consistent-pair-at t) consistent-pair.Post
 consistent-pair-returns-3 t c =
     flagged (ne-eqb _ _ (c .if3 .left)) (λ e f h k. Agree.other-numbers (read (c .before .before .before .before .before .before .before .before .before .read-cell .ensures) (c .before .before .before .before .before .before .before .before .read-cell2 .ensures) h k) (c .before .before .before .before .before .if1 .left) (λ n. c .before .before .before .before .before .before .before .before .before .before .shared-slice-known .given n .fits) (c .before .before .before .if2 .taken) (c .if3 .left))
 
--- src/lib.rt:341:38
 consistent-pair-consistent-half-requires :
     (t : ℕ) → consistent-pair-lts.Need-consistent-half-requires (consistent-pair-calls t) (consistent-pair-at t) consistent-pair.Post
 consistent-pair-consistent-half-requires t c κs =
     let p = Agree.records (read-at (c .before .before .before .before .before .before .before .before .before .before .before .read-cell .ensures) (c .before .before .before .before .before .before .before .before .before .before .read-cell2 .ensures) (c .before .before .before .before .before .before .before .before .before .before .before .before .before .pre .1 .first .terms)) (c .before .before .before .before .before .before .before .if1 .left) (c .before .before .before .if4 .taken) (c .if5 .left) in (omega (arith, p .less, c .before .before .before .before .before .before .before .before .before .before .before .before .before .pre .0), p .part)
 
--- src/lib.rt:341:9
 consistent-pair-returns-4 : (t : ℕ) → consistent-pair-lts.Need-returns-4 (consistent-pair-calls t) (consistent-pair-at t) consistent-pair.Post
 consistent-pair-returns-4 t c =
     flagged (ap not (ne-eqb _ _ (c .if5 .taken))) (λ e f h k. Agree.other-records (read (c .before .before .before .before .before .before .before .before .before .before .before .read-cell .ensures) (c .before .before .before .before .before .before .before .before .before .before .read-cell2 .ensures) h k) (c .before .before .before .before .before .before .before .if1 .left) (c .before .before .before .if4 .taken) (c .if5 .taken))
 
--- src/lib.rt:341:9
 consistent-pair-returns-5 : (t : ℕ) → consistent-pair-lts.Need-returns-5 (consistent-pair-calls t) (consistent-pair-at t) consistent-pair.Post
 consistent-pair-returns-5 t c =
     passed (λ e f h k. Agree.records (read (c .before .before .before .before .before .before .before .before .before .before .before .before .read-cell .ensures) (c .before .before .before .before .before .before .before .before .before .before .before .read-cell2 .ensures) h k) (c .before .before .before .before .before .before .before .before .if1 .left) (c .before .before .before .before .if4 .taken) (c .before .if5 .left)) (c .consistent-half .ensures)
 
--- src/lib.rt:343:8
 consistent-pair-same-type-requires : (t : ℕ) → consistent-pair-lts.Need-same-type-requires (consistent-pair-calls t) (consistent-pair-at t) consistent-pair.Post
 consistent-pair-same-type-requires t c κs =
     Agree.functions (read-at (c .before .before .before .before .before .before .before .before .read-cell .ensures) (c .before .before .before .before .before .before .before .read-cell2 .ensures) (c .before .before .before .before .before .before .before .before .before .before .pre .1 .first .terms)) (c .before .before .before .before .if1 .left) (c .before .before .before .before .before .before .before .before .before .before .pre .1 .first .plain) (c .before .before .if2 .left) (c .if4 .left) .inputs
 
--- src/lib.rt:343:34
 consistent-pair-same-term-requires : (t : ℕ) → consistent-pair-lts.Need-same-term-requires (consistent-pair-calls t) (consistent-pair-at t) consistent-pair.Post
 consistent-pair-same-term-requires t c κs =
     Agree.functions (read-at (c .before .before .before .before .before .before .before .before .before .before .read-cell .ensures) (c .before .before .before .before .before .before .before .before .before .read-cell2 .ensures) (c .before .before .before .before .before .before .before .before .before .before .before .before .pre .1 .first .terms)) (c .before .before .before .before .before .before .if1 .left) (c .before .before .before .before .before .before .before .before .before .before .before .before .pre .1 .first .plain) (c .before .before .before .before .if2 .left) (c .before .before .if4 .left) .bodies
 
--- src/lib.rt:344:9
 consistent-pair-returns-6 : (t : ℕ) → consistent-pair-lts.Need-returns-6 (consistent-pair-calls t) (consistent-pair-at t) consistent-pair.Post
 consistent-pair-returns-6 t c =
     Agree.agree-same (λ e f h k. Agree.functions (read (c .before .before .before .before .before .before .before .before .before .before .before .before .read-cell .ensures) (c .before .before .before .before .before .before .before .before .before .before .before .read-cell2 .ensures) h k) (c .before .before .before .before .before .before .before .before .if1 .left) (c .before .before .before .before .before .before .before .before .before .before .before .before .before .before .pre .1 .first .plain) (c .before .before .before .before .before .before .if2 .left) (c .before .before .before .before .if4 .left)) (c .before .before .before .same-type .ensures) (c .before .before .if6 .taken) (c .before .same-term .ensures) (c .if7 .taken)
 
--- src/lib.rt:346:5
 consistent-pair-disjoint-requires : (t : ℕ) → consistent-pair-lts.Need-disjoint-requires (consistent-pair-calls t) (consistent-pair-at t) consistent-pair.Post
 consistent-pair-disjoint-requires t c κs =
     Agree.functions (read-at (c .before .before .before .before .before .before .before .before .before .before .read-cell .ensures) (c .before .before .before .before .before .before .before .before .before .read-cell2 .ensures) (c .before .before .before .before .before .before .before .before .before .before .before .before .pre .1 .first .terms)) (c .before .before .before .before .before .before .if1 .left) (c .before .before .before .before .before .before .before .before .before .before .before .before .pre .1 .first .plain) (c .before .before .before .before .if2 .left) (c .before .before .if4 .left) .outputs
 
--- src/lib.rt:328:1
 consistent-pair-returns-7 : (t : ℕ) → consistent-pair-lts.Need-returns-7 (consistent-pair-calls t) (consistent-pair-at t) consistent-pair.Post
 consistent-pair-returns-7 t c =
     Agree.agree-apart (λ e f h k. Agree.functions (read (c .before .before .before .before .before .before .before .before .before .before .before .read-cell .ensures) (c .before .before .before .before .before .before .before .before .before .before .read-cell2 .ensures) h k) (c .before .before .before .before .before .before .before .if1 .left) (c .before .before .before .before .before .before .before .before .before .before .before .before .before .pre .1 .first .plain) (c .before .before .before .before .before .if2 .left) (c .before .before .before .if4 .left)) (c .before .before .same-type .ensures)
     (⊎-elim (λ w. inr (rw (w .2 .left) at (w .1 .ensures))) (λ w. inl (w .left)) (c .before .if6 .came)) (c .disjoint .ensures)
 
--- src/lib.rt:304:8
 each-half-equal-numbers-requires : (t : ℕ) → each-half-lts.Need-equal-numbers-requires (each-half-calls t) (each-half-at t) each-half.Post
 each-half-equal-numbers-requires t c κs =
     c .before .pre .1 .terms
 
--- src/lib.rt:305:9
 each-half-returns : (t : ℕ) → each-half-lts.Need-returns (each-half-calls t) (each-half-at t) each-half.Post
 each-half-returns t c =
     c .before .equal-numbers .ensures .says (c .if1 .taken)
 
--- src/lib.rt:307:5
 each-half-consistent-each-requires : (t : ℕ) → each-half-lts.Need-consistent-each-requires (each-half-calls t) (each-half-at t) each-half.Post
 each-half-consistent-each-requires t c κs =
     (omega (arith, c .before .before .before .pre .0), c .before .before .before .pre .1)
 
--- src/lib.rt:300:1
 each-half-returns-2 : (t : ℕ) → each-half-lts.Need-returns-2 (each-half-calls t) (each-half-at t) each-half.Post
 each-half-returns-2 t c =
     c .consistent-each .ensures
 
--- src/lib.rt:315:8
 each-one-equal-numbers-requires : (t : ℕ) → each-one-lts.Need-equal-numbers-requires (each-one-calls t) (each-one-at t) each-one.Post
 each-one-equal-numbers-requires t c κs =
     c .before .pre .1 .first .terms
 
--- src/lib.rt:316:9
 each-one-returns : (t : ℕ) → each-one-lts.Need-returns (each-one-calls t) (each-one-at t) each-one.Post
 each-one-returns t c =
     c .before .equal-numbers .ensures .says (c .if1 .taken)
 
--- src/lib.rt:318:9
 each-one-read-cell-requires : (t : ℕ) → each-one-lts.Need-read-cell-requires (each-one-calls t) (each-one-at t) each-one.Post
 each-one-read-cell-requires t c κs =
     term-within (c .before .before .before .pre .1 .first .terms .holds-second)
 
--- src/lib.rt:322:25
 each-one-consistent-pair-requires : (t : ℕ) → each-one-lts.Need-consistent-pair-requires (each-one-calls t) (each-one-at t) each-one.Post
 each-one-consistent-pair-requires t c κs =
     (omega (arith, c .before .before .before .before .before .pre .0), Agree.plain-pair (c .before .read-cell .ensures) (c .before .before .before .before .before .pre .1 .first) (c .match .keys2))
 
--- src/lib.rt:311:1
 each-one-returns-2 : (t : ℕ) → each-one-lts.Need-returns-2 (each-one-calls t) (each-one-at t) each-one.Post
 each-one-returns-2 t c =
     outright (λ e f h k. Agree.each-unit (c .before .read-cell .ensures) (c .before .before .before .before .before .pre .1 .first .plain) h k (c .match .keys1))
 
--- src/lib.rt:311:1
 each-one-returns-3 : (t : ℕ) → each-one-lts.Need-returns-3 (each-one-calls t) (each-one-at t) each-one.Post
 each-one-returns-3 t c =
     c .consistent-pair .ensures
 
--- src/lib.rt:311:1
 each-one-returns-4 : (t : ℕ) → each-one-lts.Need-returns-4 (each-one-calls t) (each-one-at t) each-one.Post
 each-one-returns-4 t c =
     outright (λ e f h k. Agree.each-none (c .before .read-cell .ensures) (c .before .before .before .before .before .pre .1 .first .plain) h k (c .match .rest .0 .1) (not-kind (c .before .read-cell .ensures) (c .before .before .before .before .before .pre .1 .single)) (c .match .rest .1))

@@ -92,27 +92,22 @@ single-below-calls t = (read-cell-reads.Asked, read-cell-reads.Learnt, subtype-b
 abbrev subtype-calls : ℕ → subtype-lts.Claims
 subtype-calls t = (read-cell-reads.Asked, read-cell-reads.Learnt, subtype-below t, subtype.Post, part-below-below t, part-below.Post)
 
--- src/lib.rt:68:9
 half-below-kind-at-requires : (t : ℕ) → half-below-lts.Need-kind-at-requires (half-below-calls t) (half-below-at t) half-below.Post
 half-below-kind-at-requires t c κs =
     type-within (c .before .pre .1 .types .holds-first)
 
--- src/lib.rt:69:23
 half-below-kind-at-requires-2 : (t : ℕ) → half-below-lts.Need-kind-at-requires-2 (half-below-calls t) (half-below-at t) half-below.Post
 half-below-kind-at-requires-2 t c κs =
     type-within (c .before .before .before .pre .1 .types .holds-second)
 
--- src/lib.rt:70:9
 half-below-returns : (t : ℕ) → half-below-lts.Need-returns (half-below-calls t) (half-below-at t) half-below.Post
 half-below-returns t c =
     outright (λ A B h k. Below.unlike (read refl refl h k) (c .before .before .before .before .before .pre .1 .second-marked) (c .before .before .before .before .before .pre .1 .second-single) (λ m. c .before .before .if1 .taken (c .before .before .before .kind-at .ensures ∙ m)) (λ m. eqb-false _ _ (not-true _ (c .if2 .taken)) (c .before .before .before .kind-at .ensures ∙ m ∙ sym (c .before .kind-at2 .ensures))))
 
--- src/lib.rt:72:5
 half-below-part-below-requires : (t : ℕ) → half-below-lts.Need-part-below-requires (half-below-calls t) (half-below-at t) half-below.Post
 half-below-part-below-requires t c κs =
     (omega (arith, c .before .before .before .pre .0), c .before .before .before .pre .1)
 
--- src/lib.rt:64:1
 half-below-returns-2 : (t : ℕ) → half-below-lts.Need-returns-2 (half-below-calls t) (half-below-at t) half-below.Post
 half-below-returns-2 t c =
     c .part-below .ensures
@@ -123,186 +118,151 @@ part-below-Inv-loop s a b i₀ i = Leads (HoldsType s) below? a b i b
 abbrev part-below-μ-loop : part-below-lts.MeasureT-loop
 part-below-μ-loop s a b i₀ i = i
 
--- src/lib.rt:46:5
 part-below-loop-holds : (t : ℕ) → part-below-lts.Need-loop-holds (part-below-calls t) (part-below-at t) part-below.Post part-below-Inv-loop part-below-μ-loop
 part-below-loop-holds t c =
     sets-out (c .before .pre .1 .types)
 
--- src/lib.rt:46:11
 part-below-kind-at-requires : (t : ℕ) → part-below-lts.Need-kind-at-requires (part-below-calls t) (part-below-at t) part-below.Post part-below-Inv-loop part-below-μ-loop
 part-below-kind-at-requires t c κs =
     type-within (c .loop .inv .at .holds-first)
 
--- src/lib.rt:47:13
 part-below-read-cell-requires : (t : ℕ) → part-below-lts.Need-read-cell-requires (part-below-calls t) (part-below-at t) part-below.Post part-below-Inv-loop part-below-μ-loop
 part-below-read-cell-requires t c κs =
     type-within (c .before .before .loop .inv .at .holds-first)
 
--- src/lib.rt:48:12
 part-below-kind-at-requires-2 : (t : ℕ) → part-below-lts.Need-kind-at-requires-2 (part-below-calls t) (part-below-at t) part-below.Post part-below-Inv-loop part-below-μ-loop
 part-below-kind-at-requires-2 t c κs =
     type-within (halves-of (c .read-cell .ensures) (c .before .before .kind-at .ensures) (c .before .if1 .taken) (c .before .before .before .before .before .pre .1) _ _ (c .before .before .before .loop .inv .at .holds-first) (c .before .before .before .loop .inv .at .holds-second) .second .holds-first)
 
--- src/lib.rt:49:16
 part-below-half-below-requires : (t : ℕ) → part-below-lts.Need-half-below-requires (part-below-calls t) (part-below-at t) part-below.Post part-below-Inv-loop part-below-μ-loop
 part-below-half-below-requires t c κs =
     let p = halves-of (c .before .before .read-cell .ensures) (c .before .before .before .before .kind-at .ensures) (c .before .before .before .if1 .taken) (c .before .before .before .before .before .before .before .pre .1) _ _ (c .before .before .before .before .before .loop .inv .at .holds-first) (c .before .before .before .before .before .loop .inv .at .holds-second) in
     (omega (arith, c .before .before .before .before .before .before .before .pre .0, p .first-less, c .before .before .before .before .before .loop .inv .lower), under (c .before .before .before .before .before .before .before .pre .1) (p .first))
 
--- src/lib.rt:50:17
 part-below-returns : (t : ℕ) → part-below-lts.Need-returns (part-below-calls t) (part-below-at t) part-below.Post part-below-Inv-loop part-below-μ-loop
 part-below-returns t c =
     or-ends (c .before .before .before .before .before .before .before .loop .inv) (halves-of (c .before .before .before .before .read-cell .ensures) (c .before .before .before .before .before .before .kind-at .ensures) (c .before .before .before .before .before .if1 .taken) (c .before .before .before .before .before .before .before .before .before .pre .1)) (c .before .half-below .ensures) (c .if3 .taken)
 
--- src/lib.rt:46:5
 part-below-loop-less : (t : ℕ) → part-below-lts.Need-loop-less (part-below-calls t) (part-below-at t) part-below.Post part-below-Inv-loop part-below-μ-loop
 part-below-loop-less t c =
     let p = halves-of (c .before .before .before .before .read-cell .ensures) (c .before .before .before .before .before .before .kind-at .ensures) (c .before .before .before .before .before .if1 .taken) (c .before .before .before .before .before .before .before .before .before .pre .1) _ _ (c .before .before .before .before .before .before .before .loop .inv .at .holds-first) (c .before .before .before .before .before .before .before .loop .inv .at .holds-second) in
     omega (arith, p .second-less)
 
--- src/lib.rt:46:5
 part-below-loop-again : (t : ℕ) → part-below-lts.Need-loop-again (part-below-calls t) (part-below-at t) part-below.Post part-below-Inv-loop part-below-μ-loop
 part-below-loop-again t c =
     or-goes-on (c .before .before .before .before .before .before .before .loop .inv) (halves-of (c .before .before .before .before .read-cell .ensures) (c .before .before .before .before .before .before .kind-at .ensures) (c .before .before .before .before .before .if1 .taken) (c .before .before .before .before .before .before .before .before .before .pre .1)) (c .before .half-below .ensures) (c .if3 .left)
 
--- src/lib.rt:54:16
 part-below-half-below-requires-2 : (t : ℕ) → part-below-lts.Need-half-below-requires-2 (part-below-calls t) (part-below-at t) part-below.Post part-below-Inv-loop part-below-μ-loop
 part-below-half-below-requires-2 t c κs =
     let p = halves-of (c .before .before .read-cell .ensures) (c .before .before .before .before .kind-at .ensures) (c .before .before .before .if1 .taken) (c .before .before .before .before .before .before .before .pre .1) _ _ (c .before .before .before .before .before .loop .inv .at .holds-first) (c .before .before .before .before .before .loop .inv .at .holds-second) in
     (omega (arith, c .before .before .before .before .before .before .before .pre .0, p .second-less, c .before .before .before .before .before .loop .inv .lower), under (c .before .before .before .before .before .before .before .pre .1) (p .second))
 
--- src/lib.rt:55:17
 part-below-returns-2 : (t : ℕ) → part-below-lts.Need-returns-2 (part-below-calls t) (part-below-at t) part-below.Post part-below-Inv-loop part-below-μ-loop
 part-below-returns-2 t c =
     or-ends (c .before .before .before .before .before .before .before .loop .inv) (λ A B h k. or-swapped (halves-of (c .before .before .before .before .read-cell .ensures) (c .before .before .before .before .before .before .kind-at .ensures) (c .before .before .before .before .before .if1 .taken) (c .before .before .before .before .before .before .before .before .before .pre .1) A B h k)) (c .before .half-below2 .ensures) (c .if4 .taken)
 
--- src/lib.rt:46:5
 part-below-loop-less-2 : (t : ℕ) → part-below-lts.Need-loop-less-2 (part-below-calls t) (part-below-at t) part-below.Post part-below-Inv-loop part-below-μ-loop
 part-below-loop-less-2 t c =
     let p = halves-of (c .before .before .before .before .read-cell .ensures) (c .before .before .before .before .before .before .kind-at .ensures) (c .before .before .before .before .before .if1 .taken) (c .before .before .before .before .before .before .before .before .before .pre .1) _ _ (c .before .before .before .before .before .before .before .loop .inv .at .holds-first) (c .before .before .before .before .before .before .before .loop .inv .at .holds-second) in
     omega (arith, p .first-less)
 
--- src/lib.rt:46:5
 part-below-loop-again-2 : (t : ℕ) → part-below-lts.Need-loop-again-2 (part-below-calls t) (part-below-at t) part-below.Post part-below-Inv-loop part-below-μ-loop
 part-below-loop-again-2 t c =
     or-goes-on (c .before .before .before .before .before .before .before .loop .inv) (λ A B h k. or-swapped (halves-of (c .before .before .before .before .read-cell .ensures) (c .before .before .before .before .before .before .kind-at .ensures) (c .before .before .before .before .before .if1 .taken) (c .before .before .before .before .before .before .before .before .before .pre .1) A B h k)) (c .before .half-below2 .ensures) (c .if4 .left)
 
--- src/lib.rt:60:5
 part-below-single-below-requires : (t : ℕ) → part-below-lts.Need-single-below-requires (part-below-calls t) (part-below-at t) part-below.Post part-below-Inv-loop part-below-μ-loop
 part-below-single-below-requires t c κs =
     (omega (arith, c .before .before .before .before .pre .0, c .before .before .loop .inv .lower), record { under = under (c .before .before .before .before .pre .1) (c .before .before .loop .inv .at); first-single = λ k. c .if1 .left (c .before .kind-at .ensures ∙ k) })
 
--- src/lib.rt:41:1
 part-below-returns-3 : (t : ℕ) → part-below-lts.Need-returns-3 (part-below-calls t) (part-below-at t) part-below.Post part-below-Inv-loop part-below-μ-loop
 part-below-returns-3 t c =
     c .before .before .before .loop .inv .on _ (c .single-below .ensures)
 
--- src/lib.rt:80:9
 single-below-read-cell-requires : (t : ℕ) → single-below-lts.Need-read-cell-requires (single-below-calls t) (single-below-at t) single-below.Post
 single-below-read-cell-requires t c κs =
     type-within (c .before .pre .1 .under .types .holds-first)
 
--- src/lib.rt:81:9
 single-below-read-cell-requires-2 : (t : ℕ) → single-below-lts.Need-read-cell-requires-2 (single-below-calls t) (single-below-at t) single-below.Post
 single-below-read-cell-requires-2 t c κs =
     type-within (c .before .before .pre .1 .under .types .holds-second)
 
--- src/lib.rt:83:9
 single-below-returns : (t : ℕ) → single-below-lts.Need-returns (single-below-calls t) (single-below-at t) single-below.Post
 single-below-returns t c =
     outright (λ A B h k. Below.from-top (read (c .before .before .before .read-cell .ensures) (c .before .before .read-cell2 .ensures) h k) (not-marked (c .before .before .read-cell2 .ensures) (c .before .before .before .before .before .pre .1 .under .second-marked)) (c .if1 .taken))
 
--- src/lib.rt:86:9
 single-below-returns-2 : (t : ℕ) → single-below-lts.Need-returns-2 (single-below-calls t) (single-below-at t) single-below.Post
 single-below-returns-2 t c =
     outright (λ A B h k. Below.unlike (read (c .before .before .before .before .before .before .read-cell .ensures) (c .before .before .before .before .before .read-cell2 .ensures) h k) (not-marked (c .before .before .before .before .before .read-cell2 .ensures) (c .before .before .before .before .before .before .before .before .pre .1 .under .second-marked)) (not-kind (c .before .before .before .before .before .read-cell2 .ensures) (c .before .before .before .before .before .before .before .before .pre .1 .under .second-single)) (not-kind (c .before .before .before .before .before .before .read-cell .ensures) (c .before .before .before .before .before .before .before .before .pre .1 .first-single)) (c .if2 .taken))
 
--- src/lib.rt:89:16
 single-below-subtype-requires : (t : ℕ) → single-below-lts.Need-subtype-requires (single-below-calls t) (single-below-at t) single-below.Post
 single-below-subtype-requires t c κs =
     let p = Below.functions (read-at (c .before .before .before .before .before .before .before .before .read-cell .ensures) (c .before .before .before .before .before .before .before .read-cell2 .ensures) (c .before .before .before .before .before .before .before .before .before .before .pre .1 .under .types)) (not-marked (c .before .before .before .before .before .before .before .read-cell2 .ensures) (c .before .before .before .before .before .before .before .before .before .before .pre .1 .under .second-marked)) (c .before .before .if2 .left) (c .if3 .taken) in
     (omega (arith, c .before .before .before .before .before .before .before .before .before .before .pre .0, p .first-less), p .first)
 
--- src/lib.rt:89:40
 single-below-subtype-requires-2 : (t : ℕ) → single-below-lts.Need-subtype-requires-2 (single-below-calls t) (single-below-at t) single-below.Post
 single-below-subtype-requires-2 t c κs =
     let p = Below.functions (read-at (c .before .before .before .before .before .before .before .before .before .before .read-cell .ensures) (c .before .before .before .before .before .before .before .before .before .read-cell2 .ensures) (c .before .before .before .before .before .before .before .before .before .before .before .before .pre .1 .under .types)) (not-marked (c .before .before .before .before .before .before .before .before .before .read-cell2 .ensures) (c .before .before .before .before .before .before .before .before .before .before .before .before .pre .1 .under .second-marked)) (c .before .before .before .before .if2 .left) (c .before .before .if3 .taken) in
     (omega (arith, c .before .before .before .before .before .before .before .before .before .before .before .before .pre .0, p .second-less), p .second)
 
--- src/lib.rt:89:9
 single-below-returns-3 : (t : ℕ) → single-below-lts.Need-returns-3 (single-below-calls t) (single-below-at t) single-below.Post
 single-below-returns-3 t c =
     both (λ A B h k. Below.functions (read (c .before .before .before .before .before .before .before .before .before .before .before .read-cell .ensures) (c .before .before .before .before .before .before .before .before .before .before .read-cell2 .ensures) h k) (not-marked (c .before .before .before .before .before .before .before .before .before .before .read-cell2 .ensures) (c .before .before .before .before .before .before .before .before .before .before .before .before .before .pre .1 .under .second-marked)) (c .before .before .before .before .before .if2 .left) (c .before .before .before .if3 .taken)) (c .before .before .subtype .ensures) (c .before .if4 .taken) (c .subtype2 .ensures)
 
--- src/lib.rt:89:9
 single-below-returns-4 : (t : ℕ) → single-below-lts.Need-returns-4 (single-below-calls t) (single-below-at t) single-below.Post
 single-below-returns-4 t c =
     none (λ A B h k. Below.functions (read (c .before .before .before .before .before .before .before .before .before .before .read-cell .ensures) (c .before .before .before .before .before .before .before .before .before .read-cell2 .ensures) h k) (not-marked (c .before .before .before .before .before .before .before .before .before .read-cell2 .ensures) (c .before .before .before .before .before .before .before .before .before .before .before .before .pre .1 .under .second-marked)) (c .before .before .before .before .if2 .left) (c .before .before .if3 .taken)) (c .before .subtype .ensures) (c .if4 .left)
 
--- src/lib.rt:92:38
 single-below-subtype-requires-3 : (t : ℕ) → single-below-lts.Need-subtype-requires-3 (single-below-calls t) (single-below-at t) single-below.Post
 single-below-subtype-requires-3 t c κs =
     let p = Below.fields (read-at (c .before .before .before .before .before .before .before .before .before .before .before .before .before .read-cell .ensures) (c .before .before .before .before .before .before .before .before .before .before .before .before .read-cell2 .ensures) (c .before .before .before .before .before .before .before .before .before .before .before .before .before .before .before .pre .1 .under .types)) (not-marked (c .before .before .before .before .before .before .before .before .before .before .before .before .read-cell2 .ensures) (c .before .before .before .before .before .before .before .before .before .before .before .before .before .before .before .pre .1 .under .second-marked)) (c .before .before .before .before .before .before .before .if2 .left) (c .before .before .before .if5 .taken) (c .if6 .taken) in
     (omega (arith, c .before .before .before .before .before .before .before .before .before .before .before .before .before .before .before .pre .0, p .less), p .part)
 
--- src/lib.rt:92:9
 single-below-returns-5 : (t : ℕ) → single-below-lts.Need-returns-5 (single-below-calls t) (single-below-at t) single-below.Post
 single-below-returns-5 t c =
     passed (λ A B h k. Below.fields (read (c .before .before .before .before .before .before .before .before .before .before .before .before .before .before .read-cell .ensures) (c .before .before .before .before .before .before .before .before .before .before .before .before .before .read-cell2 .ensures) h k) (not-marked (c .before .before .before .before .before .before .before .before .before .before .before .before .before .read-cell2 .ensures) (c .before .before .before .before .before .before .before .before .before .before .before .before .before .before .before .before .pre .1 .under .second-marked)) (c .before .before .before .before .before .before .before .before .if2 .left) (c .before .before .before .before .if5 .taken) (c .before .if6 .taken)) (c .subtype3 .ensures)
 
--- src/lib.rt:92:9
 single-below-returns-6 : (t : ℕ) → single-below-lts.Need-returns-6 (single-below-calls t) (single-below-at t) single-below.Post
 single-below-returns-6 t c =
     flagged (ne-eqb _ _ (c .if6 .left)) (λ A B h k. Below.other-labels (read (c .before .before .before .before .before .before .before .before .before .before .before .before .before .read-cell .ensures) (c .before .before .before .before .before .before .before .before .before .before .before .before .read-cell2 .ensures) h k) (not-marked (c .before .before .before .before .before .before .before .before .before .before .before .before .read-cell2 .ensures) (c .before .before .before .before .before .before .before .before .before .before .before .before .before .before .before .pre .1 .under .second-marked)) (c .before .before .before .before .before .before .before .if2 .left) (c .before .before .before .if5 .taken) (c .if6 .left))
 
--- src/lib.rt:76:1
 single-below-returns-7 : (t : ℕ) → single-below-lts.Need-returns-7 (single-below-calls t) (single-below-at t) single-below.Post
 single-below-returns-7 t c =
     outright (λ A B h k. Below.numbers (read (c .before .before .before .before .before .before .before .before .before .before .read-cell .ensures) (c .before .before .before .before .before .before .before .before .before .read-cell2 .ensures) h k) (c .before .before .before .before .before .before .before .if1 .left) (not-kind (c .before .before .before .before .before .before .before .before .before .before .read-cell .ensures) (c .before .before .before .before .before .before .before .before .before .before .before .before .pre .1 .first-single)) (not-marked (c .before .before .before .before .before .before .before .before .before .read-cell2 .ensures) (c .before .before .before .before .before .before .before .before .before .before .before .before .pre .1 .under .second-marked)) (not-kind (c .before .before .before .before .before .before .before .before .before .read-cell2 .ensures) (c .before .before .before .before .before .before .before .before .before .before .before .before .pre .1 .under .second-single)) (c .before .before .before .before .if2 .left) (c .before .before .if3 .left) (c .if5 .left))
 
--- src/lib.rt:27:9
 subtype-returns : (t : ℕ) → subtype-lts.Need-returns (subtype-calls t) (subtype-at t) subtype.Post
 subtype-returns t c =
     outright (λ A B h k. Below.one-cell (c .if1 .taken) h k)
 
--- src/lib.rt:29:9
 subtype-read-cell-requires : (t : ℕ) → subtype-lts.Need-read-cell-requires (subtype-calls t) (subtype-at t) subtype.Post
 subtype-read-cell-requires t c κs =
     type-within (c .before .before .pre .1 .holds-second)
 
--- src/lib.rt:31:9
 subtype-returns-2 : (t : ℕ) → subtype-lts.Need-returns-2 (subtype-calls t) (subtype-at t) subtype.Post
 subtype-returns-2 t c =
     outright (λ A B h k. Below.above-top A k _ (c .before .before .read-cell .ensures) (c .if2 .taken))
 
--- src/lib.rt:34:16
 subtype-subtype-requires : (t : ℕ) → subtype-lts.Need-subtype-requires (subtype-calls t) (subtype-at t) subtype.Post
 subtype-subtype-requires t c κs =
     let p = Below.right-halves (read-at refl (c .before .before .before .before .read-cell .ensures) (c .before .before .before .before .before .before .before .pre .1)) (c .if3 .taken) in
     (omega (arith, c .before .before .before .before .before .before .before .pre .0, p .first-less), p .first)
 
--- src/lib.rt:34:38
 subtype-subtype-requires-2 : (t : ℕ) → subtype-lts.Need-subtype-requires-2 (subtype-calls t) (subtype-at t) subtype.Post
 subtype-subtype-requires-2 t c κs =
     let p = Below.right-halves (read-at refl (c .before .before .before .before .before .before .read-cell .ensures) (c .before .before .before .before .before .before .before .before .before .pre .1)) (c .before .before .if3 .taken) in
     (omega (arith, c .before .before .before .before .before .before .before .before .before .pre .0, p .second-less), p .second)
 
--- src/lib.rt:34:9
 subtype-returns-3 : (t : ℕ) → subtype-lts.Need-returns-3 (subtype-calls t) (subtype-at t) subtype.Post
 subtype-returns-3 t c =
     both (λ A B h k. Below.right-halves (read refl (c .before .before .before .before .before .before .before .read-cell .ensures) h k) (c .before .before .before .if3 .taken)) (c .before .before .subtype .ensures) (c .before .if4 .taken) (c .subtype2 .ensures)
 
--- src/lib.rt:34:9
 subtype-returns-4 : (t : ℕ) → subtype-lts.Need-returns-4 (subtype-calls t) (subtype-at t) subtype.Post
 subtype-returns-4 t c =
     none (λ A B h k. Below.right-halves (read refl (c .before .before .before .before .before .before .read-cell .ensures) h k) (c .before .before .if3 .taken)) (c .before .subtype .ensures) (c .if4 .left)
 
--- src/lib.rt:36:5
 subtype-part-below-requires : (t : ℕ) → subtype-lts.Need-part-below-requires (subtype-calls t) (subtype-at t) subtype.Post
 subtype-part-below-requires t c κs =
     (omega (arith, c .before .before .before .before .before .before .before .pre .0), record { types = c .before .before .before .before .before .before .before .pre .1; second-marked = λ m. c .before .before .if2 .left (ap (λ (t : Cell). t .c) (c .before .before .before .before .read-cell .ensures) ∙ m); second-single = λ m. c .if3 .left (ap (λ (t : Cell). t .kind) (c .before .before .before .before .read-cell .ensures) ∙ m) })
 
--- src/lib.rt:22:1
 subtype-returns-5 : (t : ℕ) → subtype-lts.Need-returns-5 (subtype-calls t) (subtype-at t) subtype.Post
 subtype-returns-5 t c =
     c .part-below .ensures

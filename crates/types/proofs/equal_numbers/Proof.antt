@@ -11,32 +11,26 @@ use Rattle.types.proofs.equal_numbers.Reads as reads
 use Rattle.types.proofs.equal_numbers.Lts as lts
 use Rattle.cells.proofs.read_cell.Reads as read-cell-reads
 
--- src/lib.rt:219:9
 read-cell-requires : tie.Need-read-cell-requires
 read-cell-requires c κs =
     term-within (c .before .pre .holds-first)
 
--- src/lib.rt:220:9
 read-cell-requires-2 : tie.Need-read-cell-requires-2
 read-cell-requires-2 c κs =
     term-within (c .before .before .pre .holds-second)
 
--- src/lib.rt:222:9
 returns : tie.Need-returns
 returns c =
     no-answer refl
 
--- src/lib.rt:225:9
 returns-2 : tie.Need-returns-2
 returns-2 c =
     no-answer refl
 
--- src/lib.rt:215:1
 returns-3 : tie.Need-returns-3
 returns-3 c =
     an-answer (outright (λ e f h k. numbers (read (c .before .before .before .before .before .before .before .before .before .before .read-cell .ensures) (c .before .before .before .before .before .before .before .before .before .read-cell2 .ensures) h k) (c .before .before .before .before .before .before .before .if1 .left ∙ sym (c .before .before .before .before .before .if2 .left)) (λ n. c .before .before .before .before .before .before .before .before .before .before .before .shared-slice-known .given n .fits) (c .before .before .before .before .before .before .before .if1 .left) (c .before .before .if3 .taken)))
 
--- src/lib.rt:215:1
 returns-4 : tie.Need-returns-4
 returns-4 c =
     no-answer (ne-eqb _ _ (c .if3 .left))

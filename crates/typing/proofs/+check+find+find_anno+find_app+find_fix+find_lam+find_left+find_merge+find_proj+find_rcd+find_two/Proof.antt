@@ -206,692 +206,556 @@ find-rcd-calls t = (read-cell-reads.Asked, read-cell-reads.Learnt, find-below t,
 abbrev find-two-calls : ℕ → find-two-lts.Claims
 find-two-calls t = (read-cell-reads.Asked, read-cell-reads.Learnt, find-app-below t, find-app.Post, find-merge-below t, find-merge.Post)
 
--- src/lib.rt:262:9
 check-find-requires : (t : ℕ) → check-lts.Need-find-requires (check-calls t) (check-at t) check.Post
 check-find-requires t c κs =
     (omega (arith, c .before .before .pre .0), c .before .before .pre .1 .ready)
 
--- src/lib.rt:263:22
 check-enum-known-found : (t : ℕ) → check-lts.Need-enum-known-found (check-calls t) (check-at t) check.Post
 check-enum-known-found t c =
     search needs
 
--- src/lib.rt:264:9
 check-enum-told : (t : ℕ) → check-lts.Need-enum-told (check-calls t) (check-at t) check.Post
 check-enum-told t c =
     search needs
 
--- src/lib.rt:264:9
 check-same-length : (t : ℕ) → check-lts.Need-same-length (check-calls t) (check-at t) check.Post
 check-same-length t c =
     c .before .before .before .before .find .kept .0
 
--- src/lib.rt:264:9
 check-returns : (t : ℕ) → check-lts.Need-returns (check-calls t) (check-at t) check.Post
 check-returns t c =
     check-refused (c .before .before .before .before .find .ensures) (c .enum-told .given .1)
 
--- src/lib.rt:266:8
 check-subtype-requires : (t : ℕ) → check-lts.Need-subtype-requires (check-calls t) (check-at t) check.Post
 check-subtype-requires t c κs =
     check-asks (c .before .before .before .before .before .before .before .before .before .pre .1) (c .before .before .before .before .before .before .find .ensures) (c .before .before .found .given .1)
 
--- src/lib.rt:258:1
 check-same-length-2 : (t : ℕ) → check-lts.Need-same-length-2 (check-calls t) (check-at t) check.Post
 check-same-length-2 t c =
     c .before .before .before .before .before .before .before .before .find .kept .0
 
--- src/lib.rt:258:1
 check-returns-2 : (t : ℕ) → check-lts.Need-returns-2 (check-calls t) (check-at t) check.Post
 check-returns-2 t c =
     check-found (c .before .before .before .before .before .before .before .before .before .before .before .pre .1) (c .before .before .before .before .before .before .before .before .find .ensures) (c .before .before .before .before .found .given .1) (c .before .subtype .ensures) (c .if1 .taken)
 
--- src/lib.rt:258:1
 check-same-length-3 : (t : ℕ) → check-lts.Need-same-length-3 (check-calls t) (check-at t) check.Post
 check-same-length-3 t c =
     c .before .before .before .before .before .before .before .before .find .kept .0
 
--- src/lib.rt:258:1
 check-returns-3 : (t : ℕ) → check-lts.Need-returns-3 (check-calls t) (check-at t) check.Post
 check-returns-3 t c =
     check-mismatch (c .before .before .before .before .before .before .before .before .before .before .before .pre .1) (c .before .before .before .before .before .before .before .before .find .ensures) (c .before .before .before .before .found .given .1) (c .before .subtype .ensures) (c .if1 .left)
 
--- src/lib.rt:242:9
 find-read-cell-requires : (t : ℕ) → find-lts.Need-read-cell-requires (find-calls t) (find-at t) find.Post
 find-read-cell-requires t c κs =
     omega (arith, c .before .before .pre .1)
 
--- src/lib.rt:245:15
 find-find-var-requires : (t : ℕ) → find-lts.Need-find-var-requires (find-calls t) (find-at t) find.Post
 find-find-var-requires t c κs =
     at-kind (c .before .before .before .before .before .pre .1) (c .before .before .read-cell .ensures) (c .before .match .keys1)
 
--- src/lib.rt:246:15
 find-find-lit-requires : (t : ℕ) → find-lts.Need-find-lit-requires (find-calls t) (find-at t) find.Post
 find-find-lit-requires t c κs =
     at-kind (c .before .before .before .before .before .pre .1) (c .before .before .read-cell .ensures) (c .before .match .keys2)
 
--- src/lib.rt:247:15
 find-find-unit-requires : (t : ℕ) → find-lts.Need-find-unit-requires (find-calls t) (find-at t) find.Post
 find-find-unit-requires t c κs =
     at-kind (c .before .before .before .before .before .pre .1) (c .before .before .read-cell .ensures) (c .before .match .keys3)
 
--- src/lib.rt:248:15
 find-find-anno-requires : (t : ℕ) → find-lts.Need-find-anno-requires (find-calls t) (find-at t) find.Post
 find-find-anno-requires t c κs =
     (omega (arith, c .before .before .before .before .before .pre .0), at-kind (c .before .before .before .before .before .pre .1) (c .before .before .read-cell .ensures) (c .before .match .keys4))
 
--- src/lib.rt:249:20
 find-find-two-requires : (t : ℕ) → find-lts.Need-find-two-requires (find-calls t) (find-at t) find.Post
 find-find-two-requires t c κs =
     (omega (arith, c .before .before .before .before .before .pre .0), at-two (c .before .before .before .before .before .pre .1) (c .before .before .read-cell .ensures) (c .before .match .keys5))
 
--- src/lib.rt:250:15
 find-find-lam-requires : (t : ℕ) → find-lts.Need-find-lam-requires (find-calls t) (find-at t) find.Post
 find-find-lam-requires t c κs =
     (omega (arith, c .before .before .before .before .before .pre .0), at-kind (c .before .before .before .before .before .pre .1) (c .before .before .read-cell .ensures) (c .before .match .keys6))
 
--- src/lib.rt:251:15
 find-find-fix-requires : (t : ℕ) → find-lts.Need-find-fix-requires (find-calls t) (find-at t) find.Post
 find-find-fix-requires t c κs =
     (omega (arith, c .before .before .before .before .before .pre .0), at-kind (c .before .before .before .before .before .pre .1) (c .before .before .read-cell .ensures) (c .before .match .keys7))
 
--- src/lib.rt:252:15
 find-find-rcd-requires : (t : ℕ) → find-lts.Need-find-rcd-requires (find-calls t) (find-at t) find.Post
 find-find-rcd-requires t c κs =
     (omega (arith, c .before .before .before .before .before .pre .0), at-kind (c .before .before .before .before .before .pre .1) (c .before .before .read-cell .ensures) (c .before .match .keys8))
 
--- src/lib.rt:253:14
 find-find-proj-requires : (t : ℕ) → find-lts.Need-find-proj-requires (find-calls t) (find-at t) find.Post
 find-find-proj-requires t c κs =
     (omega (arith, c .before .before .before .before .before .pre .0), at-last (c .before .before .before .before .before .pre .1) (c .before .before .read-cell .ensures) (c .before .match .rest))
 
--- src/lib.rt:238:1
 find-same-length : (t : ℕ) → find-lts.Need-same-length (find-calls t) (find-at t) find.Post
 find-same-length t c =
     c .before .before .find-var .kept .0
 
--- src/lib.rt:238:1
 find-returns : (t : ℕ) → find-lts.Need-returns (find-calls t) (find-at t) find.Post
 find-returns t c =
     c .before .before .find-var .ensures
 
--- src/lib.rt:238:1
 find-same-length-2 : (t : ℕ) → find-lts.Need-same-length-2 (find-calls t) (find-at t) find.Post
 find-same-length-2 t c =
     c .before .before .find-lit .kept .0
 
--- src/lib.rt:238:1
 find-returns-2 : (t : ℕ) → find-lts.Need-returns-2 (find-calls t) (find-at t) find.Post
 find-returns-2 t c =
     c .before .before .find-lit .ensures
 
--- src/lib.rt:238:1
 find-same-length-3 : (t : ℕ) → find-lts.Need-same-length-3 (find-calls t) (find-at t) find.Post
 find-same-length-3 t c =
     c .before .before .find-unit .kept .0
 
--- src/lib.rt:238:1
 find-returns-3 : (t : ℕ) → find-lts.Need-returns-3 (find-calls t) (find-at t) find.Post
 find-returns-3 t c =
     c .before .before .find-unit .ensures
 
--- src/lib.rt:238:1
 find-same-length-4 : (t : ℕ) → find-lts.Need-same-length-4 (find-calls t) (find-at t) find.Post
 find-same-length-4 t c =
     c .before .before .find-anno .kept .0
 
--- src/lib.rt:238:1
 find-returns-4 : (t : ℕ) → find-lts.Need-returns-4 (find-calls t) (find-at t) find.Post
 find-returns-4 t c =
     c .before .before .find-anno .ensures
 
--- src/lib.rt:238:1
 find-same-length-5 : (t : ℕ) → find-lts.Need-same-length-5 (find-calls t) (find-at t) find.Post
 find-same-length-5 t c =
     c .before .before .find-two .kept .0
 
--- src/lib.rt:238:1
 find-returns-5 : (t : ℕ) → find-lts.Need-returns-5 (find-calls t) (find-at t) find.Post
 find-returns-5 t c =
     c .before .before .find-two .ensures
 
--- src/lib.rt:238:1
 find-same-length-6 : (t : ℕ) → find-lts.Need-same-length-6 (find-calls t) (find-at t) find.Post
 find-same-length-6 t c =
     c .before .before .find-lam .kept .0
 
--- src/lib.rt:238:1
 find-returns-6 : (t : ℕ) → find-lts.Need-returns-6 (find-calls t) (find-at t) find.Post
 find-returns-6 t c =
     c .before .before .find-lam .ensures
 
--- src/lib.rt:238:1
 find-same-length-7 : (t : ℕ) → find-lts.Need-same-length-7 (find-calls t) (find-at t) find.Post
 find-same-length-7 t c =
     c .before .before .find-fix .kept .0
 
--- src/lib.rt:238:1
 find-returns-7 : (t : ℕ) → find-lts.Need-returns-7 (find-calls t) (find-at t) find.Post
 find-returns-7 t c =
     c .before .before .find-fix .ensures
 
--- src/lib.rt:238:1
 find-same-length-8 : (t : ℕ) → find-lts.Need-same-length-8 (find-calls t) (find-at t) find.Post
 find-same-length-8 t c =
     c .before .before .find-rcd .kept .0
 
--- src/lib.rt:238:1
 find-returns-8 : (t : ℕ) → find-lts.Need-returns-8 (find-calls t) (find-at t) find.Post
 find-returns-8 t c =
     c .before .before .find-rcd .ensures
 
--- src/lib.rt:238:1
 find-same-length-9 : (t : ℕ) → find-lts.Need-same-length-9 (find-calls t) (find-at t) find.Post
 find-same-length-9 t c =
     c .before .before .find-proj .kept .0
 
--- src/lib.rt:238:1
 find-returns-9 : (t : ℕ) → find-lts.Need-returns-9 (find-calls t) (find-at t) find.Post
 find-returns-9 t c =
     c .before .before .find-proj .ensures
 
--- src/lib.rt:87:9
 find-anno-read-cell-requires : (t : ℕ) → find-anno-lts.Need-read-cell-requires (find-anno-calls t) (find-anno-at t) find-anno.Post
 find-anno-read-cell-requires t c κs =
     omega (arith, c .before .before .pre .1 .ready)
 
--- src/lib.rt:88:5
 find-anno-check-requires : (t : ℕ) → find-anno-lts.Need-check-requires (find-anno-calls t) (find-anno-at t) find-anno.Post
 find-anno-check-requires t c κs =
     let v = anno-asks (c .before .before .before .before .pre .1) (c .before .read-cell .ensures) in
     (omega (arith, v .0, c .before .before .before .before .pre .0), v .1)
 
--- src/lib.rt:83:1
 find-anno-same-length : (t : ℕ) → find-anno-lts.Need-same-length (find-anno-calls t) (find-anno-at t) find-anno.Post
 find-anno-same-length t c =
     c .before .before .check .kept .0
 
--- src/lib.rt:83:1
 find-anno-returns : (t : ℕ) → find-anno-lts.Need-returns (find-anno-calls t) (find-anno-at t) find-anno.Post
 find-anno-returns t c =
     anno-finds (c .before .before .before .before .before .before .before .pre .1) (c .before .before .before .before .read-cell .ensures) (c .before .before .check .ensures)
 
--- src/lib.rt:96:9
 find-app-read-cell-requires : (t : ℕ) → find-app-lts.Need-read-cell-requires (find-app-calls t) (find-app-at t) find-app.Post
 find-app-read-cell-requires t c κs =
     omega (arith, c .before .before .pre .1 .ready)
 
--- src/lib.rt:97:9
 find-app-find-left-requires : (t : ℕ) → find-app-lts.Need-find-left-requires (find-app-calls t) (find-app-at t) find-app.Post
 find-app-find-left-requires t c κs =
     let v = left-asks app-begins (c .before .before .before .before .pre .1) (c .before .read-cell .ensures) in
     (omega (arith, v .0, c .before .before .before .before .pre .0), v .1)
 
--- src/lib.rt:98:22
 find-app-enum-known-left : (t : ℕ) → find-app-lts.Need-enum-known-left (find-app-calls t) (find-app-at t) find-app.Post
 find-app-enum-known-left t c =
     search needs
 
--- src/lib.rt:99:9
 find-app-enum-told : (t : ℕ) → find-app-lts.Need-enum-told (find-app-calls t) (find-app-at t) find-app.Post
 find-app-enum-told t c =
     search needs
 
--- src/lib.rt:99:9
 find-app-same-length : (t : ℕ) → find-app-lts.Need-same-length (find-app-calls t) (find-app-at t) find-app.Post
 find-app-same-length t c =
     c .before .before .before .before .find-left .kept .0
 
--- src/lib.rt:99:9
 find-app-returns : (t : ℕ) → find-app-lts.Need-returns (find-app-calls t) (find-app-at t) find-app.Post
 find-app-returns t c =
     left-refused app-begins (c .before .before .before .before .before .before .before .before .before .pre .1) (c .before .before .before .before .before .before .read-cell .ensures) (c .before .before .before .before .find-left .ensures) (c .enum-told .given .1)
 
--- src/lib.rt:101:9
 find-app-read-cell-requires-2 : (t : ℕ) → find-app-lts.Need-read-cell-requires-2 (find-app-calls t) (find-app-at t) find-app.Post
 find-app-read-cell-requires-2 t c κs =
     left-within app-begins (c .before .before .before .before .before .before .before .before .before .before .before .pre .1) (c .before .before .before .before .before .before .before .before .read-cell .ensures) (c .before .before .before .before .before .before .find-left .ensures) (c .before .before .left .given .1)
 
--- src/lib.rt:103:9
 find-app-check-requires : (t : ℕ) → find-app-lts.Need-check-requires (find-app-calls t) (find-app-at t) find-app.Post
 find-app-check-requires t c κs =
     let v = app-top-right (c .before .before .before .before .before .before .before .before .before .before .before .before .before .before .before .pre .1) (c .before .before .before .before .before .before .before .before .before .before .before .before .read-cell .ensures) (c .before .before .before .before .before .before .before .before .before .before .find-left .ensures) (c .before .before .before .before .before .before .left .given .1) in
     (omega (arith, v .0, c .before .before .before .before .before .before .before .before .before .before .before .before .before .before .before .pre .0), v .1)
 
--- src/lib.rt:103:9
 find-app-same-length-2 : (t : ℕ) → find-app-lts.Need-same-length-2 (find-app-calls t) (find-app-at t) find-app.Post
 find-app-same-length-2 t c =
     c .before .before .check .kept .0 ∙ c .before .before .before .before .before .before .before .before .before .before .before .before .before .find-left .kept .0
 
--- src/lib.rt:103:9
 find-app-returns-2 : (t : ℕ) → find-app-lts.Need-returns-2 (find-app-calls t) (find-app-at t) find-app.Post
 find-app-returns-2 t c =
     app-top (c .before .before .before .before .before .before .before .before .before .before .before .before .before .before .before .before .before .before .pre .1) (c .before .before .before .before .before .before .before .before .before .before .before .before .before .before .before .read-cell .ensures) (c .before .before .before .before .before .before .before .before .before .before .before .before .before .find-left .ensures) (c .before .before .before .before .before .before .before .before .before .left .given .1) (c .before .before .before .before .before .before .read-cell2 .ensures) (c .before .before .before .before .if1 .taken) (c .before .before .check .ensures)
 
--- src/lib.rt:106:9
 find-app-same-length-3 : (t : ℕ) → find-app-lts.Need-same-length-3 (find-app-calls t) (find-app-at t) find-app.Post
 find-app-same-length-3 t c =
     c .before .before .before .before .before .before .before .before .before .before .before .find-left .kept .0
 
--- src/lib.rt:106:9
 find-app-returns-3 : (t : ℕ) → find-app-lts.Need-returns-3 (find-app-calls t) (find-app-at t) find-app.Post
 find-app-returns-3 t c =
     app-else (c .before .before .before .before .before .before .before .before .before .before .before .before .before .before .before .before .pre .1) (c .before .before .before .before .before .before .before .before .before .before .before .before .before .read-cell .ensures) (c .before .before .before .before .before .before .before .before .before .before .before .find-left .ensures) (c .before .before .before .before .before .before .before .left .given .1) (c .before .before .before .before .read-cell2 .ensures) (c .before .before .if1 .left) (c .if2 .taken)
 
--- src/lib.rt:108:9
 find-app-check-requires-2 : (t : ℕ) → find-app-lts.Need-check-requires-2 (find-app-calls t) (find-app-at t) find-app.Post
 find-app-check-requires-2 t c κs =
     let v = app-right (c .before .before .before .before .before .before .before .before .before .before .before .before .before .before .before .before .before .pre .1) (c .before .before .before .before .before .before .before .before .before .before .before .before .before .before .read-cell .ensures) (c .before .before .before .before .before .before .before .before .before .before .before .before .find-left .ensures) (c .before .before .before .before .before .before .before .before .left .given .1) (c .before .before .before .before .before .read-cell2 .ensures) (c .before .if2 .left) in
     (omega (arith, v .0, c .before .before .before .before .before .before .before .before .before .before .before .before .before .before .before .before .before .pre .0), v .1)
 
--- src/lib.rt:109:25
 find-app-enum-known-right : (t : ℕ) → find-app-lts.Need-enum-known-right (find-app-calls t) (find-app-at t) find-app.Post
 find-app-enum-known-right t c =
     search needs
 
--- src/lib.rt:110:9
 find-app-enum-told-2 : (t : ℕ) → find-app-lts.Need-enum-told-2 (find-app-calls t) (find-app-at t) find-app.Post
 find-app-enum-told-2 t c =
     search needs
 
--- src/lib.rt:110:9
 find-app-same-length-4 : (t : ℕ) → find-app-lts.Need-same-length-4 (find-app-calls t) (find-app-at t) find-app.Post
 find-app-same-length-4 t c =
     c .before .before .before .before .check2 .kept .0 ∙ c .before .before .before .before .before .before .before .before .before .before .before .before .before .before .before .before .before .find-left .kept .0
 
--- src/lib.rt:110:9
 find-app-returns-4 : (t : ℕ) → find-app-lts.Need-returns-4 (find-app-calls t) (find-app-at t) find-app.Post
 find-app-returns-4 t c =
     app-right-refused (c .before .before .before .before .before .before .before .before .before .before .before .before .before .before .before .before .before .before .before .before .before .before .pre .1) (c .before .before .before .before .before .before .before .before .before .before .before .before .before .before .before .before .before .before .before .read-cell .ensures) (c .before .before .before .before .before .before .before .before .before .before .before .before .before .before .before .before .before .find-left .ensures) (c .before .before .before .before .before .before .before .before .before .before .before .before .before .left .given .1) (c .before .before .before .before .before .before .before .before .before .before .read-cell2 .ensures) (c .before .before .before .before .before .before .if2 .left) (c .before .before .before .before .check2 .ensures) (c .enum-told2 .given .1)
 
--- src/lib.rt:92:1
 find-app-same-length-5 : (t : ℕ) → find-app-lts.Need-same-length-5 (find-app-calls t) (find-app-at t) find-app.Post
 find-app-same-length-5 t c =
     c .before .before .before .before .before .check2 .kept .0 ∙ c .before .before .before .before .before .before .before .before .before .before .before .before .before .before .before .before .before .before .find-left .kept .0
 
--- src/lib.rt:92:1
 find-app-returns-5 : (t : ℕ) → find-app-lts.Need-returns-5 (find-app-calls t) (find-app-at t) find-app.Post
 find-app-returns-5 t c =
     app-found (c .before .before .before .before .before .before .before .before .before .before .before .before .before .before .before .before .before .before .before .before .before .before .before .pre .1) (c .before .before .before .before .before .before .before .before .before .before .before .before .before .before .before .before .before .before .before .before .read-cell .ensures) (c .before .before .before .before .before .before .before .before .before .before .before .before .before .before .before .before .before .before .find-left .ensures) (c .before .before .before .before .before .before .before .before .before .before .before .before .before .before .left .given .1) (c .before .before .before .before .before .before .before .before .before .before .before .read-cell2 .ensures) (c .before .before .before .before .before .before .before .if2 .left) (c .before .before .before .before .before .check2 .ensures) (c .before .right .given .1)
 
--- src/lib.rt:171:9
 find-fix-read-cell-requires : (t : ℕ) → find-fix-lts.Need-read-cell-requires (find-fix-calls t) (find-fix-at t) find-fix.Post
 find-fix-read-cell-requires t c κs =
     omega (arith, c .before .before .pre .1 .ready)
 
--- src/lib.rt:172:9
 find-fix-bind-requires : (t : ℕ) → find-fix-lts.Need-bind-requires (find-fix-calls t) (find-fix-at t) find-fix.Post
 find-fix-bind-requires t c κs =
     fix-binds (c .before .before .before .before .pre .1) (c .before .read-cell .ensures)
 
--- src/lib.rt:173:5
 find-fix-check-requires : (t : ℕ) → find-fix-lts.Need-check-requires (find-fix-calls t) (find-fix-at t) find-fix.Post
 find-fix-check-requires t c κs =
     let v = fix-asks (c .before .before .before .before .before .before .before .before .pre .1) (c .before .before .before .before .before .read-cell .ensures) (c .before .before .before .bind .ensures) in
     (omega (arith, v .0, c .before .before .before .before .before .before .before .before .pre .0), v .1)
 
--- src/lib.rt:167:1
 find-fix-same-length : (t : ℕ) → find-fix-lts.Need-same-length (find-fix-calls t) (find-fix-at t) find-fix.Post
 find-fix-same-length t c =
     c .before .before .check .kept .0 ∙ c .before .before .before .before .before .before .bind .kept .0
 
--- src/lib.rt:167:1
 find-fix-returns : (t : ℕ) → find-fix-lts.Need-returns (find-fix-calls t) (find-fix-at t) find-fix.Post
 find-fix-returns t c =
     fix-finds (c .before .before .before .before .before .before .before .before .before .before .before .pre .1) (c .before .before .before .before .before .before .before .before .read-cell .ensures) (c .before .before .before .before .before .before .bind .ensures) (c .before .before .check .ensures)
 
--- src/lib.rt:127:9
 find-lam-read-cell-requires : (t : ℕ) → find-lam-lts.Need-read-cell-requires (find-lam-calls t) (find-lam-at t) find-lam.Post
 find-lam-read-cell-requires t c κs =
     omega (arith, c .before .before .pre .1 .ready)
 
--- src/lib.rt:128:9
 find-lam-bind-requires : (t : ℕ) → find-lam-lts.Need-bind-requires (find-lam-calls t) (find-lam-at t) find-lam.Post
 find-lam-bind-requires t c κs =
     lam-binds (c .before .before .before .before .pre .1) (c .before .read-cell .ensures)
 
--- src/lib.rt:129:9
 find-lam-check-requires : (t : ℕ) → find-lam-lts.Need-check-requires (find-lam-calls t) (find-lam-at t) find-lam.Post
 find-lam-check-requires t c κs =
     let v = lam-asks (c .before .before .before .before .before .before .before .before .pre .1) (c .before .before .before .before .before .read-cell .ensures) (c .before .before .before .bind .ensures) in
     (omega (arith, v .0, c .before .before .before .before .before .before .before .before .pre .0), v .1)
 
--- src/lib.rt:130:25
 find-lam-enum-known-body : (t : ℕ) → find-lam-lts.Need-enum-known-body (find-lam-calls t) (find-lam-at t) find-lam.Post
 find-lam-enum-known-body t c =
     search needs
 
--- src/lib.rt:131:9
 find-lam-enum-told : (t : ℕ) → find-lam-lts.Need-enum-told (find-lam-calls t) (find-lam-at t) find-lam.Post
 find-lam-enum-told t c =
     search needs
 
--- src/lib.rt:131:9
 find-lam-same-length : (t : ℕ) → find-lam-lts.Need-same-length (find-lam-calls t) (find-lam-at t) find-lam.Post
 find-lam-same-length t c =
     c .before .before .before .before .check .kept .0 ∙ c .before .before .before .before .before .before .before .before .bind .kept .0
 
--- src/lib.rt:131:9
 find-lam-returns : (t : ℕ) → find-lam-lts.Need-returns (find-lam-calls t) (find-lam-at t) find-lam.Post
 find-lam-returns t c =
     lam-refused (c .before .before .before .before .before .before .before .before .before .before .before .before .before .pre .1) (c .before .before .before .before .before .before .before .before .before .before .read-cell .ensures) (c .before .before .before .before .before .before .before .before .bind .ensures) (c .before .before .before .before .check .ensures) (c .enum-told .given .1)
 
--- src/lib.rt:133:9
 find-lam-read-cell-requires-2 : (t : ℕ) → find-lam-lts.Need-read-cell-requires-2 (find-lam-calls t) (find-lam-at t) find-lam.Post
 find-lam-read-cell-requires-2 t c κs =
     lam-within (c .before .before .before .before .before .before .before .before .before .before .before .before .before .before .before .pre .1) (c .before .before .before .before .before .before .before .before .before .before .before .before .read-cell .ensures) (c .before .before .before .before .before .before .before .before .before .before .bind .ensures) (c .before .before .before .before .before .before .check .ensures) (c .before .before .body .given .1)
 
--- src/lib.rt:134:21
 find-lam-add-requires : (t : ℕ) → find-lam-lts.Need-add-requires (find-lam-calls t) (find-lam-at t) find-lam.Post
 find-lam-add-requires t c κs =
     lam-room (c .before .before .before .before .before .before .before .before .before .before .before .before .before .before .before .before .before .pre .1) (c .before .before .before .before .before .before .before .before .before .before .before .before .before .before .read-cell .ensures) (c .before .before .before .before .before .before .before .before .before .before .before .before .bind .ensures) (c .before .before .before .before .before .before .before .before .check .ensures) (c .before .before .before .before .body .given .1) (c .before .read-cell2 .ensures)
 
--- src/lib.rt:123:1
 find-lam-same-length-2 : (t : ℕ) → find-lam-lts.Need-same-length-2 (find-lam-calls t) (find-lam-at t) find-lam.Post
 find-lam-same-length-2 t c =
     c .before .before .add .kept .0 ∙ c .before .before .before .before .before .before .before .before .before .before .before .check .kept .0 ∙ c .before .before .before .before .before .before .before .before .before .before .before .before .before .before .before .bind .kept .0
 
--- src/lib.rt:123:1
 find-lam-returns-2 : (t : ℕ) → find-lam-lts.Need-returns-2 (find-lam-calls t) (find-lam-at t) find-lam.Post
 find-lam-returns-2 t c =
     lam-found (c .before .before .before .before .before .before .before .before .before .before .before .before .before .before .before .before .before .before .before .before .pre .1) (c .before .before .before .before .before .before .before .before .before .before .before .before .before .before .before .before .before .read-cell .ensures) (c .before .before .before .before .before .before .before .before .before .before .before .before .before .before .before .bind .ensures) (c .before .before .before .before .before .before .before .before .before .before .before .check .ensures) (c .before .before .before .before .before .before .before .body .given .1) (c .before .before .before .before .read-cell2 .ensures) (c .before .before .add .ensures)
 
--- src/lib.rt:228:9
 find-left-read-cell-requires : (t : ℕ) → find-left-lts.Need-read-cell-requires (find-left-calls t) (find-left-at t) find-left.Post
 find-left-read-cell-requires t c κs =
     omega (arith, c .before .before .pre .1)
 
--- src/lib.rt:230:9
 find-left-find-app-requires : (t : ℕ) → find-left-lts.Need-find-app-requires (find-left-calls t) (find-left-at t) find-left.Post
 find-left-find-app-requires t c κs =
     (omega (arith, c .before .before .before .before .before .before .pre .0), at-kind (c .before .before .before .before .before .before .pre .1) (c .before .before .before .read-cell .ensures) (c .before .if1 .taken))
 
--- src/lib.rt:230:9
 find-left-same-length : (t : ℕ) → find-left-lts.Need-same-length (find-left-calls t) (find-left-at t) find-left.Post
 find-left-same-length t c =
     c .before .before .find-app .kept .0
 
--- src/lib.rt:230:9
 find-left-returns : (t : ℕ) → find-left-lts.Need-returns (find-left-calls t) (find-left-at t) find-left.Post
 find-left-returns t c =
     c .before .before .find-app .ensures
 
--- src/lib.rt:233:9
 find-left-find-merge-requires : (t : ℕ) → find-left-lts.Need-find-merge-requires (find-left-calls t) (find-left-at t) find-left.Post
 find-left-find-merge-requires t c κs =
     (omega (arith, c .before .before .before .before .before .before .before .before .pre .0), at-kind (c .before .before .before .before .before .before .before .before .pre .1) (c .before .before .before .before .before .read-cell .ensures) (c .before .if2 .taken))
 
--- src/lib.rt:233:9
 find-left-same-length-2 : (t : ℕ) → find-left-lts.Need-same-length-2 (find-left-calls t) (find-left-at t) find-left.Post
 find-left-same-length-2 t c =
     c .before .before .find-merge .kept .0
 
--- src/lib.rt:233:9
 find-left-returns-2 : (t : ℕ) → find-left-lts.Need-returns-2 (find-left-calls t) (find-left-at t) find-left.Post
 find-left-returns-2 t c =
     c .before .before .find-merge .ensures
 
--- src/lib.rt:235:5
 find-left-find-requires : (t : ℕ) → find-left-lts.Need-find-requires (find-left-calls t) (find-left-at t) find-left.Post
 find-left-find-requires t c κs =
     (omega (arith, c .before .before .before .before .before .before .before .before .pre .0), c .before .before .before .before .before .before .before .before .pre .1)
 
--- src/lib.rt:224:1
 find-left-same-length-3 : (t : ℕ) → find-left-lts.Need-same-length-3 (find-left-calls t) (find-left-at t) find-left.Post
 find-left-same-length-3 t c =
     c .before .before .find .kept .0
 
--- src/lib.rt:224:1
 find-left-returns-3 : (t : ℕ) → find-left-lts.Need-returns-3 (find-left-calls t) (find-left-at t) find-left.Post
 find-left-returns-3 t c =
     c .before .before .find .ensures
 
--- src/lib.rt:151:9
 find-merge-read-cell-requires : (t : ℕ) → find-merge-lts.Need-read-cell-requires (find-merge-calls t) (find-merge-at t) find-merge.Post
 find-merge-read-cell-requires t c κs =
     omega (arith, c .before .before .pre .1 .ready)
 
--- src/lib.rt:152:9
 find-merge-find-left-requires : (t : ℕ) → find-merge-lts.Need-find-left-requires (find-merge-calls t) (find-merge-at t) find-merge.Post
 find-merge-find-left-requires t c κs =
     let v = left-asks merge-begins (c .before .before .before .before .pre .1) (c .before .read-cell .ensures) in
     (omega (arith, v .0, c .before .before .before .before .pre .0), v .1)
 
--- src/lib.rt:153:22
 find-merge-enum-known-left : (t : ℕ) → find-merge-lts.Need-enum-known-left (find-merge-calls t) (find-merge-at t) find-merge.Post
 find-merge-enum-known-left t c =
     search needs
 
--- src/lib.rt:154:9
 find-merge-enum-told : (t : ℕ) → find-merge-lts.Need-enum-told (find-merge-calls t) (find-merge-at t) find-merge.Post
 find-merge-enum-told t c =
     search needs
 
--- src/lib.rt:154:9
 find-merge-same-length : (t : ℕ) → find-merge-lts.Need-same-length (find-merge-calls t) (find-merge-at t) find-merge.Post
 find-merge-same-length t c =
     c .before .before .before .before .find-left .kept .0
 
--- src/lib.rt:154:9
 find-merge-returns : (t : ℕ) → find-merge-lts.Need-returns (find-merge-calls t) (find-merge-at t) find-merge.Post
 find-merge-returns t c =
     left-refused merge-begins (c .before .before .before .before .before .before .before .before .before .pre .1) (c .before .before .before .before .before .before .read-cell .ensures) (c .before .before .before .before .find-left .ensures) (c .enum-told .given .1)
 
--- src/lib.rt:156:9
 find-merge-find-requires : (t : ℕ) → find-merge-lts.Need-find-requires (find-merge-calls t) (find-merge-at t) find-merge.Post
 find-merge-find-requires t c κs =
     let v = right-asks merge-sides (c .before .before .before .before .before .before .before .before .before .before .before .pre .1) (c .before .before .before .before .before .before .before .before .read-cell .ensures) (c .before .before .before .before .before .before .find-left .ensures) (c .before .before .left .given .1) in
     (omega (arith, v .0, c .before .before .before .before .before .before .before .before .before .before .before .pre .0), v .1)
 
--- src/lib.rt:157:22
 find-merge-enum-known-right : (t : ℕ) → find-merge-lts.Need-enum-known-right (find-merge-calls t) (find-merge-at t) find-merge.Post
 find-merge-enum-known-right t c =
     search needs
 
--- src/lib.rt:158:9
 find-merge-enum-told-2 : (t : ℕ) → find-merge-lts.Need-enum-told-2 (find-merge-calls t) (find-merge-at t) find-merge.Post
 find-merge-enum-told-2 t c =
     search needs
 
--- src/lib.rt:158:9
 find-merge-same-length-2 : (t : ℕ) → find-merge-lts.Need-same-length-2 (find-merge-calls t) (find-merge-at t) find-merge.Post
 find-merge-same-length-2 t c =
     c .before .before .before .before .find .kept .0 ∙ c .before .before .before .before .before .before .before .before .before .before .before .find-left .kept .0
 
--- src/lib.rt:158:9
 find-merge-returns-2 : (t : ℕ) → find-merge-lts.Need-returns-2 (find-merge-calls t) (find-merge-at t) find-merge.Post
 find-merge-returns-2 t c =
     merge-right-refused (c .before .before .before .before .before .before .before .before .before .before .before .before .before .before .before .before .pre .1) (c .before .before .before .before .before .before .before .before .before .before .before .before .before .read-cell .ensures) (c .before .before .before .before .before .before .before .before .before .before .before .find-left .ensures) (c .before .before .before .before .before .before .before .left .given .1) (c .before .before .before .before .find .ensures) (c .enum-told2 .given .1)
 
--- src/lib.rt:160:8
 find-merge-mergeable-requires : (t : ℕ) → find-merge-lts.Need-mergeable-requires (find-merge-calls t) (find-merge-at t) find-merge.Post
 find-merge-mergeable-requires t c κs =
     merge-asks (c .before .before .before .before .before .before .before .before .before .before .before .before .before .before .before .before .before .before .pre .1) (c .before .before .before .before .before .before .before .before .before .before .before .before .before .before .before .read-cell .ensures) (c .before .before .before .before .before .before .before .before .before .before .before .before .before .find-left .ensures) (c .before .before .before .before .before .before .before .before .before .left .given .1) (c .before .before .before .before .before .before .find .ensures) (c .before .before .right .given .1)
 
--- src/lib.rt:161:9
 find-merge-add-inter-requires : (t : ℕ) → find-merge-lts.Need-add-inter-requires (find-merge-calls t) (find-merge-at t) find-merge.Post
 find-merge-add-inter-requires t c κs =
     merge-adds (c .before .before .before .before .before .before .before .before .before .before .before .before .before .before .before .before .before .before .before .before .before .pre .1) (c .before .before .before .before .before .before .before .before .before .before .before .before .before .before .before .before .before .before .read-cell .ensures) (c .before .before .before .before .before .before .before .before .before .before .before .before .before .before .before .before .find-left .ensures) (c .before .before .before .before .before .before .before .before .before .before .before .before .left .given .1) (c .before .before .before .before .before .before .before .before .before .find .ensures) (c .before .before .before .before .before .right .given .1)
 
--- src/lib.rt:147:1
 find-merge-same-length-3 : (t : ℕ) → find-merge-lts.Need-same-length-3 (find-merge-calls t) (find-merge-at t) find-merge.Post
 find-merge-same-length-3 t c =
     c .before .before .add-inter .kept .0 ∙ c .before .before .before .before .before .before .before .before .before .before .before .before .find .kept .0 ∙ c .before .before .before .before .before .before .before .before .before .before .before .before .before .before .before .before .before .before .before .find-left .kept .0
 
--- src/lib.rt:147:1
 find-merge-returns-3 : (t : ℕ) → find-merge-lts.Need-returns-3 (find-merge-calls t) (find-merge-at t) find-merge.Post
 find-merge-returns-3 t c =
     merge-found (c .before .before .before .before .before .before .before .before .before .before .before .before .before .before .before .before .before .before .before .before .before .before .before .before .pre .1) (c .before .before .before .before .before .before .before .before .before .before .before .before .before .before .before .before .before .before .before .before .before .read-cell .ensures) (c .before .before .before .before .before .before .before .before .before .before .before .before .before .before .before .before .before .before .before .find-left .ensures) (c .before .before .before .before .before .before .before .before .before .before .before .before .before .before .before .left .given .1) (c .before .before .before .before .before .before .before .before .before .before .before .before .find .ensures) (c .before .before .before .before .before .before .before .before .right .given .1) (c .before .before .before .before .before .mergeable .ensures) (c .before .before .before .before .if1 .taken) (c .before .before .add-inter .ensures)
 
--- src/lib.rt:147:1
 find-merge-same-length-4 : (t : ℕ) → find-merge-lts.Need-same-length-4 (find-merge-calls t) (find-merge-at t) find-merge.Post
 find-merge-same-length-4 t c =
     c .before .before .before .before .before .before .before .before .find .kept .0 ∙ c .before .before .before .before .before .before .before .before .before .before .before .before .before .before .before .find-left .kept .0
 
--- src/lib.rt:147:1
 find-merge-returns-4 : (t : ℕ) → find-merge-lts.Need-returns-4 (find-merge-calls t) (find-merge-at t) find-merge.Post
 find-merge-returns-4 t c =
     merge-conflict (c .before .before .before .before .before .before .before .before .before .before .before .before .before .before .before .before .before .before .before .before .pre .1) (c .before .before .before .before .before .before .before .before .before .before .before .before .before .before .before .before .before .read-cell .ensures) (c .before .before .before .before .before .before .before .before .before .before .before .before .before .before .before .find-left .ensures) (c .before .before .before .before .before .before .before .before .before .before .before .left .given .1) (c .before .before .before .before .before .before .before .before .find .ensures) (c .before .before .before .before .right .given .1) (c .before .mergeable .ensures) (c .if1 .left)
 
--- src/lib.rt:193:9
 find-proj-read-cell-requires : (t : ℕ) → find-proj-lts.Need-read-cell-requires (find-proj-calls t) (find-proj-at t) find-proj.Post
 find-proj-read-cell-requires t c κs =
     omega (arith, c .before .before .pre .1 .ready)
 
--- src/lib.rt:194:9
 find-proj-find-requires : (t : ℕ) → find-proj-lts.Need-find-requires (find-proj-calls t) (find-proj-at t) find-proj.Post
 find-proj-find-requires t c κs =
     let v = left-asks proj-begins (c .before .before .before .before .pre .1) (c .before .read-cell .ensures) in
     (omega (arith, v .0, c .before .before .before .before .pre .0), v .1)
 
--- src/lib.rt:195:22
 find-proj-enum-known-inside : (t : ℕ) → find-proj-lts.Need-enum-known-inside (find-proj-calls t) (find-proj-at t) find-proj.Post
 find-proj-enum-known-inside t c =
     search needs
 
--- src/lib.rt:196:9
 find-proj-enum-told : (t : ℕ) → find-proj-lts.Need-enum-told (find-proj-calls t) (find-proj-at t) find-proj.Post
 find-proj-enum-told t c =
     search needs
 
--- src/lib.rt:196:9
 find-proj-same-length : (t : ℕ) → find-proj-lts.Need-same-length (find-proj-calls t) (find-proj-at t) find-proj.Post
 find-proj-same-length t c =
     c .before .before .before .before .find .kept .0
 
--- src/lib.rt:196:9
 find-proj-returns : (t : ℕ) → find-proj-lts.Need-returns (find-proj-calls t) (find-proj-at t) find-proj.Post
 find-proj-returns t c =
     left-refused proj-begins (c .before .before .before .before .before .before .before .before .before .pre .1) (c .before .before .before .before .before .before .read-cell .ensures) (c .before .before .before .before .find .ensures) (c .enum-told .given .1)
 
--- src/lib.rt:198:9
 find-proj-read-cell-requires-2 : (t : ℕ) → find-proj-lts.Need-read-cell-requires-2 (find-proj-calls t) (find-proj-at t) find-proj.Post
 find-proj-read-cell-requires-2 t c κs =
     left-within proj-begins (c .before .before .before .before .before .before .before .before .before .before .before .pre .1) (c .before .before .before .before .before .before .before .before .read-cell .ensures) (c .before .before .before .before .before .before .find .ensures) (c .before .before .inside .given .1)
 
--- src/lib.rt:200:9
 find-proj-same-length-2 : (t : ℕ) → find-proj-lts.Need-same-length-2 (find-proj-calls t) (find-proj-at t) find-proj.Post
 find-proj-same-length-2 t c =
     c .before .before .before .before .before .before .before .before .before .find .kept .0
 
--- src/lib.rt:200:9
 find-proj-returns-2 : (t : ℕ) → find-proj-lts.Need-returns-2 (find-proj-calls t) (find-proj-at t) find-proj.Post
 find-proj-returns-2 t c =
     proj-top (c .before .before .before .before .before .before .before .before .before .before .before .before .before .before .pre .1) (c .before .before .before .before .before .before .before .before .before .before .before .read-cell .ensures) (c .before .before .before .before .before .before .before .before .before .find .ensures) (c .before .before .before .before .before .inside .given .1) (c .before .before .read-cell2 .ensures) (c .if1 .taken)
 
--- src/lib.rt:204:13
 find-proj-same-length-3 : (t : ℕ) → find-proj-lts.Need-same-length-3 (find-proj-calls t) (find-proj-at t) find-proj.Post
 find-proj-same-length-3 t c =
     c .before .before .before .before .before .before .before .before .before .before .before .before .before .before .find .kept .0
 
--- src/lib.rt:204:13
 find-proj-returns-3 : (t : ℕ) → find-proj-lts.Need-returns-3 (find-proj-calls t) (find-proj-at t) find-proj.Post
 find-proj-returns-3 t c =
     proj-found (c .before .before .before .before .before .before .before .before .before .before .before .before .before .before .before .before .before .before .before .pre .1) (c .before .before .before .before .before .before .before .before .before .before .before .before .before .before .before .before .read-cell .ensures) (c .before .before .before .before .before .before .before .before .before .before .before .before .before .before .find .ensures) (c .before .before .before .before .before .before .before .before .before .before .inside .given .1) (c .before .before .before .before .before .before .before .read-cell2 .ensures) (c .before .before .before .if2 .taken) (c .if3 .taken)
 
--- src/lib.rt:189:1
 find-proj-same-length-4 : (t : ℕ) → find-proj-lts.Need-same-length-4 (find-proj-calls t) (find-proj-at t) find-proj.Post
 find-proj-same-length-4 t c =
     c .before .before .before .before .before .before .before .before .before .before .before .before .before .before .find .kept .0
 
--- src/lib.rt:189:1
 find-proj-returns-4 : (t : ℕ) → find-proj-lts.Need-returns-4 (find-proj-calls t) (find-proj-at t) find-proj.Post
 find-proj-returns-4 t c =
     proj-other (c .before .before .before .before .before .before .before .before .before .before .before .before .before .before .before .before .before .before .before .pre .1) (c .before .before .before .before .before .before .before .before .before .before .before .before .before .before .before .before .read-cell .ensures) (c .before .before .before .before .before .before .before .before .before .before .before .before .before .before .find .ensures) (c .before .before .before .before .before .before .before .before .before .before .inside .given .1) (c .before .before .before .before .before .before .before .read-cell2 .ensures) (c .before .before .before .if2 .taken) (c .if3 .left)
 
--- src/lib.rt:189:1
 find-proj-same-length-5 : (t : ℕ) → find-proj-lts.Need-same-length-5 (find-proj-calls t) (find-proj-at t) find-proj.Post
 find-proj-same-length-5 t c =
     c .before .before .before .before .before .before .before .before .before .before .before .find .kept .0
 
--- src/lib.rt:189:1
 find-proj-returns-5 : (t : ℕ) → find-proj-lts.Need-returns-5 (find-proj-calls t) (find-proj-at t) find-proj.Post
 find-proj-returns-5 t c =
     proj-else (c .before .before .before .before .before .before .before .before .before .before .before .before .before .before .before .before .pre .1) (c .before .before .before .before .before .before .before .before .before .before .before .before .before .read-cell .ensures) (c .before .before .before .before .before .before .before .before .before .before .before .find .ensures) (c .before .before .before .before .before .before .before .inside .given .1) (c .before .before .before .before .read-cell2 .ensures) (c .before .before .if1 .left) (c .if2 .left)
 
--- src/lib.rt:180:9
 find-rcd-read-cell-requires : (t : ℕ) → find-rcd-lts.Need-read-cell-requires (find-rcd-calls t) (find-rcd-at t) find-rcd.Post
 find-rcd-read-cell-requires t c κs =
     omega (arith, c .before .before .pre .1 .ready)
 
--- src/lib.rt:181:9
 find-rcd-find-requires : (t : ℕ) → find-rcd-lts.Need-find-requires (find-rcd-calls t) (find-rcd-at t) find-rcd.Post
 find-rcd-find-requires t c κs =
     let v = left-asks rcd-begins (c .before .before .before .before .pre .1) (c .before .read-cell .ensures) in
     (omega (arith, v .0, c .before .before .before .before .pre .0), v .1)
 
--- src/lib.rt:182:22
 find-rcd-enum-known-inside : (t : ℕ) → find-rcd-lts.Need-enum-known-inside (find-rcd-calls t) (find-rcd-at t) find-rcd.Post
 find-rcd-enum-known-inside t c =
     search needs
 
--- src/lib.rt:183:9
 find-rcd-enum-told : (t : ℕ) → find-rcd-lts.Need-enum-told (find-rcd-calls t) (find-rcd-at t) find-rcd.Post
 find-rcd-enum-told t c =
     search needs
 
--- src/lib.rt:183:9
 find-rcd-same-length : (t : ℕ) → find-rcd-lts.Need-same-length (find-rcd-calls t) (find-rcd-at t) find-rcd.Post
 find-rcd-same-length t c =
     c .before .before .before .before .find .kept .0
 
--- src/lib.rt:183:9
 find-rcd-returns : (t : ℕ) → find-rcd-lts.Need-returns (find-rcd-calls t) (find-rcd-at t) find-rcd.Post
 find-rcd-returns t c =
     left-refused rcd-begins (c .before .before .before .before .before .before .before .before .before .pre .1) (c .before .before .before .before .before .before .read-cell .ensures) (c .before .before .before .before .find .ensures) (c .enum-told .given .1)
 
--- src/lib.rt:185:9
 find-rcd-read-cell-requires-2 : (t : ℕ) → find-rcd-lts.Need-read-cell-requires-2 (find-rcd-calls t) (find-rcd-at t) find-rcd.Post
 find-rcd-read-cell-requires-2 t c κs =
     left-within rcd-begins (c .before .before .before .before .before .before .before .before .before .before .before .pre .1) (c .before .before .before .before .before .before .before .before .read-cell .ensures) (c .before .before .before .before .before .before .find .ensures) (c .before .before .inside .given .1)
 
--- src/lib.rt:186:21
 find-rcd-add-requires : (t : ℕ) → find-rcd-lts.Need-add-requires (find-rcd-calls t) (find-rcd-at t) find-rcd.Post
 find-rcd-add-requires t c κs =
     rcd-room (c .before .before .before .before .before .before .before .before .before .before .before .before .before .pre .1) (c .before .before .before .before .before .before .before .before .before .before .read-cell .ensures) (c .before .before .before .before .before .before .before .before .find .ensures) (c .before .before .before .before .inside .given .1) (c .before .read-cell2 .ensures)
 
--- src/lib.rt:176:1
 find-rcd-same-length-2 : (t : ℕ) → find-rcd-lts.Need-same-length-2 (find-rcd-calls t) (find-rcd-at t) find-rcd.Post
 find-rcd-same-length-2 t c =
     c .before .before .add .kept .0 ∙ c .before .before .before .before .before .before .before .before .before .before .before .find .kept .0
 
--- src/lib.rt:176:1
 find-rcd-returns-2 : (t : ℕ) → find-rcd-lts.Need-returns-2 (find-rcd-calls t) (find-rcd-at t) find-rcd.Post
 find-rcd-returns-2 t c =
     rcd-found (c .before .before .before .before .before .before .before .before .before .before .before .before .before .before .before .before .pre .1) (c .before .before .before .before .before .before .before .before .before .before .before .before .before .read-cell .ensures) (c .before .before .before .before .before .before .before .before .before .before .before .find .ensures) (c .before .before .before .before .before .before .before .inside .given .1) (c .before .before .before .before .read-cell2 .ensures) (c .before .before .add .ensures)
 
--- src/lib.rt:215:9
 find-two-read-cell-requires : (t : ℕ) → find-two-lts.Need-read-cell-requires (find-two-calls t) (find-two-at t) find-two.Post
 find-two-read-cell-requires t c κs =
     omega (arith, c .before .before .pre .1 .ready)
 
--- src/lib.rt:217:9
 find-two-find-app-requires : (t : ℕ) → find-two-lts.Need-find-app-requires (find-two-calls t) (find-two-at t) find-two.Post
 find-two-find-app-requires t c κs =
     (omega (arith, c .before .before .before .before .before .before .pre .0), at-kind (c .before .before .before .before .before .before .pre .1 .ready) (c .before .before .before .read-cell .ensures) (c .before .if1 .taken))
 
--- src/lib.rt:217:9
 find-two-same-length : (t : ℕ) → find-two-lts.Need-same-length (find-two-calls t) (find-two-at t) find-two.Post
 find-two-same-length t c =
     c .before .before .find-app .kept .0
 
--- src/lib.rt:217:9
 find-two-returns : (t : ℕ) → find-two-lts.Need-returns (find-two-calls t) (find-two-at t) find-two.Post
 find-two-returns t c =
     c .before .before .find-app .ensures
 
--- src/lib.rt:219:5
 find-two-find-merge-requires : (t : ℕ) → find-two-lts.Need-find-merge-requires (find-two-calls t) (find-two-at t) find-two.Post
 find-two-find-merge-requires t c κs =
     (omega (arith, c .before .before .before .before .before .before .pre .0), at-second (c .before .before .before .before .before .before .pre .1) (c .before .before .before .read-cell .ensures) (c .before .if1 .left))
 
--- src/lib.rt:211:1
 find-two-same-length-2 : (t : ℕ) → find-two-lts.Need-same-length-2 (find-two-calls t) (find-two-at t) find-two.Post
 find-two-same-length-2 t c =
     c .before .before .find-merge .kept .0
 
--- src/lib.rt:211:1
 find-two-returns-2 : (t : ℕ) → find-two-lts.Need-returns-2 (find-two-calls t) (find-two-at t) find-two.Post
 find-two-returns-2 t c =
     c .before .before .find-merge .ensures

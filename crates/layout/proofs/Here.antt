@@ -1,0 +1,27 @@
+-- A tree laid down in another buffer and copied back lies in its own. Assumes nothing.
+use Prim.Native.Nat.{ℕ, _*_, _≤_}
+use native.Mathlib.Omega.{arith}
+use mathlib.Core.Path.{_≡_, _∙_}
+use mathlib.Core.List.{List}
+use lib.ListN.{length}
+use Rattle.moving.specs.Moves.{CopyReady, Copies}
+use Rattle.format.specs.Book.{sizeLimit}
+use Rattle.layout.specs.Lays.{LiesTree, LayReady, LaysDown, HereReady}
+
+module _ {s w s′ : List ℕ} {u x n : ℕ} (p : HereReady s w u x) (d : LaysDown w s′ u x n) where
+  there : LiesTree s′ n (p .ready .field .tree)
+  there = d .says (p .ready .field .cell) (p .ready .field .tree) (p .ready .field .holds) (p .ready .some) (p .ready .small)
+
+  pub here-small : n ≤ sizeLimit
+  here-small = there .small
+
+  pub here-copy : CopyReady s′ w (8 * n)
+  here-copy = record { from = omega (arith, there .small, there .long); to = omega (arith, there .small, p .long) }
+
+  pub lays-here : {v : List ℕ} → Copies s′ w v (8 * n) → LaysDown w v u x n
+  lays-here c =
+      record {
+        says = λ m t h k l.
+            let y = d .says m t h k l in
+            record { long = omega (arith, c .long, p .long); count = y .count; some = y .some; small = y .small; lies = c .first ∙ y .lies };
+      }

@@ -1,0 +1,338 @@
+-- What a redex became, laid down in the other buffer, comes to its place; or the whole successor has no room. Assumes nothing.
+use Prim.Native.Nat.{ℕ, suc, _+_, _*_, _-_, _≤_, _<_}
+use native.Mathlib.Decide.{decLe}
+use native.Mathlib.Omega.{arith}
+use mathlib.Core.Path.{_≡_, refl, sym, ap, _∙_, subst, subst⁻¹}
+use mathlib.Core.Bool.{true, false}
+use mathlib.Core.Logic.{_⊎_, inl, inr}
+use mathlib.Core.List.{List, [], _++_, append-assoc}
+use mathlib.Core.Option.{some}
+use lib.Dec.{T}
+use lib.ListN.{length, take, drop}
+use lib.Seq.{sets, sets-eq, length-take-le}
+use Rattle.calculus.specs.Syntax.{Ty, Term, var, lit, unit, anno, app, lam, merge, fix, rcd, proj, size}
+use Rattle.calculus.specs.Decide.{value?}
+use Rattle.calculus.specs.Evaluate.{next, cast}
+use Rattle.calculus.specs.Step.{Step, s-anno, s-cast}
+use Rattle.calculus.proofs.Bools.{T-true}
+use Rattle.calculus.proofs.Tests.{value?-says}
+use Rattle.calculus.proofs.TypedReduction.{cast-to}
+use Rattle.calculus.proofs.Soundness.{value-no-step}
+use Rattle.calculus.proofs.Evaluation.{next-sound}
+use Rattle.format.specs.Table.{term-sort, refers, rowOf, rowIn, table}
+use Rattle.format.specs.Cell.{Cell, cellAt}
+use Rattle.format.specs.Tree.{Tree, cells, lay, refer}
+use Rattle.format.specs.Terms.{fromTerm, TermFits}
+use Rattle.format.specs.Book.{sizeLimit}
+use Rattle.format.proofs.Trees.{term-cells}
+use Rattle.format.proofs.Laying.{Part, length-lay, root-last}
+use Rattle.format.proofs.RoundTrip.{term-good}
+use Rattle.cells.specs.Held.{IsCell}
+use Rattle.emission.specs.Emits.{Space, Emits}
+use Rattle.emission.specs.Runs.{Run, RunsTerm, RunsType}
+use Rattle.emission.specs.declared.Laid.{Laid}
+use Rattle.emission.specs.declared.Laid.the-variants as Out
+use Rattle.emission.proofs.Runs.{grows, counts, parts}
+use Rattle.emission.proofs.LaidRuns.{laid-run}
+use Rattle.moving.specs.Moves.{Kept, PlaceReady, Places}
+use Rattle.moving.proofs.Runs.{place-ready}
+use Rattle.moving.proofs.PlacedRuns.{run-placed-term}
+use Rattle.reduction.specs.Steps as Reduction
+use Rattle.running.specs.Waiting.{Waits, around}
+use Rattle.running.specs.Contexts.{Around, whole, AllProper, frames}
+use Rattle.running.specs.Places.{IsAhead, IsDone, IsRedex, RedexParts, of-anno, of-app, of-fix, of-proj, Standing, Runnable, Ready}
+use Rattle.running.specs.Places.{HereBy, h-became, h-elsewhere, ReadsHere, ContractingAnno}
+use Rattle.running.specs.Places.{Becomes, Laid as LaidDown, Installing, Installs, Contracting, Emitting, ContractsTo, c-to, c-full, Contracts}
+use Rattle.running.specs.declared.Place.{Place}
+use Rattle.running.specs.declared.Focus.{Focus}
+use Rattle.running.specs.declared.Focus.the-variants.{Ahead, Done, Redex}
+use Rattle.running.specs.declared.Here.{Here}
+use Rattle.running.specs.declared.Here.the-variants.{Became, Elsewhere}
+use Rattle.running.specs.declared.Contracted.{Contracted}
+use Rattle.running.specs.declared.Contracted.the-variants.{To, Full}
+use Rattle.running.proofs.Contexts.{Inside, next-inside, next-whole}
+use Rattle.running.proofs.Waiting.{kept-waits, waiting, waits-right}
+use Rattle.running.proofs.Going.{ends, at-run}
+use Rattle.running.proofs.Entering.{kindOf, kind-of, Kind, k-anno, term-kind}
+use Rattle.running.proofs.Ranges.{last, redex-range}
+use Rattle.running.proofs.Standing.{goes, focus-fits, successor-fits}
+use Rattle.running.proofs.Projecting.{size-whole, redex-value}
+
+-- ---- installing
+
+anno-low : {s : List ℕ} {x i e : ℕ} {h : Term} → Run false s x (refers term-sort) i (fromTerm h) e → Kind 19 h → cellAt s i .a < e
+unfolding fromTerm table rowIn rowOf
+anno-low r k-anno =
+    let q = parts r refl in
+    omega (arith, ap (λ (c : Cell). c .a) (q .cell .is), ends (q .first), grows (q .second), grows (q .third), q .last)
+
+module _ {s w : List ℕ} {p : Place} {kind m end : ℕ} (i : Installing s w p kind m end) where
+  pub ordered : m ≤ end
+  ordered = omega (arith, grows (i .laid .run))
+
+  -- it ends long before what is to come
+  pub far : p .start + (end - m) + 4097 ≤ suc (p .root)
+  far = omega (arith, i .around, i .small, ordered)
+
+  pub root-low : suc (p .root) ≤ 8192
+  root-low = waits-right (i .laid .waits)
+
+  pub last-some : 1 ≤ end
+  last-some = omega (arith, ends (i .laid .run))
+
+  pub last-within : 8 * (end - 1) + 8 ≤ length s
+  last-within = omega (arith, last-some, i .small, i .long)
+
+  -- what an annotation refers to
+  pub inside-within : (t : Cell) → t ≡ cellAt s (end - 1) → t .kind ≡ 19 → 8 * t .a + 8 ≤ length s
+  inside-within t e k =
+      let l = anno-low (i .laid .run) (term-kind (i .term) (i .laid .run) (sym (ap (λ (c : Cell). c .kind) e) ∙ k)) in
+      omega (arith, l, ap (λ (c : Cell). c .a) e, i .small, i .long)
+
+  cut : {K : List Around} {h : Term} → LaidDown s w p kind m end K h → Run false s m (refers term-sort) (end - 1) (fromTerm h) (m + (end - m))
+  cut b = at-run refl refl (omega (arith, ordered)) (b .run)
+
+  pub place-left : PlaceReady s w m (p .start) (end - m)
+  place-left = place-ready w (p .start) (omega (arith, ordered, i .small, i .long)) (i .buffer) (omega (arith, ordered, i .small)) (omega (arith, far, root-low)) (cut (i .laid))
+
+  pub place-right : PlaceReady s w m (p .root + 1 - (end - m)) (end - m)
+  place-right = place-ready w (p .root + 1 - (end - m)) (omega (arith, ordered, i .small, i .long)) (i .buffer) (omega (arith, ordered, i .small)) (omega (arith, far, root-low)) (cut (i .laid))
+
+  module _ {v : List ℕ} where
+    -- the cells around it are as they were
+    around-kept : (K : List Around) {y : ℕ} → Kept w v y (y + (end - m)) → p .start ≤ y → y + (end - m) ≤ suc (p .root) →
+        Waits w (p .up) (p .start) (suc (p .root)) (frames K) → Waits v (p .up) (p .start) (suc (p .root)) (frames K)
+    around-kept K k a b q =
+        kept-waits
+        (record { long = k .long; below = λ j h. k .below j (omega (arith, h, a)); above = λ j h. k .above j (omega (arith, h, b)) })
+        q
+
+    -- a value is done
+    pub installs-left : kind ≡ 19 → Places s w v m (p .start) (end - m) →
+        Installs s w v p kind m end (Done (record { left = p .start + (end - m); start = p .start; right = p .root + 1; root = p .root; up = p .up }))
+    installs-left k x =
+        record {
+          says = λ K h b.
+              record {
+                long = x .kept .long ∙ i .buffer;
+                around = K;
+                focus = h;
+                is = refl;
+                proper = b .proper;
+                at = record {
+                  value = b .value k;
+                  run = at-run refl (omega (arith, ends (b .run), last (b .run), ordered)) refl (run-placed-term x h (cut b));
+                  waits = subst (λ (n : ℕ). Waits v (p .up) (p .start) n (frames K)) (omega arith) (around-kept K (x .kept) (omega arith) (omega (arith, far)) (b .waits));
+                  apart = omega (arith, far);
+                };
+              };
+        }
+
+    -- all else is to come
+    pub installs-right : Places s w v m (p .root + 1 - (end - m)) (end - m) →
+        Installs s w v p kind m end (Ahead (record { left = p .start; start = p .start; right = p .root + 1 - (end - m); root = p .root; up = p .up }))
+    installs-right x =
+        record {
+          says = λ K h b.
+              record {
+                long = x .kept .long ∙ i .buffer;
+                around = K;
+                focus = h;
+                is = refl;
+                proper = b .proper;
+                at = record {
+                  begins = refl;
+                  run = at-run refl (omega (arith, ends (b .run), last (b .run), ordered, far)) (omega (arith, far)) (run-placed-term x h (cut b));
+                  waits = around-kept K (x .kept) (omega (arith, far)) (omega (arith, far)) (b .waits);
+                  apart = omega (arith, far);
+                };
+              };
+        }
+
+-- ---- contracting
+
+-- bytes that were set are a part
+part-set : (s : List ℕ) {t : List ℕ} (m : ℕ) (x : List ℕ) → 8 * m + length x ≤ length s → t ≡ sets s (8 * m) x → Part t m x
+part-set s {t} m x h e =
+    record {
+      before = take (8 * m) s;
+      after = drop (8 * m + length x) s;
+      starts = length-take-le (8 * m) s (omega (arith, h));
+      split = e ∙ sets-eq x s (8 * m) h ∙ append-assoc (take (8 * m) s) x (drop (8 * m + length x) s);
+    }
+
+-- a term that was emitted is a run
+pub emitted-run : (s : List ℕ) {t : List ℕ} (m : ℕ) (h : Term) → TermFits h → 32768 ≤ length s → m + cells (fromTerm h) ≤ sizeLimit → t ≡ sets s (8 * m) (lay m (fromTerm h)) →
+    Run false t m (refers term-sort) (m + cells (fromTerm h) - 1) (fromTerm h) (m + cells (fromTerm h))
+emitted-run s {t} m h f n l e =
+    let g = term-good h f in
+    let z = length-lay m (fromTerm h) in
+    at-run refl (omega (arith, root-last m g)) refl (laid-run m g (part-set s m (lay m (fromTerm h)) (omega (arith, z, l, n)) e))
+
+-- an annotated value becomes a value
+anno-value : {v h : Term} {A : Ty} → value? v ≡ true → Step (anno v A) h → value? h ≡ true
+anno-value {v} f (s-anno x) = absurd (value-no-step (value?-says v .0 (subst⁻¹ T f tt) .1) x)
+anno-value {h = h} f (s-cast c) = T-true (value?-says h) (cast-to c)
+
+module _ {w : List ℕ} (p : Place) {e : Term} (s : Standing w (Redex p) e) (r : Runnable e) where
+  -- as many cells stand around the redex as it is emitted behind
+  pub around-is : p .start + 8191 - p .root ≡ around (frames (s .around))
+  around-is = let z = redex-range (s .at) in omega (arith, waiting (s .at .waits), z .root)
+
+  whole-size : size e ≡ around (frames (s .around)) + size (s .focus)
+  whole-size = ap size (s .is) ∙ size-whole (s .around) (s .focus)
+
+  pub around-small : p .start + 8191 - p .root ≤ sizeLimit
+  around-small = omega (arith, around-is, whole-size, r .small)
+
+  fits : TermFits (s .focus)
+  fits = focus-fits (s .around) (s .focus) (subst TermFits (s .is) (r .fits))
+
+  -- the redex, as reduction asks for it
+  redex-of : (f : Term) → TermFits f → RedexParts w p f → (cellAt w (p .root) .kind ≡ 25 → ⊥) → Reduction.Redex w (p .root) f
+  redex-of (anno v A) f (of-anno {a = a} {b = b} c x y z) k =
+      let q = redex-range (s .at) in
+      Reduction.at-anno c (omega (arith, ends y, q .apart, q .right)) (omega (arith, ends z)) x
+      (record { begin = p .start; run = at-run refl refl (ends y) y; fits = f .0 })
+      (record { begin = p .right; run = at-run refl refl (ends z) z })
+  redex-of (app v u) f (of-app c x y a b i) k =
+      let q = redex-range (s .at) in
+      Reduction.at-app c (omega (arith, ends a, grows b, q .apart, q .right)) (omega (arith, ends b, q .apart, q .right)) x y
+      (record { begin = p .start; run = at-run refl refl (ends a) a; fits = f .0 })
+      (record { begin = _; run = at-run refl refl (ends b) b; fits = f .1 })
+  redex-of (fix g A) f (of-fix i x) k = Reduction.at-fix (record { begin = p .right; run = x; fits = f })
+  redex-of (proj l v) f (of-proj c x y i) k = absurd (k (ap (λ (q : Cell). q .kind) (c .is)))
+
+  pub redex-at : (cellAt w (p .root) .kind ≡ 25 → ⊥) → Reduction.Redex w (p .root) (s .focus)
+  redex-at k = redex-of (s .focus) fits (s .at .parts) k
+
+  pub successor-of : (h : Term) × (next (s .focus) ≡ some h)
+  successor-of = goes (s .around) (s .focus) (s .is) (s .proper) r (redex-value (s .at .parts))
+
+  pub within-of : {g : Term} → next e ≡ some g → Inside (s .around) (s .focus) g
+  within-of {g} n = next-inside (s .around) (s .focus) g (s .proper) (redex-value (s .at .parts)) (sym (ap next (s .is)) ∙ n)
+
+  fits-after : {g : Term} (n : next e ≡ some g) → TermFits (within-of n .to)
+  fits-after {g} n =
+      let i = within-of n in
+      focus-fits (s .around) (i .to) (subst TermFits (i .is) (successor-fits e g n (r .fits)))
+
+  size-after : {g : Term} (n : next e ≡ some g) → size g ≡ p .start + 8191 - p .root + cells (fromTerm (within-of n .to))
+  size-after {g} n =
+      let i = within-of n in
+      let a = ap size (i .is) ∙ size-whole (s .around) (i .to) in
+      omega (arith, a, around-is, term-cells (i .to))
+
+  -- an annotated value becomes a value
+  value-after : {g : Term} (n : next e ≡ some g) → cellAt w (p .root) .kind ≡ 19 → value? (within-of n .to) ≡ true
+  unfolding kindOf
+  value-after n k = let i = within-of n in go (s .at .parts) (i .steps)
+    where
+      go : {f h : Term} → RedexParts w p f → next f ≡ some h → value? h ≡ true
+      go {f} {h} (of-anno c v a b) q = anno-value v (next-sound f h q)
+      go (of-app c v u a b z) q = absurd (omega (arith, k, ap (λ (q : Cell). q .kind) (c .is)))
+      go (of-fix {e = x} {A = A} z y) q = absurd (omega (arith, k, kind-of (fix x A) y))
+      go (of-proj c v a z) q = absurd (omega (arith, k, ap (λ (q : Cell). q .kind) (c .is)))
+
+-- the two answers of emission
+module _ {s s′ w : List ℕ} {p : Place} (c : Contracting s w p) (t : Cell) (cell : t ≡ cellAt w (p .root)) (k : t .kind ≡ 25 → ⊥) {o : Laid}
+    (x : Reduction.Contracts w s s′ (p .root) (p .start + 8191 - p .root) o) where
+  abbrev m : ℕ
+  m = p .start + 8191 - p .root
+
+  kind-root : cellAt w (p .root) .kind ≡ 25 → ⊥
+  kind-root h = k (ap (λ (q : Cell). q .kind) cell ∙ h)
+
+  emits-after : {e g : Term} (st : Standing w (Redex p) e) (r : Runnable e) (n : next e ≡ some g) → Emits s s′ m o (fromTerm (within-of p st r n .to))
+  emits-after st r n = let i = within-of p st r n in x .says (st .focus) (i .to) (redex-at p st r kind-root) (i .steps)
+
+  pub contracts-full : o ≡ Out.Full → Contracts w w p Full
+  contracts-full q = record { says = go }
+    where
+      go : (e g : Term) → Standing w (Redex p) e → Runnable e → next e ≡ some g → ContractsTo w w g Full
+      go e g st r n = by (decLe (m + cells (fromTerm (within-of p st r n .to))) sizeLimit)
+        where
+          by : Dec (m + cells (fromTerm (within-of p st r n .to)) ≤ sizeLimit) → ContractsTo w w g Full
+          by (yes l) = let a = emits-after st r n .fits l .0 in let z : _≡_ {A = ℕ} 0 1 = cc in absurd (omega arith)
+          by (no l) = c-full (omega (arith, size-after p st r n, l)) refl refl
+
+  module _ {end : ℕ} (q : o ≡ Out.Next end) where
+    became-after : {e g : Term} (st : Standing w (Redex p) e) (r : Runnable e) (n : next e ≡ some g) →
+        ((end ≡ m + cells (fromTerm (within-of p st r n .to))) × (end ≤ sizeLimit) × LaidDown s′ w p (t .kind) m end (st .around) (within-of p st r n .to))
+    became-after st r n = by (decLe (m + cells (fromTerm h)) sizeLimit)
+      where
+        h : Term
+        h = within-of p st r n .to
+
+        by : Dec (m + cells (fromTerm h) ≤ sizeLimit) → (end ≡ m + cells (fromTerm h)) × (end ≤ sizeLimit) × LaidDown s′ w p (t .kind) m end (st .around) h
+        by (yes l) =
+            let a = emits-after st r n .fits l in
+            let z : end ≡ m + cells (fromTerm h) = cc in
+            let y = emitted-run s m h (fits-after p st r n) (c .long) l (a .1) in (
+              z,
+              omega (arith, z, l),
+              record {
+                proper = st .proper;
+                waits = st .at .waits;
+                run = at-run refl (omega (arith, z)) (sym z) y;
+                value = λ v. value-after p st r n (sym (ap (λ (q : Cell). q .kind) cell) ∙ v);
+              },
+            )
+        by (no l) = let a = emits-after st r n .full (omega (arith, l)) in let z : _≡_ {A = ℕ} 0 1 = cc in absurd (omega arith)
+
+    pub installing : length s′ ≡ length s → Installing s′ w p (t .kind) m end
+    installing l =
+        let y = c .ready in
+        let st = y .standing in
+        let a = successor-of p st (y .runnable) in
+        let n : next (y .term) ≡ some (whole (st .around) (a .0)) = ap next (st .is) ∙ next-whole (st .around) (st .focus) (a .0) (st .proper) (redex-value (st .at .parts)) (a .1) in
+        let b = became-after st (y .runnable) n in
+        record {
+          long = omega (arith, l, c .long);
+          buffer = st .long;
+          around = omega (arith, redex-range (st .at) .root);
+          small = b .1;
+          within = st .around;
+          term = within-of p st (y .runnable) n .to;
+          laid = b .2;
+        }
+
+    pub contracts-next : {v : List ℕ} {y : Focus} → Installs s′ w v p (t .kind) m end y → Contracts w v p (To y)
+    contracts-next {v} {y} z = record { says = go }
+      where
+        go : (e g : Term) → Standing w (Redex p) e → Runnable e → next e ≡ some g → ContractsTo w v g (To y)
+        go e g st r n =
+            let b = became-after st r n in
+            c-to (omega (arith, b .0, b .1, size-after p st r n)) refl
+            (subst (Standing v y) (sym (within-of p st r n .is)) (z .says (st .around) (within-of p st r n .to) (b .2)))
+
+pub contracts-here : {w v : List ℕ} {p : Place} {y : Focus} → Becomes w v p y → Contracts w v p (To y)
+contracts-here x = record { says = λ e g st r n. let a = x .says e g st r n in c-to (omega (arith, a .1, r .small)) refl (a .0) }
+
+pub kind-not : {t u : Cell} {n : ℕ} → t ≡ u → (t .kind ≡ n → ⊥) → (u .kind ≡ n → ⊥)
+kind-not e h q = h (ap (λ (c : Cell). c .kind) e ∙ q)
+
+-- ---- an annotated value, in place or not
+
+module _ {w v : List ℕ} {p : Place} {r : Here} (h : ReadsHere w v p r) where
+  pub became-is : {x : Focus} → r ≡ Became x → Contracts w v p (To x)
+  became-is {x} q = go (h .says)
+    where
+      go : HereBy w v p r → Contracts w v p (To x)
+      go (h-became {x = y} e b) = let i : y ≡ x = cc in subst (λ (z : Focus). Contracts w v p (To z)) i (contracts-here b)
+      go (h-elsewhere e b) = let z : _≡_ {A = ℕ} 0 1 = cc in absurd (omega arith)
+
+  same : r ≡ Elsewhere → v ≡ w
+  same q = go (h .says)
+    where
+      go : HereBy w v p r → v ≡ w
+      go (h-became e b) = let z : _≡_ {A = ℕ} 0 1 = cc in absurd (omega arith)
+      go (h-elsewhere e b) = b
+
+  pub still-contracts : {u : List ℕ} {o : Contracted} → r ≡ Elsewhere → Contracts v u p o → Contracts w u p o
+  still-contracts {u} {o} q c = subst (λ (z : List ℕ). Contracts z u p o) (same q) c
+
+pub still-emitting : {s w v : List ℕ} {p : Place} {t : Cell} {r : Here} → ContractingAnno s w p t → ReadsHere w v p r → r ≡ Elsewhere → Emitting s v p t
+still-emitting {s} {w} {v} {p} {t} a h q =
+    subst (λ (z : List ℕ). Emitting s z p t) (sym (same h q))
+    (record { contracting = a .contracting; cell = a .cell; kind = λ k. absurd (omega (arith, k, a .kind)) })

@@ -1,0 +1,173 @@
+-- A field read of a value has its successor in place: the top value stays, a record loses its last cell. Assumes nothing.
+use Prim.Native.Nat.{ℕ, suc, _+_, _*_, _-_, _≤_, _<_}
+use native.Mathlib.Omega.{arith}
+use mathlib.Core.Path.{_≡_, refl, sym, ap, _∙_, subst}
+use mathlib.Core.Bool.{Bool, true, false, cond}
+use mathlib.Core.List.{List, []}
+use mathlib.Core.Option.{Option, none, some, Option·some-injective, Option·none-ne-some}
+use lib.Dec.{eqb}
+use lib.ListN.{length}
+use Rattle.calculus.specs.Syntax.{Ty, Term, var, lit, unit, anno, app, lam, merge, fix, rcd, proj, size}
+use Rattle.calculus.specs.Decide.{value?}
+use Rattle.calculus.specs.Evaluate.{next, project}
+use Rattle.format.specs.Table.{term-sort, refers, Row, rowOf, rowIn, table}
+use Rattle.format.specs.Cell.{Cell, cellAt}
+use Rattle.format.specs.Terms.{fromTerm}
+use Rattle.format.proofs.Trees.{term-cells}
+use Rattle.cells.specs.Held.{IsCell}
+use Rattle.emission.specs.Runs.{Run}
+use Rattle.emission.proofs.Runs.{grows, parts}
+use Rattle.moving.specs.Moves.{Kept}
+use Rattle.running.specs.Waiting.{Waits, around}
+use Rattle.running.specs.Contexts.{Around, whole, frames}
+use Rattle.running.specs.Places.{IsDone, IsRedex, RedexParts, of-anno, of-app, of-fix, of-proj, Standing, Runnable, doneAt, Becomes, RedexAt}
+use Rattle.running.specs.declared.Place.{Place}
+use Rattle.running.specs.declared.Focus.the-variants.{Done, Redex}
+use Rattle.running.proofs.Contexts.{no-value, next-inside, framed}
+use Rattle.running.proofs.Waiting.{filled, kept-waits}
+use Rattle.running.proofs.Going.{ends, nothing, at-run}
+use Rattle.running.proofs.Entering.{kindOf, kind-of, Kind, k-unit, term-kind}
+use Rattle.running.proofs.Ranges.{RedexRange, redex-range}
+
+-- the size of the whole term: the cells around the focus, and the focus
+pub size-whole : (K : List Around) (f : Term) → size (whole K f) ≡ around (frames K) + size f
+size-whole K f =
+    sym (term-cells (whole K f)) ∙ ap Rattle.format.specs.Tree.cells (sym (framed K f)) ∙ filled (frames K) (fromTerm f) ∙ ap (λ (n : ℕ). around (frames K) + n) (term-cells f)
+
+-- a redex is no value
+pub redex-value : {w : List ℕ} {p : Place} {f : Term} → RedexParts w p f → value? f ≡ false
+unfolding value?
+redex-value (of-anno c v a b) = refl
+redex-value (of-app c v u a b e) = refl
+redex-value (of-fix e r) = refl
+redex-value (of-proj c v a e) = refl
+
+-- the field read, its value's cell at a
+pub record Read (w : List ℕ) (p : Place) (f : Term) (a : ℕ) : Type 0 where
+  pub label : ℕ
+  pub value : Term
+  pub is : f ≡ proj label value
+  pub final : value? value ≡ true
+  pub run : Run true w (p .start) (refers term-sort) a (fromTerm value) (p .left)
+
+kinds : {w : List ℕ} {i k l a b c : ℕ} → IsCell w i k l a b c → cellAt w i .kind ≡ k
+kinds p = ap (λ (c : Cell). c .kind) (p .is)
+
+pub read-of : {w : List ℕ} (p : Place) {f : Term} (t : Cell) → RedexParts w p f → t ≡ cellAt w (p .root) → t .kind ≡ 25 → Read w p f (t .a)
+unfolding fromTerm table rowIn rowOf
+read-of p t (of-anno c v a b) e k = absurd (omega (arith, k, ap (λ (c : Cell). c .kind) e, kinds c))
+read-of p t (of-app c v u a b r) e k = absurd (omega (arith, k, ap (λ (c : Cell). c .kind) e, kinds c))
+read-of p t (of-fix r x) e k = absurd (omega (arith, k, ap (λ (c : Cell). c .kind) e, kinds (parts x refl .cell)))
+read-of {w} p t (of-proj {l = l} {v = v} c f r i) e k =
+    let a : t .a ≡ _ = ap (λ (c : Cell). c .a) (e ∙ c .is) in
+    record { label = l; value = v; is = refl; final = f; run = at-run refl (sym a) refl r }
+
+-- a field read of a value, by the rule
+next-proj : (l : ℕ) (v : Term) → value? v ≡ true → next (proj l v) ≡ project l v
+unfolding next
+next-proj l v f = rw (f, next) refl
+
+inside : (b : Bool) (x h : Term) → cond b (some x) none ≡ some h → x ≡ h
+inside true x h e = Option·some-injective x h e
+inside false x h e = absurd (Option·none-ne-some h e)
+
+-- a value of at most n cells that runs from start and ends before left
+pub record Content (w : List ℕ) (start left n : ℕ) (h : Term) : Type 0 where
+  pub final : value? h ≡ true
+  pub run : Run true w start (refers term-sort) (left - 1) (fromTerm h) left
+  pub small : size h ≤ n
+
+-- a redex that has become such a value in place
+pub becomes : {w v : List ℕ} (p : Place) {left : ℕ} → Kept w v (p .start) (suc (p .root)) → left ≤ p .root →
+    ((e : Term) (s : Standing w (Redex p) e) (h : Term) → next (s .focus) ≡ some h → Content v (p .start) left (size (s .focus)) h) → Becomes w v p (doneAt p left)
+becomes {w} {v} p {left} k l c = record { says = λ e g s r n. go s n }
+  where
+    go : {e g : Term} → Standing w (Redex p) e → next e ≡ some g → Standing v (doneAt p left) g × (size g ≤ size e)
+    go {e} {g} s n =
+        let K = s .around in
+        let i = next-inside K (s .focus) g (s .proper) (redex-value (s .at .parts)) (sym (ap next (s .is)) ∙ n) in
+        let m = c e s (i .to) (i .steps) in
+        let a : size g ≡ size (whole K (i .to)) = ap size (i .is) in
+        let b : size e ≡ size (whole K (s .focus)) = ap size (s .is) in (
+          record {
+            long = k .long ∙ s .long;
+            around = K;
+            focus = i .to;
+            is = i .is;
+            proper = s .proper;
+            at = record {
+              value = m .final;
+              run = m .run;
+              waits = subst (λ (n : ℕ). Waits v (p .up) (p .start) n (frames K)) (omega arith) (kept-waits k (s .at .waits));
+              apart = omega (arith, l);
+            };
+          },
+          omega (arith, size-whole K (i .to), size-whole K (s .focus), a, b, m .small),
+        )
+
+pub unchanged : {w : List ℕ} (p : Place) → Kept w w (p .start) (suc (p .root))
+unchanged p = record { long = refl; below = λ i h. refl; above = λ i h. refl }
+
+module _ {w : List ℕ} {start left a : ℕ} (l : ℕ) where
+  content-top : {v : Term} (h : Term) → Run true w start (refers term-sort) a (fromTerm v) left → Kind 18 v → project l v ≡ some h →
+      Content w start left (size (proj l v)) h
+  unfolding project value? size
+  content-top h r k-unit n =
+      subst (Content w start left 2) (Option·some-injective unit h n)
+      (record { final = refl; run = at-run refl (omega (arith, ends r)) refl r; small = omega arith })
+
+  content-record : (v h : Term) → value? v ≡ true → Run true w start (refers term-sort) a (fromTerm v) left → (cellAt w a .kind ≡ 18 → ⊥) → project l v ≡ some h →
+      Content w start (left - 1) (size (proj l v)) h
+  unfolding project value? size kindOf fromTerm table rowIn rowOf
+  content-record unit h f r k n = absurd (k (kind-of unit r))
+  content-record (rcd m x) h f r k n =
+      let q = parts r refl in
+      let y : q .y ≡ a = nothing (q .second) ∙ nothing (q .third) in
+      subst (Content w start (left - 1) (size (proj l (rcd m x)))) (inside (eqb l m) x h n)
+      (record {
+        final = f;
+        run = at-run refl (omega (arith, ends (q .first), y, q .last)) (omega (arith, y, q .last)) (q .first);
+        small = omega arith;
+      })
+  content-record (var x) h f r k n = absurd (Option·none-ne-some h n)
+  content-record (lit x) h f r k n = absurd (Option·none-ne-some h n)
+  content-record (anno x A) h f r k n = absurd (Option·none-ne-some h n)
+  content-record (app x y) h f r k n = absurd (Option·none-ne-some h n)
+  content-record (lam x A B) h f r k n = absurd (Option·none-ne-some h n)
+  content-record (merge x y) h f r k n = absurd (Option·none-ne-some h n)
+  content-record (fix x A) h f r k n = absurd (Option·none-ne-some h n)
+  content-record (proj m x) h f r k n = absurd (Option·none-ne-some h n)
+
+module _ {w : List ℕ} (p : Place) (t : Cell) (d : RedexAt w p t 25) where
+  field-read : {e : Term} (s : Standing w (Redex p) e) → Read w p (s .focus) (t .a)
+  field-read s = read-of p t (s .at .parts) (d .cell) (d .kind)
+
+  pub value-within : 8 * t .a + 8 ≤ length w
+  value-within =
+      let s = d .ready .standing in
+      let r = redex-range (s .at) in
+      omega (arith, ends (field-read s .run), r .apart, r .right, r .root, s .long)
+
+  pub value-left : 1 ≤ p .left
+  value-left = omega (arith, ends (field-read (d .ready .standing) .run))
+
+  left-low : p .left ≤ p .root
+  left-low = let r = redex-range (d .ready .standing .at) in omega (arith, r .apart, r .right)
+
+  -- what the read becomes, by the rule
+  project-is : {e : Term} (s : Standing w (Redex p) e) {h : Term} → next (s .focus) ≡ some h → project (field-read s .label) (field-read s .value) ≡ some h
+  project-is s n = let q = field-read s in sym (next-proj (q .label) (q .value) (q .final)) ∙ sym (ap next (q .is)) ∙ n
+
+  sized : {v : List ℕ} {left : ℕ} {e h : Term} (s : Standing w (Redex p) e) → Content v (p .start) left (size (proj (field-read s .label) (field-read s .value))) h →
+      Content v (p .start) left (size (s .focus)) h
+  sized {v} {left} {h = h} s c = subst (λ (n : ℕ). Content v (p .start) left n h) (sym (ap size (field-read s .is))) c
+
+  pub projects-top : cellAt w (t .a) .kind ≡ 18 → Becomes w w p (doneAt p (p .left))
+  projects-top k =
+      becomes p (unchanged p) left-low
+      (λ e s h n. sized s (content-top (field-read s .label) h (field-read s .run) (term-kind (field-read s .value) (field-read s .run) k) (project-is s n)))
+
+  pub projects-record : (cellAt w (t .a) .kind ≡ 18 → ⊥) → Becomes w w p (doneAt p (p .left - 1))
+  projects-record k =
+      becomes p (unchanged p) (omega (arith, left-low))
+      (λ e s h n. sized s (content-record (field-read s .label) (field-read s .value) h (field-read s .final) (field-read s .run) k (project-is s n)))

@@ -1,0 +1,46 @@
+-- The size of the whole term is what stands left and right of the gap, wherever the focus is: a run can tell its greatest size from its
+-- places alone. Assumes nothing.
+use Prim.Native.Nat.{ℕ, suc, _+_, _-_, _≤_, _<_}
+use native.Mathlib.Omega.{arith}
+use mathlib.Core.Path.{_≡_, ap, _∙_}
+use mathlib.Core.List.{List}
+use Rattle.calculus.specs.Syntax.{Term, anno, app, fix, proj, size}
+use Rattle.format.specs.Tree.{cells}
+use Rattle.format.specs.Terms.{fromType, fromTerm}
+use Rattle.format.proofs.Trees.{term-cells, type-cells}
+use Rattle.emission.proofs.Runs.{counts}
+use Rattle.running.specs.Waiting.{around}
+use Rattle.running.specs.Contexts.{Around, frames}
+use Rattle.running.specs.Places.{IsAhead, IsDone, IsRedex, RedexParts, of-anno, of-app, of-fix, of-proj, FocusIs, Standing}
+use Rattle.running.specs.declared.Place.{Place}
+use Rattle.running.specs.declared.Focus.{Focus}
+use Rattle.running.specs.declared.Focus.the-variants.{Ahead, Done, Redex, Whole}
+use Rattle.running.proofs.Waiting.{waiting}
+use Rattle.running.proofs.Ranges.{ahead-range, done-range, redex-range}
+use Rattle.running.proofs.Projecting.{size-whole}
+
+abbrev placeOf : Focus → Place
+placeOf (Ahead p) = p
+placeOf (Done p) = p
+placeOf (Redex p) = p
+placeOf (Whole p) = p
+
+-- the cells left of the gap and right of it
+abbrev pub cellsAt : Place → ℕ
+cellsAt p = p .left + (8192 - p .right)
+
+redex-cells : {w : List ℕ} {p : Place} {f : Term} → RedexParts w p f → size f + p .start + p .right ≡ p .left + suc (p .root)
+unfolding size
+redex-cells (of-anno {v = v} {A = A} c x a b) = omega (arith, counts a, counts b, term-cells v, type-cells A)
+redex-cells (of-app {v = v} {u = u} c x y a b e) = omega (arith, counts a, counts b, e, term-cells v, term-cells u)
+redex-cells (of-fix {e = e} {A = A} i r) = omega (arith, counts r, i, term-cells (fix e A))
+redex-cells (of-proj {v = v} c x a e) = omega (arith, counts a, e, term-cells v)
+
+focus-cells : (w : List ℕ) (x : Focus) (K : List Around) (f : Term) → FocusIs w x K f → around (frames K) + size f ≡ cellsAt (placeOf x)
+focus-cells w (Ahead p) K f a = let r = ahead-range a in omega (arith, waiting (a .waits), counts (a .run), term-cells f, r .begins, r .right, r .root)
+focus-cells w (Done p) K f d = let r = done-range d in omega (arith, waiting (d .waits), counts (d .run), term-cells f, r .start, r .right)
+focus-cells w (Redex p) K f d = let r = redex-range d in omega (arith, waiting (d .waits), redex-cells (d .parts), r .start, r .right, r .root)
+focus-cells w (Whole p) K f d = let r = done-range (d .1) in omega (arith, waiting (d .1 .waits), counts (d .1 .run), term-cells f, r .start, r .right)
+
+pub standing-size : {w : List ℕ} {x : Focus} {e : Term} → Standing w x e → size e ≡ cellsAt (placeOf x)
+standing-size {w} {x} s = ap size (s .is) ∙ size-whole (s .around) (s .focus) ∙ focus-cells w x (s .around) (s .focus) (s .at)

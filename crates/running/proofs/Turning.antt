@@ -1,0 +1,101 @@
+-- What each return of a step says. Assumes nothing.
+use Prim.Native.Nat.{ℕ, _+_, _≤_, _<_}
+use native.Mathlib.Omega.{arith}
+use mathlib.Core.Path.{_≡_, refl, sym, ap, _∙_, subst}
+use mathlib.Core.Bool.{true, false}
+use mathlib.Core.Logic.{_⊎_, inl, inr}
+use mathlib.Core.List.{List, []}
+use mathlib.Core.Option.{some}
+use borrow.Author.Tests.{lt-ltb, le-ltb}
+use lib.ListN.{length}
+use Rattle.calculus.specs.Syntax.{Term, size}
+use Rattle.calculus.specs.Decide.{value?}
+use Rattle.calculus.specs.Evaluate.{next}
+use Rattle.format.specs.Book.{sizeLimit}
+use Rattle.outcome.specs.declared.Stop.the-variants.{Value, Spent, Room}
+use Rattle.running.specs.Contexts.{Around, whole}
+use Rattle.running.specs.Places.{Standing, Runnable, Ready, Settled, Settles, Contracts, ContractsTo, c-to, c-full}
+use Rattle.running.specs.Turns.{TurnReady, TurnOf, t-value, t-spent, t-room, t-next, Steps}
+use Rattle.running.specs.declared.Place.{Place}
+use Rattle.running.specs.declared.Focus.{Focus}
+use Rattle.running.specs.declared.Focus.the-variants.{Ahead, Done, Redex, Whole}
+use Rattle.running.specs.declared.State.{State}
+use Rattle.running.specs.declared.Turn.the-variants.{Next, Ended}
+use Rattle.running.specs.declared.Contracted.{Contracted}
+use Rattle.running.specs.declared.Contracted.the-variants.{To, Full}
+use Rattle.running.proofs.Contexts.{no-value}
+use Rattle.running.proofs.Standing.{successor, next-runnable}
+use Rattle.running.proofs.Projecting.{redex-value}
+
+-- a whole value is one
+whole-value : {w : List ℕ} {p : Place} {e : Term} → Standing w (Whole p) e → value? e ≡ true
+unfolding whole
+whole-value s = ap value? (s .is ∙ ap (λ (K : List Around). whole K (s .focus)) (s .at .0)) ∙ s .at .1 .value
+
+-- a term with a redex is none
+redex-none : {w : List ℕ} {p : Place} {e : Term} → Standing w (Redex p) e → value? e ≡ false
+redex-none s = ap value? (s .is) ∙ no-value (s .around) (s .focus) (s .proper) (redex-value (s .at .parts))
+
+pub turn-value : {w : List ℕ} {x : State} {l : ℕ} → Settled (x .focus) → ((p : Place) → x .focus ≡ Redex p → ⊥) → Steps w w x l (Ended (Value (x .steps)) (x .focus))
+turn-value {w} {x} {l} h n = record { says = λ e s r. t-value (go (x .focus) refl e (s)) refl s }
+  where
+    go : (y : Focus) → x .focus ≡ y → (e : Term) → Standing w (x .focus) e → value? e ≡ true
+    go (Ahead p) q e s = absurd (subst Settled q h)
+    go (Done p) q e s = absurd (subst Settled q h)
+    go (Redex p) q e s = absurd (n p q)
+    go (Whole p) q e s = whole-value (subst (λ (y : Focus). Standing w y e) q s)
+
+module _ {w : List ℕ} {y : Focus} {p : Place} (q : y ≡ Redex p) where
+  at : {e : Term} → Standing w y e → Standing w (Redex p) e
+  at {e} s = subst (λ (y : Focus). Standing w y e) q s
+
+  pub redex-ready : Ready w y → Ready w (Redex p)
+  redex-ready h = record { term = h .term; standing = at (h .standing); runnable = h .runnable }
+
+  module _ {v : List ℕ} {o : Contracted} (c : Contracts w v p o) where
+    contracted : {e : Term} (s : Standing w y e) (r : Runnable e) → (g : Term) × (next e ≡ some g) × ContractsTo w v g o
+    contracted {e} s r = let n = successor r (redex-none (at s)) in (n .0, n .1, c .says e (n .0) (at s) r (n .1))
+
+    -- what was contracted can settle
+    pub contracted-ready : {z : Focus} → Ready w y → o ≡ To z → Ready v z
+    contracted-ready {z} h f = let a = contracted (h .standing) (h .runnable) in by (a .0) (a .1) (a .2)
+      where
+        by : (g : Term) → next (h .term) ≡ some g → ContractsTo w v g o → Ready v z
+        by g n (c-to {x = d} u k t) =
+            let i : d ≡ z = cc in
+            record { term = g; standing = subst (λ (d : Focus). Standing v d g) i t; runnable = next-runnable (h .runnable) n u }
+        by g n (c-full u k t) = let z : _≡_ {A = ℕ} 0 1 = cc in absurd (omega arith)
+
+pub turn-spent : {w : List ℕ} {x : State} {l : ℕ} {p : Place} → x .focus ≡ Redex p → x .steps ≡ l → Steps w w x l (Ended (Spent (x .steps)) (Redex p))
+turn-spent {x = x} q h = record { says = λ e s r. t-spent (redex-none (at q s)) h (ap (Ended (Spent (x .steps))) (sym q)) s }
+
+module _ {w v : List ℕ} {x : State} {l : ℕ} {p : Place} {o : Contracted} (q : x .focus ≡ Redex p) (c : Contracts w v p o) (h : x .steps < l) where
+  pub turn-room : o ≡ Full → Steps w v x l (Ended (Room (x .steps)) (Redex p))
+  turn-room f = record { says = go }
+    where
+      go : (e : Term) → Standing w (x .focus) e → Runnable e → TurnOf v (x .focus) (x .steps) l e (Ended (Room (x .steps)) (Redex p))
+      go e s r = let a = contracted q c s r in by (a .0) (a .1) (a .2)
+        where
+          by : (g : Term) → next e ≡ some g → ContractsTo w v g o → TurnOf v (x .focus) (x .steps) l e (Ended (Room (x .steps)) (Redex p))
+          by g n (c-to u z y) = let z : _≡_ {A = ℕ} 0 1 = cc in absurd (omega arith)
+          by g n (c-full u z y) =
+              t-room (redex-none (at q s)) h n (lt-ltb sizeLimit (size g) u) (ap (Ended (Room (x .steps))) (sym q)) (subst (λ (d : List ℕ). Standing d (x .focus) e) (sym y) s)
+
+  pub turn-next : {y z : Focus} {u : List ℕ} → o ≡ To y → Settles v u y z → Steps w u x l (Next (record { focus = z; steps = x .steps + 1 }))
+  turn-next {y} {z} {u} f t = record { says = go }
+    where
+      go : (e : Term) → Standing w (x .focus) e → Runnable e → TurnOf u (x .focus) (x .steps) l e (Next (record { focus = z; steps = x .steps + 1 }))
+      go e s r = let a = contracted q c s r in by (a .0) (a .1) (a .2)
+        where
+          by : (g : Term) → next e ≡ some g → ContractsTo w v g o → TurnOf u (x .focus) (x .steps) l e (Next (record { focus = z; steps = x .steps + 1 }))
+          by g n (c-to {x = d} b k m) =
+              let i : d ≡ y = cc in
+              t-next (redex-none (at q s)) h n (le-ltb sizeLimit (size g) b) refl refl (t .settled)
+              (t .moves .says g (subst (λ (d : Focus). Standing v d g) i m) (next-runnable r n b))
+          by g n (c-full b k m) = let z : _≡_ {A = ℕ} 0 1 = cc in absurd (omega arith)
+
+-- the tag of a redex is none of the others'
+pub no-redex : _≡_ {A = ℕ} 2 0 ⊎ (_≡_ {A = ℕ} 2 1 ⊎ _≡_ {A = ℕ} 2 3) → ⊥
+no-redex (inl h) = absurd (omega (arith, h))
+no-redex (inr (inl h)) = absurd (omega (arith, h))
+no-redex (inr (inr h)) = absurd (omega (arith, h))

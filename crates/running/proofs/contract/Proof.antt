@@ -1,0 +1,64 @@
+-- `running::contract` meets its contract. Assumes nothing.
+use Rattle.running.proofs.Ranges.{redex-within}
+use Rattle.running.proofs.Contracting.{contracts-here}
+use borrow.Author.Needs.{needs}
+use Rattle.running.proofs.contract.Statement.{statement}
+use Rattle.running.proofs.contract.Tie as tie
+
+read-cell-requires : tie.Need-read-cell-requires
+read-cell-requires c κs =
+    redex-within (c .before .before .before .pre .ready .standing)
+
+contract-anno-requires : tie.Need-contract-anno-requires
+contract-anno-requires c κs =
+    record { contracting = c .before .before .before .before .before .before .before .pre; cell = c .before .before .before .read-cell .ensures; kind = c .before .before .match .keys1 }
+
+project-requires : tie.Need-project-requires
+project-requires c κs =
+    record { ready = c .before .before .before .before .before .before .pre .ready; cell = c .before .before .read-cell .ensures; kind = c .before .match .keys2 }
+
+contract-through-requires : tie.Need-contract-through-requires
+contract-through-requires c κs =
+    record { contracting = c .before .before .before .before .before .before .before .pre; cell = c .before .before .before .read-cell .ensures; kind = c .before .before .match .rest .1 }
+
+same-length : tie.Need-same-length
+same-length c = search needs
+
+same-length-2 : tie.Need-same-length-2
+same-length-2 c = search needs
+
+returns : tie.Need-returns
+returns c = search needs
+
+same-length-3 : tie.Need-same-length-3
+same-length-3 c = search needs
+
+returns-2 : tie.Need-returns-2
+returns-2 c =
+    contracts-here (c .project .ensures)
+
+same-length-4 : tie.Need-same-length-4
+same-length-4 c = search needs
+
+same-length-5 : tie.Need-same-length-5
+same-length-5 c = search needs
+
+returns-3 : tie.Need-returns-3
+returns-3 c = search needs
+
+pub contract-spec : {M : Type 1} → statement M
+contract-spec =
+    tie.close
+    (tie.spec
+    read-cell-requires
+    contract-anno-requires
+    project-requires
+    contract-through-requires
+    same-length
+    same-length-2
+    returns
+    same-length-3
+    returns-2
+    same-length-4
+    same-length-5
+    returns-3)

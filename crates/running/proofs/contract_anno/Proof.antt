@@ -1,0 +1,49 @@
+-- `running::contract_anno` meets its contract. Assumes nothing.
+use Rattle.running.proofs.Contracting.{became-is, still-emitting, still-contracts}
+use borrow.Author.Needs.{needs}
+use Rattle.running.proofs.contract_anno.Statement.{statement}
+use Rattle.running.proofs.contract_anno.Tie as tie
+
+read-here-requires : tie.Need-read-here-requires
+read-here-requires c κs = search needs
+
+enum-known-x : tie.Need-enum-known-x
+enum-known-x c = search needs
+
+enum-told : tie.Need-enum-told
+enum-told c = search needs
+
+contract-through-requires : tie.Need-contract-through-requires
+contract-through-requires c κs =
+    still-emitting (c .before .before .before .before .before .before .before .before .before .before .pre) (c .before .before .before .before .before .before .read-here .ensures) (c .before .before .enum-told .given .1)
+
+same-length : tie.Need-same-length
+same-length c = search needs
+
+returns : tie.Need-returns
+returns c =
+    became-is (c .before .before .before .before .before .read-here .ensures) (c .before .x .given .1)
+
+same-length-2 : tie.Need-same-length-2
+same-length-2 c = search needs
+
+same-length-3 : tie.Need-same-length-3
+same-length-3 c = search needs
+
+returns-2 : tie.Need-returns-2
+returns-2 c =
+    still-contracts (c .before .before .before .before .before .before .before .before .before .before .before .read-here .ensures) (c .before .before .before .before .before .before .before .enum-told .given .1) (c .before .before .before .before .contract-through .ensures)
+
+pub contract-anno-spec : {M : Type 1} → statement M
+contract-anno-spec =
+    tie.close
+    (tie.spec
+    read-here-requires
+    enum-known-x
+    enum-told
+    contract-through-requires
+    same-length
+    returns
+    same-length-2
+    same-length-3
+    returns-2)

@@ -1,0 +1,26 @@
+-- `running::lay_whole` meets its contract. Assumes nothing.
+use Rattle.running.proofs.Laying.{here-ready, lays-whole}
+use borrow.Author.Needs.{needs}
+use Rattle.running.proofs.lay_whole.Statement.{statement}
+use Rattle.running.proofs.lay_whole.Tie as tie
+
+hold-requires : tie.Need-hold-requires
+hold-requires c κs = search needs
+
+lay-here-requires : tie.Need-lay-here-requires
+lay-here-requires c κs =
+    here-ready (c .before .before .before .before .before .before .before .before .pre) (c .before .before .before .before .hold .ensures) (c .before .before .before .before .hold .kept .0)
+
+same-length : tie.Need-same-length
+same-length c = search needs
+
+same-length-2 : tie.Need-same-length-2
+same-length-2 c = search needs
+
+returns : tie.Need-returns
+returns c =
+    lays-whole (c .before .before .before .before .before .before .before .before .before .hold .ensures) (c .before .before .before .before .lay-here .ensures)
+
+pub lay-whole-spec : {M : Type 1} → statement M
+lay-whole-spec =
+    tie.close (tie.spec hold-requires lay-here-requires same-length same-length-2 returns)

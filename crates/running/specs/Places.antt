@@ -1,0 +1,300 @@
+-- Where a run has its place: the term in the work buffer, seen from the focus. Left of the gap lie values, right of it what is to come; each
+-- cell of the term stands once. Assumes nothing.
+use Prim.Native.Nat.{ℕ, suc, _+_, _*_, _-_, _≤_, _<_}
+use mathlib.Core.Path.{_≡_}
+use mathlib.Core.Bool.{true, false}
+use mathlib.Core.Logic.{_⊎_}
+use mathlib.Core.List.{List, []}
+use mathlib.Core.Option.{some}
+use lib.ListN.{length}
+use Rattle.calculus.specs.Syntax.{Ty, Term, anno, app, fix, proj, size}
+use Rattle.calculus.specs.Typing.{Typed}
+use Rattle.calculus.specs.Decide.{value?}
+use Rattle.calculus.specs.Evaluate.{next}
+use Rattle.format.specs.Table.{type-sort, term-sort, refers}
+use Rattle.format.specs.Cell.{Cell, cellAt}
+use Rattle.format.specs.Tree.{Tree}
+use Rattle.format.specs.Terms.{fromType, fromTerm, TermFits}
+use Rattle.format.specs.Book.{sizeLimit}
+use Rattle.cells.specs.Held.{IsCell}
+use Rattle.emission.specs.Emits.{HeldField}
+use Rattle.emission.specs.Runs.{Run}
+use Rattle.running.specs.Waiting.{fill, Waits}
+use Rattle.running.specs.Contexts.{Around, whole, AllProper, frames}
+use Rattle.running.specs.declared.Place.{Place}
+use Rattle.running.specs.declared.Focus.{Focus}
+use Rattle.running.specs.declared.Focus.the-variants.{Ahead, Done, Redex, Whole}
+use Rattle.running.specs.declared.Here.{Here}
+use Rattle.running.specs.declared.Here.the-variants.{Became, Elsewhere}
+use Rattle.running.specs.declared.Contracted.{Contracted}
+use Rattle.running.specs.declared.Contracted.the-variants.{To, Full}
+
+-- The focus f is to come, within K.
+pub record IsAhead (w : List ℕ) (p : Place) (K : List Around) (f : Term) : Type 0 where
+  pub begins : p .start ≡ p .left
+  pub run : Run true w (p .right) (refers term-sort) (p .root) (fromTerm f) (suc (p .root))
+  pub waits : Waits w (p .up) (p .start) (suc (p .root)) (frames K)
+  pub apart : p .start < p .right
+
+-- The focus f is a value and done.
+pub record IsDone (w : List ℕ) (p : Place) (K : List Around) (f : Term) : Type 0 where
+  pub value : value? f ≡ true
+  pub run : Run true w (p .start) (refers term-sort) (p .left - 1) (fromTerm f) (p .left)
+  pub waits : Waits w (p .up) (p .start) (p .right) (frames K)
+  pub apart : p .left < p .right
+
+-- The parts of a redex: values are done, a type and a fixpoint are to come.
+pub data RedexParts (w : List ℕ) (p : Place) : Term → Type 0 where
+  of-anno : {l a b c : ℕ} {v : Term} {A : Ty} → IsCell w (p .root) 19 l a b c → value? v ≡ true →
+      Run true w (p .start) (refers term-sort) a (fromTerm v) (p .left) → Run true w (p .right) (refers type-sort) b (fromType A) (p .root) →
+      RedexParts w p (anno v A)
+  of-app : {l a b c o : ℕ} {v u : Term} → IsCell w (p .root) 20 l a b c → value? v ≡ true → value? u ≡ true →
+      Run true w (p .start) (refers term-sort) a (fromTerm v) o → Run true w o (refers term-sort) b (fromTerm u) (p .left) → p .right ≡ p .root →
+      RedexParts w p (app v u)
+  of-fix : {e : Term} {A : Ty} → p .start ≡ p .left → Run true w (p .right) (refers term-sort) (p .root) (fromTerm (fix e A)) (suc (p .root)) →
+      RedexParts w p (fix e A)
+  of-proj : {l a b c : ℕ} {v : Term} → IsCell w (p .root) 25 l a b c → value? v ≡ true →
+      Run true w (p .start) (refers term-sort) a (fromTerm v) (p .left) → p .right ≡ p .root → RedexParts w p (proj l v)
+
+pub record IsRedex (w : List ℕ) (p : Place) (K : List Around) (f : Term) : Type 0 where
+  pub parts : RedexParts w p f
+  pub waits : Waits w (p .up) (p .start) (suc (p .root)) (frames K)
+  pub apart : p .left < p .right
+
+abbrev pub FocusIs : List ℕ → Focus → List Around → Term → Type 0
+FocusIs w (Ahead p) K f = IsAhead w p K f
+FocusIs w (Done p) K f = IsDone w p K f
+FocusIs w (Redex p) K f = IsRedex w p K f
+FocusIs w (Whole p) K f = (K ≡ []) × IsDone w p K f
+
+-- The term e stands in the work buffer.
+pub record Standing (w : List ℕ) (x : Focus) (e : Term) : Type 0 where
+  pub long : length w ≡ 65536
+  pub around : List Around
+  pub focus : Term
+  pub is : e ≡ whole around focus
+  pub proper : AllProper around
+  pub at : FocusIs w x around focus
+
+-- A typed term within the limit, whose labels, indices and numbers fit.
+pub record Runnable (e : Term) : Type 0 where
+  pub type : Ty
+  pub typed : Typed [] e type
+  pub fits : TermFits e
+  pub small : size e ≤ sizeLimit
+
+-- Some such term stands there.
+pub record Ready (w : List ℕ) (x : Focus) : Type 0 where
+  pub term : Term
+  pub standing : Standing w x term
+  pub runnable : Runnable term
+
+-- The focus has moved, the term is the same.
+pub record Moves (w v : List ℕ) (x y : Focus) : Type 0 where
+  pub says : (e : Term) → Standing w x e → Runnable e → Standing v y e
+
+-- How far the focus may still have to go: past the cells to come, and down into a part.
+abbrev pub distance : Focus → ℕ
+distance (Ahead p) = 20000 * (8192 - p .right) + suc (p .root)
+distance (Done p) = 20000 * (8192 - p .right) + 10000
+distance (Redex p) = 0
+distance (Whole p) = 0
+
+-- It has gone on.
+pub record GoesOn (w v : List ℕ) (x y : Focus) : Type 0 where
+  pub moves : Moves w v x y
+  pub falls : distance y < distance x
+
+abbrev pub Entering : List ℕ → Place → Type 0
+Entering w p = Ready w (Ahead p)
+
+abbrev pub Enters : List ℕ → List ℕ → Place → Focus → Type 0
+Enters w v p r = GoesOn w v (Ahead p) r
+
+-- The focus is a number, the top value or a function.
+pub record Taking (w : List ℕ) (p : Place) : Type 0 where
+  pub ready : Entering w p
+  pub value : (cellAt w (p .root) .kind ≡ 17) ⊎ ((cellAt w (p .root) .kind ≡ 18) ⊎ (cellAt w (p .root) .kind ≡ 21))
+
+-- The focus, whose cell is t, is none of these and no fixpoint.
+pub record Descending (w : List ℕ) (p : Place) (t : Cell) : Type 0 where
+  pub ready : Entering w p
+  pub cell : t ≡ cellAt w (p .root)
+  pub no-number : t .kind ≡ 17 → ⊥
+  pub no-top : t .kind ≡ 18 → ⊥
+  pub no-function : t .kind ≡ 21 → ⊥
+  pub no-fixpoint : t .kind ≡ 23 → ⊥
+
+abbrev pub Leaving : List ℕ → Place → Type 0
+Leaving w p = Ready w (Done p)
+
+abbrev pub Leaves : List ℕ → List ℕ → Place → Focus → Type 0
+Leaves w v p r = GoesOn w v (Done p) r
+
+-- The cell t waits for a focus that is done.
+pub record Waiting (w : List ℕ) (p : Place) (t : Cell) : Type 0 where
+  pub ready : Leaving w p
+  pub some : p .up ≡ 0 → ⊥
+  pub cell : t ≡ cellAt w (p .up)
+
+-- the same, and t has no second part;
+pub record WaitingOne (w : List ℕ) (p : Place) (t : Cell) : Type 0 where
+  pub waiting : Waiting w p t
+  pub no-app : t .kind ≡ 20 → ⊥
+  pub no-merge : t .kind ≡ 22 → ⊥
+
+-- t has a second part, and waits for its first;
+pub record WaitingFirst (w : List ℕ) (p : Place) (t : Cell) : Type 0 where
+  pub waiting : Waiting w p t
+  pub two : (t .kind ≡ 20) ⊎ (t .kind ≡ 22)
+  pub first : t .c ≡ 0
+
+-- t waits for its second part.
+pub record WaitingSecond (w : List ℕ) (p : Place) (t : Cell) : Type 0 where
+  pub waiting : Waiting w p t
+  pub two : (t .kind ≡ 20) ⊎ (t .kind ≡ 22)
+  pub second : t .c ≡ 0 → ⊥
+
+-- The focus is a redex, or the whole term and a value.
+abbrev pub Settled : Focus → Type 0
+Settled (Ahead p) = ⊥
+Settled (Done p) = ⊥
+Settled (Redex p) = Unit {0}
+Settled (Whole p) = Unit {0}
+
+pub record Settles (w v : List ℕ) (x y : Focus) : Type 0 where
+  pub settled : Settled y
+  pub moves : Moves w v x y
+
+-- The place of a redex that has become a value ending before a cell.
+abbrev pub doneAt : Place → ℕ → Focus
+doneAt p left = Done (record { left = left; start = p .start; right = p .root + 1; root = p .root; up = p .up })
+
+-- The redex has become a term that is no larger and has its place.
+pub record Becomes (w v : List ℕ) (p : Place) (r : Focus) : Type 0 where
+  pub says : (e g : Term) → Standing w (Redex p) e → Runnable e → next e ≡ some g → Standing v r g × (size g ≤ size e)
+
+-- A redex whose cell t is of kind k.
+pub record RedexAt (w : List ℕ) (p : Place) (t : Cell) (k : ℕ) : Type 0 where
+  pub ready : Ready w (Redex p)
+  pub cell : t ≡ cellAt w (p .root)
+  pub kind : t .kind ≡ k
+
+-- A value annotated with the type whose cell is y: one that is top-like and no intersection;
+pub record TopAt (w : List ℕ) (p : Place) (t y : Cell) : Type 0 where
+  pub at : RedexAt w p t 19
+  pub type : y ≡ cellAt w (t .b)
+  pub no-intersection : y .kind ≡ 4 → ⊥
+  pub top-like : y .c ≡ 1
+
+-- a number, with Int;
+pub record NumberAt (w : List ℕ) (p : Place) (t v y : Cell) : Type 0 where
+  pub at : RedexAt w p t 19
+  pub value : v ≡ cellAt w (t .a)
+  pub type : y ≡ cellAt w (t .b)
+  pub number : v .kind ≡ 17
+  pub int : y .kind ≡ 1
+
+-- a function, with a function type that is not top-like.
+pub record FunctionAt (w : List ℕ) (p : Place) (t v y : Cell) : Type 0 where
+  pub at : RedexAt w p t 19
+  pub value : v ≡ cellAt w (t .a)
+  pub type : y ≡ cellAt w (t .b)
+  pub function : v .kind ≡ 21
+  pub arrow : y .kind ≡ 3
+  pub proper : y .c ≡ 1 → ⊥
+
+-- It has become what it becomes where it lies, or nothing has changed.
+pub data HereBy (w v : List ℕ) (p : Place) (r : Here) : Type 0 where
+  h-became : {x : Focus} → r ≡ Became x → Becomes w v p x → HereBy w v p r
+  h-elsewhere : r ≡ Elsewhere → v ≡ w → HereBy w v p r
+
+pub record ReadsHere (w v : List ℕ) (p : Place) (r : Here) : Type 0 where
+  pub says : HereBy w v p r
+
+-- What a redex became lies from cell m of s on, before end: a value if the redex was an annotation.
+pub record Laid (s w : List ℕ) (p : Place) (kind m end : ℕ) (K : List Around) (h : Term) : Type 0 where
+  pub proper : AllProper K
+  pub waits : Waits w (p .up) (p .start) (suc (p .root)) (frames K)
+  pub run : Run false s m (refers term-sort) (end - 1) (fromTerm h) end
+  pub value : kind ≡ 19 → value? h ≡ true
+
+-- Room for it in the work buffer, m cells standing around it.
+pub record Installing (s w : List ℕ) (p : Place) (kind m end : ℕ) : Type 0 where
+  pub long : 32768 ≤ length s
+  pub buffer : length w ≡ 65536
+  pub around : m + suc (p .root) ≡ p .start + 8192
+  pub small : end ≤ sizeLimit
+  pub within : List Around
+  pub term : Term
+  pub laid : Laid s w p kind m end within term
+
+-- The same, of an annotated function: a is the function's cell.
+pub record Halving (s w : List ℕ) (p : Place) (kind m end a : ℕ) : Type 0 where
+  pub installing : Installing s w p kind m end
+  pub annotated : cellAt s (end - 1) .kind ≡ 19
+  pub inside : a ≡ cellAt s (end - 1) .a
+  pub function : cellAt s a .kind ≡ 21
+
+pub record Installs (s w v : List ℕ) (p : Place) (kind m end : ℕ) (r : Focus) : Type 0 where
+  pub says : (K : List Around) (h : Term) → Laid s w p kind m end K h → Standing v r (whole K h)
+
+pub record Contracting (s w : List ℕ) (p : Place) : Type 0 where
+  pub long : 32768 ≤ length s
+  pub ready : Ready w (Redex p)
+
+-- its cell t of kind 19;
+pub record ContractingAnno (s w : List ℕ) (p : Place) (t : Cell) : Type 0 where
+  pub contracting : Contracting s w p
+  pub cell : t ≡ cellAt w (p .root)
+  pub kind : t .kind ≡ 19
+
+-- of no kind 25.
+pub record Emitting (s w : List ℕ) (p : Place) (t : Cell) : Type 0 where
+  pub contracting : Contracting s w p
+  pub cell : t ≡ cellAt w (p .root)
+  pub kind : t .kind ≡ 25 → ⊥
+
+-- The successor g of the whole term has its place, or there is no room for it, and the work buffer is as it was.
+pub data ContractsTo (w v : List ℕ) (g : Term) (r : Contracted) : Type 0 where
+  c-to : {x : Focus} → size g ≤ sizeLimit → r ≡ To x → Standing v x g → ContractsTo w v g r
+  c-full : sizeLimit < size g → r ≡ Full → v ≡ w → ContractsTo w v g r
+
+pub record Contracts (w v : List ℕ) (p : Place) (r : Contracted) : Type 0 where
+  pub says : (e g : Term) → Standing w (Redex p) e → Runnable e → next e ≡ some g → ContractsTo w v g r
+
+-- The cell up waits for a tree that is held at child.
+pub record Held (w : List ℕ) (up child : ℕ) (K : List Around) (t : Tree) : Type 0 where
+  pub begin : ℕ
+  pub end : ℕ
+  pub waits : Waits w up begin end (frames K)
+  pub low : begin ≤ end
+  pub holds : HeldField w end (refers term-sort) child t
+
+pub record Unwinding (w : List ℕ) (up child : ℕ) : Type 0 where
+  pub long : length w ≡ 65536
+  pub around : List Around
+  pub tree : Tree
+  pub held : Held w up child around tree
+
+pub record MendReady (w : List ℕ) (up child : ℕ) : Type 0 where
+  pub unwinding : Unwinding w up child
+  pub some : up ≡ 0 → ⊥
+
+-- The cell up, whole again, is held, and r waits for it: the whole tree is t.
+pub record MendedTo (v : List ℕ) (up r : ℕ) (t : Tree) : Type 0 where
+  pub around : List Around
+  pub tree : Tree
+  pub held : Held v r up around tree
+  pub same : fill (frames around) tree ≡ t
+
+pub record Mends (w v : List ℕ) (up child r : ℕ) : Type 0 where
+  pub higher : (r ≡ 0) ⊎ ((up < r) × (r < 8192))
+  pub says : (K : List Around) (t : Tree) → Held w up child K t → MendedTo v up r (fill (frames K) t)
+
+-- All waiting cells are whole again: the root r holds the whole tree.
+pub record Unwinds (w v : List ℕ) (up child r : ℕ) : Type 0 where
+  pub says : (K : List Around) (t : Tree) → Held w up child K t → HeldField v 8192 (refers term-sort) r (fill (frames K) t)
+
+pub record Holds (w v : List ℕ) (x : Focus) (r : ℕ) : Type 0 where
+  pub says : (e : Term) → Standing w x e → HeldField v 8192 (refers term-sort) r (fromTerm e)
