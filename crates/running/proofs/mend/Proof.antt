@@ -13,7 +13,7 @@ read-cell-requires c κs =
 write-cell-requires : tie.Need-write-cell-requires
 write-cell-requires c κs =
     let f = read-fits _ _ (λ i. c .before .before .before .before .before .slice-known .given i .fits) (c .before .before .before .read-cell .ensures) in
-    (mend-within (c .before .before .before .before .before .before .pre), record { a = child-fits (c .before .before .before .before .before .before .pre); b = f .1; c = omega arith })
+    (mend-within (c .before .before .before .before .before .before .pre), record { a = omega (arith, f .0, child-fits (c .before .before .before .before .before .before .pre)); b = f .1; c = omega arith })
 
 same-length : tie.Need-same-length
 same-length c = search needs

@@ -1,4 +1,5 @@
 -- `running::project` meets its contract. Assumes nothing.
+use native.Mathlib.Omega.{arith}
 use mathlib.Core.Path.{sym, ap, _∙_, subst}
 use Rattle.format.specs.Cell.{Cell}
 use Rattle.running.specs.Places.{Becomes}
@@ -21,7 +22,7 @@ returns c =
 
 sub-became : tie.Need-sub-became
 sub-became c =
-    value-left _ _ (c .before .before .before .before .before .pre)
+    omega (arith, value-left _ _ (c .before .before .before .before .before .pre))
 
 became-requires-2 : tie.Need-became-requires-2
 became-requires-2 c κs =
