@@ -21,7 +21,7 @@ use Rattle.emission.specs.Runs.{Run, r-unused, r-refers}
 use Rattle.emission.proofs.Runs.{grows, Parts, parts, run-type, kept-run}
 use Rattle.moving.specs.Moves.{Kept, Wrote, ShiftReady, Shifts}
 use Rattle.moving.proofs.Runs.{shift-ready, run-shifted}
-use Rattle.running.specs.Places.{RedexParts, of-anno, of-app, of-fix, of-proj, Standing, doneAt, Becomes, RedexAt, TopAt, NumberAt, FunctionAt}
+use Rattle.running.specs.Places.{RedexParts, of-anno, of-app, of-fix, of-proj, Standing, doneAt, Becomes, RedexAt, TopAt, FunctionAt}
 use Rattle.running.specs.declared.Place.{Place}
 use Rattle.running.specs.declared.Focus.the-variants.{Redex}
 use Rattle.running.proofs.Going.{ends, nothing, at-run, wrote-run}
@@ -140,6 +140,14 @@ reads-top {w} {v} p t y d x c = becomes p kept (omega (arith, r .start, r .apart
         (subst (Content v (p .start) (p .start + 1) (size (anno (q .value) A))) u (record { final = refl; run = top-run; small = omega arith }))
 
 -- ---- a number
+
+-- a number annotated with Int
+pub record NumberAt (w : List ℕ) (p : Place) (t v y : Cell) : Type 0 where
+  pub at : RedexAt w p t 19
+  pub value : v ≡ cellAt w (t .a)
+  pub type : y ≡ cellAt w (t .b)
+  pub number : v .kind ≡ 17
+  pub int : y .kind ≡ 1
 
 number-read : {v : Term} {A : Ty} (h : Term) → Kind 17 v → TypeKind 1 A → cast A v ≡ some h → v ≡ h
 unfolding cast firstPart castInt

@@ -187,14 +187,6 @@ pub record TopAt (w : List ℕ) (p : Place) (t y : Cell) : Type 0 where
   pub no-intersection : y .kind ≡ 4 → ⊥
   pub top-like : y .c ≡ 1
 
--- a number, with Int;
-pub record NumberAt (w : List ℕ) (p : Place) (t v y : Cell) : Type 0 where
-  pub at : RedexAt w p t 19
-  pub value : v ≡ cellAt w (t .a)
-  pub type : y ≡ cellAt w (t .b)
-  pub number : v .kind ≡ 17
-  pub int : y .kind ≡ 1
-
 -- a function, with a function type that is not top-like.
 pub record FunctionAt (w : List ℕ) (p : Place) (t v y : Cell) : Type 0 where
   pub at : RedexAt w p t 19
