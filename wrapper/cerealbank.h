@@ -1,4 +1,4 @@
-/* Checks and runs folder books. Document 01 gives a book's format and what every answer means. */
+/* Checks and runs folder books. docs/FORMAT.md gives a book's format and what every answer means. */
 
 #ifndef CEREALBANK_H
 #define CEREALBANK_H
@@ -17,18 +17,20 @@ extern "C" {
    to take. */
 #define CEREALBANK_STACK 1110016
 
-/* An answer is a tag in the upper 32 bits and a value in the lower ones. */
-#define CEREALBANK_TAG(answer) ((uint32_t)((uint64_t)(answer) >> 32))
+/* An answer: its value in bits 0 to 31, its tag in bits 32 to 39. Bits 40 to 63 are for a second figure; no answer has one, and they are
+   zero. */
 #define CEREALBANK_VALUE(answer) ((uint32_t)(answer))
+#define CEREALBANK_TAG(answer) ((uint32_t)((uint64_t)(answer) >> 32 & 255))
+#define CEREALBANK_SECOND(answer) ((uint32_t)((uint64_t)(answer) >> 40))
 
-/* The tags 1 to 15 are refusals, by number; the value is the cell. */
-#define CEREALBANK_LAST_REFUSAL 15
+/* The tags 1 to 31 are refusals, by number; the value is the cell. 1 to 15 are in use: docs/FORMAT.md. */
+#define CEREALBANK_LAST_REFUSAL 31
 /* A check accepted the book; the value is the size of its type. */
-#define CEREALBANK_ACCEPTED 16
+#define CEREALBANK_ACCEPTED 32
 /* A run came to a value, took as many steps as its limit allows, or had no room for the next term; the value is the steps taken. */
-#define CEREALBANK_TO_VALUE 17
-#define CEREALBANK_SPENT 18
-#define CEREALBANK_NO_ROOM 19
+#define CEREALBANK_TO_VALUE 33
+#define CEREALBANK_SPENT 34
+#define CEREALBANK_NO_ROOM 35
 
 /* Both calls read the book's bytes, and write the work buffer's and nothing else but their stack. The book and the work buffer must not
    overlap. */

@@ -63,7 +63,7 @@ impl Engine for Library {
             cerealbank::Answer::Value { steps } => Answer::Value { steps },
             cerealbank::Answer::Spent { steps } => Answer::Spent { steps },
             cerealbank::Answer::Room { steps } => Answer::Room { steps },
-            cerealbank::Answer::Unknown { tag, value } => return Err(format!("tag {tag} with {value}")),
+            cerealbank::Answer::Unknown { packed } => return Err(format!("an unknown answer, {packed:#x}")),
         })
     }
 }

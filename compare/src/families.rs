@@ -6,6 +6,7 @@ use crate::deepest::deepest;
 use crate::extremes::extremes;
 use crate::maker::{Maker, Taste, EVEN, LABELS};
 use crate::random::Random;
+use crate::refusals::refusals;
 use crate::samples::{desk_example, hidden_field, identity, kept_books, samples};
 use evaluator::{Term, TermShape, Type};
 
@@ -45,6 +46,7 @@ pub fn families() -> Vec<Family> {
         whole("deepest", || deepest().into_iter().map(|deep| deep.book).collect()),
         whole("every byte", every_byte),
         whole("cut short", cut_short),
+        whole("refusals", refusals),
         random("merges", 12, |r| typed(r, Taste { merge: 8, intersection: 6, ..EVEN }, 30)),
         random("hidden fields", 6, hidden_fields),
         random("duplicates", 8, |r| typed(r, Taste { duplicate: 6, intersection: 5, annotation: 4, ..EVEN }, 25)),

@@ -62,8 +62,17 @@ pub fn desk_example() -> Vec<u8> {
 
 /// The books of the repository's folder books/, by name.
 pub fn kept_books() -> BTreeMap<String, Vec<u8>> {
-    let folder = Path::new(env!("CARGO_MANIFEST_DIR")).join("../books");
-    let files = fs::read_dir(folder).expect("the folder books/").map(|entry| entry.expect("its files").path());
+    books_of("../books")
+}
+
+/// The books of books/refusals/, by name: 02 gets refusal 2, and so on to 15.
+pub fn refused_books() -> BTreeMap<String, Vec<u8>> {
+    books_of("../books/refusals")
+}
+
+fn books_of(folder: &str) -> BTreeMap<String, Vec<u8>> {
+    let path = Path::new(env!("CARGO_MANIFEST_DIR")).join(folder);
+    let files = fs::read_dir(path).expect("the folder").map(|entry| entry.expect("its files").path());
     let books = files.filter(|path| path.extension().is_some_and(|end| end == "book"));
     books.map(|path| (path.file_stem().expect("a name").to_string_lossy().into_owned(), fs::read(path).expect("a book"))).collect()
 }

@@ -77,6 +77,9 @@ fn evaluate(root: Term, limit: u32) -> (Answer, Term) {
 /// run, bytes past the laid-down book are zero."
 fn answer(work: &mut [u8], outcome: impl FnOnce() -> Result<(Answer, Vec<u8>), Refusal> + Send) -> Answer {
     if work.len() != WORK {
+        if planted(Fault::WrongLengthZeroed) {
+            work.fill(0);
+        }
         return Answer::Refused { number: 1, cell: 0 };
     }
     let (answer, laid) = match on_large_stack(outcome) {

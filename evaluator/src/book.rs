@@ -1,5 +1,6 @@
 //! Bytes to terms and back.
 
+use crate::faults::{planted, Fault};
 use crate::terms::{Term, TermShape, Type, TypeShape};
 
 /// "A cell: byte 0 kind, byte 1 label, bytes 2-3, 4-5, 6-7 the fields a, b, c."
@@ -66,11 +67,13 @@ fn test_cell(cells: &[u8], n: usize) -> Result<(), Refusal> {
         return refuse(5, n);
     };
     let named = sorts.into_iter().zip(abc(cell));
-    if !labelled && cell[1] != 0 || named.clone().any(|(sort, field)| sort == Field::Unnamed && field != 0) {
+    let filled = !labelled && cell[1] != 0 || named.clone().any(|(sort, field)| sort == Field::Unnamed && field != 0);
+    let references = named.filter(|(sort, _)| matches!(sort, Field::Type | Field::Term));
+    let not_lower = references.clone().any(|(_, to)| usize::from(to) >= n);
+    if filled && !(not_lower && planted(Fault::ReferencesFirst)) {
         return refuse(6, n);
     }
-    let references = named.filter(|(sort, _)| matches!(sort, Field::Type | Field::Term));
-    if references.clone().any(|(_, to)| usize::from(to) >= n) {
+    if not_lower {
         return refuse(7, n);
     }
     for (sort, to) in references {
@@ -146,14 +149,21 @@ pub fn read(book: &[u8]) -> Result<Term, Refusal> {
     if count != length / 8 - 1 || root >= count {
         return refuse(4, 0);
     }
+    if planted(Fault::KindsFirst) {
+        if let Some(n) = (0..count).find(|n| fields(cells[n * CELL]).is_none()) {
+            return refuse(5, n);
+        }
+    }
     let mut trees: Vec<Tree> = Vec::with_capacity(count);
     for n in 0..count {
         test_cell(cells, n)?;
         trees.push(open_cell(&cells[n * CELL..][..CELL], n, &trees));
     }
+    let [a_type, too_large] = if planted(Fault::RootNumbersSwapped) { [10, 9] } else { [9, 10] };
     match &trees[root] {
-        Tree::Type(_) => refuse(9, root),
-        Tree::Term(e) if e.size() > SIZE_LIMIT => refuse(10, root),
+        Tree::Type(t) if planted(Fault::RootSizeFirst) && t.size() > SIZE_LIMIT => refuse(too_large, root),
+        Tree::Type(_) => refuse(a_type, root),
+        Tree::Term(e) if e.size() > SIZE_LIMIT => refuse(too_large, root),
         Tree::Term(e) => Ok(e.clone()),
     }
 }

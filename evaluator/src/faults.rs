@@ -52,10 +52,28 @@ pub enum Fault {
     RoomOneLateBetween,
     /// Room asked for an argument's reading also where the body does not use it.
     RoomForUnused,
+    /// Refusal 1 zeroes the work buffer.
+    WrongLengthZeroed,
+    /// The kinds of all cells tested before anything else of a cell.
+    KindsFirst,
+    /// A cell's references tested before its unnamed fields.
+    ReferencesFirst,
+    /// The numbers 9 and 10 swapped.
+    RootNumbersSwapped,
+    /// The root's size tested before whether it is a type.
+    RootSizeFirst,
+    /// The right side of an application walked before 12 is tested.
+    ArgumentFirst,
+    /// The right half of a merge walked before the left.
+    RightHalfFirst,
+    /// 14 names the left half instead of the merge.
+    HalfNamed,
+    /// 15 names the annotation, function, fixpoint or application instead of the checked term.
+    WholeNamed,
 }
 
 impl Fault {
-    pub const ALL: [Fault; 24] = [
+    pub const ALL: [Fault; 33] = [
         Fault::CovariantInputs,
         Fault::ArgumentUnread,
         Fault::RoomOneEarly,
@@ -80,6 +98,15 @@ impl Fault {
         Fault::RoomWithNearestLeft,
         Fault::RoomOneLateBetween,
         Fault::RoomForUnused,
+        Fault::WrongLengthZeroed,
+        Fault::KindsFirst,
+        Fault::ReferencesFirst,
+        Fault::RootNumbersSwapped,
+        Fault::RootSizeFirst,
+        Fault::ArgumentFirst,
+        Fault::RightHalfFirst,
+        Fault::HalfNamed,
+        Fault::WholeNamed,
     ];
 }
 

@@ -1,8 +1,11 @@
 //! An evaluator of folder books.
 //!
-//! It implements document 01, and the first calculus of source document 001 that it cites, sentence by sentence, on trees and with
-//! no thought of speed. It shares nothing with the engine, so that the two can be compared. Quoted words in the comments are
-//! document 01's.
+//! It implements document 01, and the first calculus of source 001 that it cites, sentence by sentence and on trees. It shares nothing
+//! with the engine, so that the two can be compared. Quoted words in the comments are document 01's.
+//!
+//! So that many books can be compared, parts of trees are shared and not copied; each node keeps its size, whether it is a value and how
+//! many binders its variables need; and a run keeps its place in the term from step to step (`Journey`; `successors` takes a step on the
+//! whole tree instead). Tests on types, and readings, walk their trees each time.
 
 mod answers;
 mod book;
@@ -18,4 +21,4 @@ pub use faults::{with_fault, Fault};
 pub use running::{put, readings, successors};
 pub use stack::on_large_stack;
 pub use terms::{Term, TermShape, Type, TypeShape};
-pub use typing::{below, check_against, consistent, disjoint, find, top_like};
+pub use typing::{below, consistent, disjoint, find, top_like};

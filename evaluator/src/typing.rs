@@ -97,17 +97,17 @@ pub fn find(binders: &mut Vec<Type>, e: &Term) -> Result<Type, Refusal> {
         },
         // "annotation its type, after checking"
         TermShape::Annotation(inside, by) => {
-            check_against(binders, inside, by)?;
+            check_against(binders, e, inside, by)?;
             Ok(by.clone())
         }
         // "function its annotated type, the body checked against the output"
         TermShape::Function(body, input, output) => {
-            under(binders, input, |binders| check_against(binders, body, output))?;
+            under(binders, input, |binders| check_against(binders, e, body, output))?;
             Ok(Type::function(input.clone(), output.clone()))
         }
         // "fixpoint its type, the body checked against it"
         TermShape::Fixpoint(body, at) => {
-            under(binders, at, |binders| check_against(binders, body, at))?;
+            under(binders, at, |binders| check_against(binders, e, body, at))?;
             Ok(at.clone())
         }
         // "record a record type"
@@ -129,9 +129,10 @@ fn find_application(binders: &mut Vec<Type>, e: &Term, left: &Term, right: &Term
     let (input, output) = match found.shape() {
         TypeShape::Function(i, o) => (i.clone(), o.clone()),
         TypeShape::Top => (Type::top(), Type::top()),
+        _ if planted(Fault::ArgumentFirst) => return find(binders, right).and_then(|_| refuse(12, e)),
         _ => return refuse(12, e),
     };
-    check_against(binders, right, &input)?;
+    check_against(binders, e, right, &input)?;
     Ok(output)
 }
 
@@ -147,22 +148,27 @@ fn find_read(binders: &mut Vec<Type>, e: &Term, label: u8, of: &Term) -> Result<
 
 /// "Merge: the intersection, if the two types are disjoint, or both halves are closed values and consistent."
 fn find_merge(binders: &mut Vec<Type>, e: &Term, left: &Term, right: &Term) -> Result<Type, Refusal> {
-    let a = find(binders, left)?;
-    let b = find(binders, right)?;
+    let (a, b) = if planted(Fault::RightHalfFirst) {
+        let b = find(binders, right)?;
+        (find(binders, left)?, b)
+    } else {
+        (find(binders, left)?, find(binders, right)?)
+    };
     let closed_value = |half: &Term| half.is_value() && half.is_closed();
     if disjoint(&a, &b) || closed_value(left) && closed_value(right) && consistent(left, right) {
         Ok(Type::intersection(a, b))
     } else {
-        refuse(14, e)
+        refuse(14, if planted(Fault::HalfNamed) { left } else { e })
     }
 }
 
-/// "Checking: find a type; it must be below the wanted one." 15 names "the checked term".
-pub fn check_against(binders: &mut Vec<Type>, e: &Term, wanted: &Type) -> Result<(), Refusal> {
+/// "Checking: find a type; it must be below the wanted one." 15 names "the checked term", which is a part of the whole.
+fn check_against(binders: &mut Vec<Type>, whole: &Term, e: &Term, wanted: &Type) -> Result<(), Refusal> {
     if below(&find(binders, e)?, wanted) {
         Ok(())
     } else {
-        Err(Refusal { number: 15, cell: e.cell() })
+        let named = if planted(Fault::WholeNamed) { whole } else { e };
+        Err(Refusal { number: 15, cell: named.cell() })
     }
 }
 

@@ -1,9 +1,9 @@
 //! Checks and runs folder books.
 //!
-//! A book is a small typed program in bytes; document 01 gives its format and what every answer means. Both calls are lent the book
-//! to read and a work buffer of [`WORK`] bytes to write, and write nothing else but their thread's stack, of which [`STACK`] bytes
-//! suffice. Their answer, and every byte that they leave in the work buffer, depend on the book and the limit alone. They never
-//! panic.
+//! A book is a small typed program in bytes; docs/FORMAT.md gives its format and what every answer means. Both calls are lent the
+//! book to read and a work buffer of [`WORK`] bytes to write, and write nothing else but their thread's stack, of which [`STACK`]
+//! bytes suffice. Their answer, and every byte that they leave in the work buffer, depend on the book and the limit alone. They
+//! never panic.
 //!
 //! # Example
 //!
@@ -43,12 +43,23 @@ pub const WORK: usize = 65_536;
 /// measured to take.
 pub const STACK: usize = 1_110_016;
 
+// The tags of an answer, as crates/report/specs/Numbers.antt defines them: a refusal has its own number.
+const LAST_REFUSAL: u8 = 31;
+const ACCEPTED: u8 = 32;
+const TO_VALUE: u8 = 33;
+const SPENT: u8 = 34;
+const NO_ROOM: u8 = 35;
+
+// The lowest bit of the tag and of the second figure. The same file has them as powers of 2, `tagPlace` and `secondPlace`.
+const TAG_PLACE: u32 = 32;
+const SECOND_PLACE: u32 = 40;
+
 /// What a call says of a book.
 #[derive(Clone, Copy, PartialEq, Eq, Debug)]
 pub enum Answer {
-    /// The book is turned back, with document 01's number and cell.
+    /// The book is turned back, with the number and cell that docs/FORMAT.md explains.
     Refused {
-        /// 1 to 15.
+        /// 1 to 31, of which 1 to 15 are in use.
         number: u8,
         /// The cell that is meant; 0 for the numbers 1 to 4.
         cell: u32,
@@ -75,24 +86,26 @@ pub enum Answer {
     },
     /// No answer of this list. An engine that keeps its contract never gives one.
     Unknown {
-        /// The upper half of what the engine returned.
-        tag: u32,
-        /// The lower half.
-        value: u32,
+        /// What the engine returned.
+        packed: u64,
     },
 }
 
 impl Answer {
-    /// The engine returns a tag in the upper 32 bits and a value in the lower ones.
+    /// The engine returns a value in bits 0 to 31 and a tag in bits 32 to 39. The bits above are for a second figure, which no answer
+    /// has.
     fn unpacked(packed: u64) -> Answer {
-        let (tag, value) = ((packed >> 32) as u32, packed as u32);
+        let (second, tag, value) = (packed >> SECOND_PLACE, (packed >> TAG_PLACE) as u8, packed as u32);
+        if second != 0 {
+            return Answer::Unknown { packed };
+        }
         match tag {
-            1..=15 => Answer::Refused { number: tag as u8, cell: value },
-            16 => Answer::Accepted { size: value },
-            17 => Answer::Value { steps: value },
-            18 => Answer::Spent { steps: value },
-            19 => Answer::Room { steps: value },
-            _ => Answer::Unknown { tag, value },
+            1..=LAST_REFUSAL => Answer::Refused { number: tag, cell: value },
+            ACCEPTED => Answer::Accepted { size: value },
+            TO_VALUE => Answer::Value { steps: value },
+            SPENT => Answer::Spent { steps: value },
+            NO_ROOM => Answer::Room { steps: value },
+            _ => Answer::Unknown { packed },
         }
     }
 }
@@ -119,20 +132,30 @@ pub fn run(book: &[u8], work: &mut [u8], limit: u32) -> Answer {
 
 #[cfg(test)]
 mod tests {
-    use super::Answer;
+    use super::{Answer, ACCEPTED, LAST_REFUSAL, NO_ROOM, SECOND_PLACE, SPENT, TAG_PLACE, TO_VALUE};
+
+    fn packed(second: u64, tag: u8, value: u32) -> u64 {
+        second << SECOND_PLACE | u64::from(tag) << TAG_PLACE | u64::from(value)
+    }
 
     #[test]
     fn every_tag_is_unpacked() {
-        let packed = |tag: u64, value: u32| Answer::unpacked(tag << 32 | u64::from(value));
-        for number in 1..=15 {
-            assert_eq!(packed(u64::from(number), 4_094), Answer::Refused { number, cell: 4_094 });
+        let unpacked = |tag, value| Answer::unpacked(packed(0, tag, value));
+        for tag in 1..=LAST_REFUSAL {
+            assert_eq!(unpacked(tag, 4_094), Answer::Refused { number: tag, cell: 4_094 });
         }
-        assert_eq!(packed(16, 4_095), Answer::Accepted { size: 4_095 });
-        assert_eq!(packed(17, 0), Answer::Value { steps: 0 });
-        assert_eq!(packed(18, u32::MAX), Answer::Spent { steps: u32::MAX });
-        assert_eq!(packed(19, 2_046), Answer::Room { steps: 2_046 });
-        for tag in [0, 20, u32::MAX] {
-            assert_eq!(packed(u64::from(tag), 7), Answer::Unknown { tag, value: 7 });
+        assert_eq!(unpacked(ACCEPTED, 4_095), Answer::Accepted { size: 4_095 });
+        assert_eq!(unpacked(TO_VALUE, 0), Answer::Value { steps: 0 });
+        assert_eq!(unpacked(SPENT, u32::MAX), Answer::Spent { steps: u32::MAX });
+        assert_eq!(unpacked(NO_ROOM, 2_046), Answer::Room { steps: 2_046 });
+    }
+
+    #[test]
+    fn another_tag_or_a_second_figure_is_unknown() {
+        let tags = [0, NO_ROOM + 1, 255].map(|tag| packed(0, tag, 7));
+        let seconds = [1, LAST_REFUSAL, ACCEPTED, TO_VALUE, SPENT, NO_ROOM].map(|tag| packed(1, tag, 7));
+        for packed in tags.into_iter().chain(seconds).chain([u64::MAX]) {
+            assert_eq!(Answer::unpacked(packed), Answer::Unknown { packed });
         }
     }
 }

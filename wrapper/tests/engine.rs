@@ -8,16 +8,6 @@ use cerealbank::{check, run, Answer, WORK};
 const FIXPOINT: [u8; 32] = [1, 0, 0, 0, 0, 0, 0, 0, 16, 0, 0, 0, 0, 0, 0, 0, 23, 0, 1, 0, 0, 0, 0, 0, 0xF0, 1, 3, 0, 2, 0, 0, 0];
 
 #[test]
-fn refusal_1_touches_nothing() {
-    for length in [0, WORK - 1, WORK + 1] {
-        let mut work = vec![9; length];
-        assert_eq!(check(&FIXPOINT, &mut work), Answer::Refused { number: 1, cell: 0 });
-        assert_eq!(run(&[], &mut work, 1), Answer::Refused { number: 1, cell: 0 });
-        assert!(work.iter().all(|&byte| byte == 9));
-    }
-}
-
-#[test]
 fn the_fixpoint_is_checked_and_run() {
     let mut work = vec![9; WORK];
     assert_eq!(check(&FIXPOINT, &mut work), Answer::Accepted { size: 1 });

@@ -1,5 +1,6 @@
-//! The header, the wrapper's own declarations and the engine's exported functions say the same: names, parameters and results; and the
-//! header and the wrapper, the lengths. Nothing else compares them.
+//! The header, the wrapper's own declarations and the engine's exported functions say the same: names, parameters and results. The
+//! header and the wrapper have the same lengths, and the tags and places of the definition; docs/FORMAT.md has its tags. Nothing else compares
+//! them.
 
 use std::collections::BTreeMap;
 use std::fs;
@@ -72,19 +73,56 @@ fn declared_after(words: &str, source: &str) -> BTreeMap<String, Signature> {
     functions
 }
 
-fn read(path: &str) -> Option<String> {
-    fs::read_to_string(Path::new(env!("CARGO_MANIFEST_DIR")).join(path)).ok()
+fn read(path: &str) -> String {
+    fs::read_to_string(Path::new(env!("CARGO_MANIFEST_DIR")).join(path)).unwrap_or_else(|error| panic!("{path}: {error}"))
 }
 
 fn header() -> BTreeMap<String, Signature> {
-    let functions = declared_in_c(&read("cerealbank.h").expect("the header"));
+    let functions = declared_in_c(&read("cerealbank.h"));
     assert!(!functions.is_empty());
     functions
 }
 
+/// The names and numbers of the lines that have this form: what stands before the name, between the two, and after the number.
+fn numbers([before, between, after]: [&str; 3], text: &str) -> BTreeMap<String, usize> {
+    let numbered = |line: &str| {
+        let (name, number) = line.strip_prefix(before)?.strip_suffix(after)?.split_once(between)?;
+        Some((name.to_string(), number.parse().ok()?))
+    };
+    text.lines().filter_map(numbered).collect()
+}
+
+/// The header's constants.
+fn constants() -> BTreeMap<String, usize> {
+    numbers(["#define CEREALBANK_", " ", ""], &read("cerealbank.h"))
+}
+
+/// The definition of an answer's numbers.
+fn definition() -> String {
+    read("../crates/report/specs/Numbers.antt")
+}
+
+/// The header's name for the tag of an answer.
+fn named(answer: &str) -> String {
+    match answer {
+        "value" => "TO_VALUE".to_string(),
+        "room" => "NO_ROOM".to_string(),
+        other => other.to_uppercase(),
+    }
+}
+
+/// The tags of the definition under the header's names, and the last number before them: up to it, the tags are refusals.
+fn defined_tags() -> BTreeMap<String, usize> {
+    let mut tags = numbers(["tagOf (", " n) = ", ""], &definition());
+    tags.append(&mut numbers(["stopTag ", " = ", ""], &definition()));
+    let last = tags.values().min().expect("a tag") - 1;
+    let tags = tags.into_iter().map(|(name, tag)| (named(&name), tag));
+    tags.chain([("LAST_REFUSAL".to_string(), last)]).collect()
+}
+
 #[test]
 fn the_header_and_the_wrapper_agree() {
-    let source = read("src/lib.rs").expect("the wrapper's source");
+    let source = read("src/lib.rs");
     let (_, block) = source.split_once("extern \"C\" {").expect("the declarations");
     let (block, _) = block.split_once('}').expect("their end");
     assert_eq!(header(), declared_after("fn ", block));
@@ -92,19 +130,54 @@ fn the_header_and_the_wrapper_agree() {
 
 #[test]
 fn the_header_and_the_wrapper_have_the_same_lengths() {
-    let header = read("cerealbank.h").expect("the header");
-    let defined = |name: &str| {
-        let value = header.lines().find_map(|line| line.strip_prefix("#define ")?.strip_prefix(name)?.strip_prefix(' '));
-        value.expect("a definition").parse::<usize>().expect("a number")
-    };
-    assert_eq!(defined("CEREALBANK_WORK"), cerealbank::WORK);
-    assert_eq!(defined("CEREALBANK_STACK"), cerealbank::STACK);
+    assert_eq!(constants()["WORK"], cerealbank::WORK);
+    assert_eq!(constants()["STACK"], cerealbank::STACK);
 }
 
 #[test]
-#[cfg_attr(exports_missing, ignore = "crates/exports/src/lib.rt does not exist yet")]
+fn the_header_and_the_wrapper_have_the_tags_of_the_definition() {
+    let tags = defined_tags();
+    assert_eq!(tags.len(), 5, "{tags:?}");
+    let mut in_header = constants();
+    in_header.retain(|name, _| name != "WORK" && name != "STACK");
+    assert_eq!(in_header, tags);
+    assert_eq!(numbers(["const ", ": u8 = ", ";"], &read("src/lib.rs")), tags);
+}
+
+#[test]
+fn the_format_has_the_tags_of_the_definition() {
+    let format = read("../docs/FORMAT.md");
+    let (_, table) = format.split_once("\n| tag | answer |\n|---|---|\n").expect("the table of tags");
+    let rows = table.lines().map_while(|line| line.strip_prefix("| ")?.strip_suffix(" |")?.split_once(" | "));
+    let shown = rows.map(|(tag, answer)| match tag.strip_prefix("1 to ") {
+        Some(last) if answer.starts_with("refused") => ("LAST_REFUSAL".to_string(), last),
+        _ => (named(answer), tag),
+    });
+    let shown: BTreeMap<String, usize> = shown.map(|(name, tag)| (name, tag.parse().expect("a number"))).collect();
+    assert_eq!(shown, defined_tags());
+}
+
+/// The number that follows this mark in a macro of the header.
+fn in_macro(name: &str, mark: &str) -> usize {
+    let header = read("cerealbank.h");
+    let line = header.lines().find_map(|line| line.strip_prefix(&format!("#define CEREALBANK_{name}(answer) ")));
+    let (_, after) = line.expect("a macro").split_once(mark).unwrap_or_else(|| panic!("{name} has no {mark}"));
+    after.split(|c: char| !c.is_ascii_digit()).next().and_then(|digits| digits.parse().ok()).expect("a number")
+}
+
+#[test]
+fn the_header_and_the_wrapper_have_the_places_of_the_definition() {
+    let places = numbers(["", "Place = ", ""], &definition());
+    let in_header = ["TAG", "SECOND"].map(|name| (name.to_lowercase(), 1 << in_macro(name, ">> ")));
+    assert_eq!(BTreeMap::from(in_header), places);
+    let in_wrapper = numbers(["const ", "_PLACE: u32 = ", ";"], &read("src/lib.rs")).into_iter();
+    assert_eq!(in_wrapper.map(|(name, bit)| (name.to_lowercase(), 1 << bit)).collect::<BTreeMap<_, _>>(), places);
+    assert_eq!(in_macro("TAG", "& ") + 1, places["second"] / places["tag"], "the mask");
+}
+
+#[test]
 fn the_header_and_the_engine_agree() {
-    let source = read("../crates/exports/src/lib.rt").expect("the engine's exported functions");
+    let source = read("../crates/cerealbank/src/lib.rt");
     assert_eq!(header(), declared_after("pub extern \"C\" fn ", &source));
 }
 

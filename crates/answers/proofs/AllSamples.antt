@@ -1,4 +1,5 @@
--- All samples marked M hold of the definitions, by one computation; and closed facts beside them. Assumes nothing.
+-- All samples marked M hold of the definitions, by one computation, and so do the small books of the refusals; closed facts beside them.
+-- Assumes nothing.
 use Prim.Native.Nat.{ℕ}
 use mathlib.Core.Path.{_≡_, refl, _∙_}
 use mathlib.Core.List.{List, [], _∷_, map}
@@ -13,14 +14,14 @@ use Rattle.format.specs.Cell.{cellAt, cellBytes, signed, unsigned}
 use Rattle.format.specs.Tree.{cells, branch, grow, openWithin, treeAt, refer, lay}
 use Rattle.format.specs.Terms.{fromType, fromTerm, plainOf, toType, toTerm}
 use Rattle.format.specs.Book.{firstBad, rowFault, cellFault, cellsFinding, rootFinding, cellsForm, formFinding, follow, opened, trailer, book}
-use Rattle.answers.specs.Answer.{bad-buffer, spent, room, refused, Result, result}
+use Rattle.answers.specs.Answer.{spent, room, refused, Result, result}
 use Rattle.answers.specs.Engine.{IsWork, zeros, laid}
 use Rattle.answers.specs.Definition.{definition, turnedBack, afterTyping, afterForm, shown, full?, firstStop, ended, evaluate, told, reported}
 use Rattle.answers.specs.Definition.{judge, check, run}
 use Rattle.answers.specs.Samples as Samples
 use Rattle.answers.specs.Samples.{Call, Sample, called, expected, Holds, Every, samples}
 use Rattle.answers.specs.Samples.{equalNumbers, unequalNumbers, mergedVariable, twiceRead, identityOnMerge, identityUnderTop}
-use Rattle.answers.specs.Samples.{appliedTop, appliedNumber, hiddenField, ownFixpoint}
+use Rattle.answers.specs.Samples.{appliedTop, appliedNumber, hiddenField, ownFixpoint, doubled, refusals}
 
 -- to name it on a line is to unfold every definition that a computation of an answer meets, but for the zero tail
 unfoldable pub computing : ℕ
@@ -60,6 +61,13 @@ each (s ∷ ss) e = ((λ w k. as-answered s w k ∙ cc), each ss cc)
 pub samples-hold : Every (Holds definition) samples
 samples-hold = each samples computed
 
+refusals-computed : map answered refusals ≡ map expected refusals
+unfolding computing answered refusals unequalNumbers appliedNumber doubled
+refusals-computed = refl
+
+pub refusals-hold : Every (Holds definition) refusals
+refusals-hold = each refusals refusals-computed
+
 -- ---- closed facts beside the samples
 
 -- The fixpoint at Int whose body is its own variable: sizes 3, 5, 7, .. With room for 5 the third term is too large.
@@ -82,7 +90,7 @@ unfolding computing
 growing-2 = refl
 
 -- "Refusal 1 touches nothing": whatever the book and the call
-refusal-1 : (c : Call) (b : List ℕ) → called definition c b (7 ∷ 8 ∷ 9 ∷ []) ≡ result (refused bad-buffer 0) (7 ∷ 8 ∷ 9 ∷ [])
+refusal-1 : (c : Call) (b : List ℕ) → called definition c b (7 ∷ 8 ∷ 9 ∷ []) ≡ result (refused 1 0) (7 ∷ 8 ∷ 9 ∷ [])
 unfolding zeros judge check run
 refusal-1 Samples.check b = refl
 refusal-1 (Samples.run l) b = refl

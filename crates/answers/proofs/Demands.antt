@@ -21,14 +21,32 @@ use Rattle.format.specs.Cell.{IsBytes}
 use Rattle.format.specs.Book.{sizeLimit, Finding, formFinding, WellFormed, rootOf, follow, opened, termBook}
 use Rattle.format.proofs.Tests.{formFinding-says, opened-fits, opened-small}
 use Rattle.format.proofs.RoundTrip.{term-laid, TermLaid}
-use Rattle.answers.specs.Answer.{Refusal, bad-buffer, malformed, ill-typed, Stop, refused, accepted, stopped, stepsOf, Result, result}
+use Rattle.answers.specs.Answer.{faultNumber, reasonNumber, Stop, refused, accepted, stopped, stepsOf, Result, result}
 use Rattle.answers.specs.Engine.{Engine, workLength, IsWork, IsLimit, zeros}
 use Rattle.answers.specs.Definition.{definition, check, run, judge, afterForm, afterTyping, turnedBack, shown, told, evaluate, reported}
-use Rattle.answers.specs.Demands.{Accepts, Runs, Demand2, Demand3For, Demand3}
+use Rattle.answers.specs.Demands.{Accepts, Runs, Agree, Demand2, Demand3For, Demand3}
 use Rattle.answers.proofs.AllSamples.{in-work}
 use Rattle.answers.proofs.Fits.{reaches-fits}
 use Rattle.answers.proofs.Running.{Ran, ran}
 use Rattle.answers.proofs.Agreement.{lesser-steps, same-result}
+
+-- Two runs of a typed term, by whatever engines, agree.
+only-one : {e : Term} {A : Ty} → Typed [] e A → (n : ℕ) (f g : Term) → Reaches n e f → Reaches n e g → f ≡ g
+only-one t n f g r q = sound t n g q .only f r
+
+pub runs-agree : {e : Term} {A : Ty} {l k : ℕ} {x y : Result} → Typed [] e A → Runs e l x → Runs e k y → Agree l k x y
+runs-agree {e} {l = l} t p q =
+    record {
+      lesser = λ h. steps-of p ∙ lesser-steps (only-one t) final p q h ∙ ap (min l) (sym (steps-of q));
+      same = λ h u. same-result (only-one t) final p q h
+          (λ s. u (p .steps) (ap (λ (r : Result). r .answer) (p .says) ∙ ap (λ (s : Stop). stopped s (p .steps)) s));
+    }
+  where
+    final : (f g : Term) → IsValue f → ¬ Step f g
+    final f g v s = value-no-step (v .1) s
+
+    steps-of : {n : ℕ} {r : Result} (z : Runs e n r) → stepsOf (r .answer) ≡ z .steps
+    steps-of z = ap (λ (r : Result). stepsOf (r .answer)) (z .says)
 
 -- Demand 2 fixes what an engine says of accepted books, so the theorem of the calculus gives demand 3.
 module _ (E : Engine) (d : Demand2 E) (b : List ℕ) (bytes : IsBytes b) (a : Accepts E b) where
@@ -43,34 +61,18 @@ module _ (E : Engine) (d : Demand2 E) (b : List ℕ) (bytes : IsBytes b) (a : Ac
       let u : Typed [] (opened (termBook f)) (t .0) = subst⁻¹ (λ (x : Term). Typed [] x (t .0)) (l .opens) (t .1) in
       (_, ap (λ (x : Result). x .answer) (d (termBook f) (l .bytes) .shows (t .0) (l .well-formed) u w k))
 
-  only-one : (n : ℕ) (f g : Term) → Reaches n (opened b) f → Reaches n (opened b) g → f ≡ g
-  only-one n f g r q = sound (well-typed .1 .1) n g q .only f r
-
-  final : (f g : Term) → IsValue f → ¬ Step f g
-  final f g v s = value-no-step (v .1) s
-
   runs-of : (w : List ℕ) (l : ℕ) → IsWork w → IsLimit l → Runs (opened b) l (E .run b w l)
   runs-of = d b bytes .runs a
-
-  steps-of : {w : List ℕ} {l : ℕ} (x : Runs (opened b) l (E .run b w l)) → stepsOf (E .run b w l .answer) ≡ x .steps
-  steps-of x = ap (λ (r : Result). stepsOf (r .answer)) (x .says)
 
   pub demand3-for : Demand3For E b
   demand3-for =
       record {
-        only = only-one;
+        only = only-one (well-typed .1 .1);
         ends = λ n f r. sound (well-typed .1 .1) n f r .ends;
         typed = λ n f r. let p = sound (well-typed .1 .1) n f r .typed in (well-typed .1 .0, p .0, well-typed .1 .1, p .1, p .2);
         book = book-accepted;
         lays-down = λ w l k h. let x = runs-of w l k h in (x .stop, x .steps, x .term, x .reached, x .says);
-        lesser = λ w v l m j k h i q.
-            let x = runs-of w l j h in
-            let y = runs-of v m k i in
-            steps-of x ∙ lesser-steps only-one final x y q ∙ ap (min l) (sym (steps-of y));
-        same = λ w v l m j k h i q u.
-            let x = runs-of w l j h in
-            same-result only-one final x (runs-of v m k i) q
-            (λ e. u (x .steps) (ap (λ (r : Result). r .answer) (x .says) ∙ ap (λ (s : Stop). stopped s (x .steps)) e));
+        agree = λ w v l m j k h i. runs-agree (well-typed .1 .1) (runs-of w l j h) (runs-of v m k i);
       }
 
 pub demand3-from-2 : (E : Engine) → Demand2 E → Demand3 E
@@ -85,7 +87,7 @@ outcome b w g A k f t = in-work b w g k ∙ rw (formFinding-says b .1 f) (rw (in
 abbrev Judged : List ℕ → Type 0
 Judged b =
     (WellFormed b × ((A : Ty) × Typed [] (opened b) A))
-    ⊎ ((r : Refusal) × (i : ℕ) × ((g : Ty → Result) → afterForm b g (formFinding b) ≡ turnedBack r i))
+    ⊎ ((n : ℕ) × (i : ℕ) × ((g : Ty → Result) → afterForm b g (formFinding b) ≡ turnedBack n i))
 
 judged : (b : List ℕ) → Judged b
 unfolding afterForm afterTyping
@@ -93,18 +95,18 @@ judged b = form (formFinding b) refl
   where
     typing : (x : Found) → formFinding b ≡ none → infer [] (opened b) ≡ x → Judged b
     typing (found A) f e = inl (formFinding-says b .0 f, (A, infer-says [] (opened b) A .0 e))
-    typing (Infer.refused r p) f e = inr (ill-typed r, follow b (rootOf b) p, λ g. rw f (rw e))
+    typing (Infer.refused r p) f e = inr (reasonNumber r, follow b (rootOf b) p, λ g. rw f (rw e))
 
     form : (x : Option Finding) → formFinding b ≡ x → Judged b
     form none f = typing (infer [] (opened b)) f refl
-    form (some y) f = inr (malformed (y .fault), y .cell, λ g. rw f)
+    form (some y) f = inr (faultNumber (y .fault), y .cell, λ g. rw f)
 
 pub work-at-hand : IsWork (zeros workLength)
 unfolding zeros
 work-at-hand = length-replicate {A = ℕ} workLength 0
 
-pub refused-accepted : (r : Refusal) (i n : ℕ) → refused r i ≢ accepted n
-refused-accepted r i n h = let z : _≡_ {A = ℕ} 0 1 = cc in absurd (omega arith)
+pub refused-accepted : (m i n : ℕ) → refused m i ≢ accepted n
+refused-accepted m i n h = let z : _≡_ {A = ℕ} 0 1 = cc in absurd (omega arith)
 
 -- a check that accepts met no row
 accepts-typed : (b : List ℕ) → Accepts definition b → Judged b → WellFormed b × ((A : Ty) × Typed [] (opened b) A)
@@ -158,8 +160,8 @@ unfolding judge
 turned-alike b w g h e = go (eqb (length w) workLength)
   where
     go : (x : Bool) →
-        _≡_ {A = Result} (elim x [ true ↦ afterForm b g (formFinding b) | false ↦ result (refused bad-buffer 0) w ])
-        (elim x [ true ↦ afterForm b h (formFinding b) | false ↦ result (refused bad-buffer 0) w ])
+        _≡_ {A = Result} (elim x [ true ↦ afterForm b g (formFinding b) | false ↦ result (refused 1 0) w ])
+        (elim x [ true ↦ afterForm b h (formFinding b) | false ↦ result (refused 1 0) w ])
     go true = e
     go false = refl
 

@@ -23,7 +23,7 @@ use Rattle.calculus.proofs.Inference.{infer-says}
 use Rattle.format.specs.Cell.{IsBytes}
 use Rattle.format.specs.Book.{sizeLimit, formFinding, WellFormed, opened, termBook}
 use Rattle.format.proofs.Tests.{formFinding-says}
-use Rattle.answers.specs.Answer.{Refusal, Stop, value, spent, room, accepted, stopped, stepsOf, Result, result}
+use Rattle.answers.specs.Answer.{Stop, value, spent, room, accepted, stopped, stepsOf, Result, result}
 use Rattle.answers.specs.Engine.{Engine, workLength, IsWork, IsLimit, zeros, laid}
 use Rattle.answers.specs.Definition.{definition, check, run, judge, turnedBack, told, Ended, evaluate}
 use Rattle.answers.specs.Demands.{Accepts, Runs, Demand2, Demand3For, Demand3}
@@ -274,10 +274,12 @@ early-obeys-3 s b bytes x =
       typed = d .typed;
       book = d .book;
       lays-down = λ w l k h. (_, _, _, true-ran a (atMostOne l) .reached, early-runs s a w l k);
-      lesser = λ w v l m j k h i q. rw (early-runs s a w l j, early-runs s a v m k) (early-lesser s a l m q);
-      same = λ w v l m j k h i q u.
+      agree = λ w v l m j k h i.
           let p = early-runs s a w l j in
-          p ∙ early-same s a l m q (λ n e. u n (ap (λ (r : Result). r .answer) p ∙ e)) ∙ sym (early-runs s a v m k);
+          record {
+            lesser = λ q. rw (p, early-runs s a v m k) (early-lesser s a l m q);
+            same = λ q u. p ∙ early-same s a l m q (λ n e. u n (ap (λ (r : Result). r .answer) p ∙ e)) ∙ sym (early-runs s a v m k);
+          };
     }
 
 -- ---- 3: invented steps
@@ -385,10 +387,10 @@ refuses-all-breaks-2 E n d =
 pub refuses-all-obeys-3 : (E : Engine) → RefusesAll E → Demand3 E
 refuses-all-obeys-3 E n b bytes a = absurd (n b a)
 
-abbrev pub oneRefusal : Refusal → ℕ → Engine
-oneRefusal r i = fixedReply (turnedBack r i) (turnedBack r i)
+abbrev pub oneRefusal : ℕ → ℕ → Engine
+oneRefusal n i = fixedReply (turnedBack n i) (turnedBack n i)
 
 -- such is the engine that has one refusal for every book
-pub one-refusal-refuses-all : (r : Refusal) (i : ℕ) → RefusesAll (oneRefusal r i)
+pub one-refusal-refuses-all : (n i : ℕ) → RefusesAll (oneRefusal n i)
 unfolding fixedReply turnedBack
-one-refusal-refuses-all r i b a = refused-accepted r i (a .size) (a .answers)
+one-refusal-refuses-all n i b a = refused-accepted n i (a .size) (a .answers)

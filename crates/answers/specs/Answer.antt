@@ -4,13 +4,8 @@ use mathlib.Core.List.{List}
 use Rattle.calculus.specs.Infer.{Reason, unbound, not-function, no-field, conflict, mismatch}
 use Rattle.format.specs.Book.{Fault, bad-length, bad-trailer, bad-count, bad-kind, bad-unnamed, bad-reference, bad-sort, bad-root, bad-size}
 
--- "Where a book is turned back": row 1, rows 2 to 10, rows 11 to 15.
-pub data Refusal : Type 0 where
-  bad-buffer : Refusal
-  malformed : Fault → Refusal
-  ill-typed : Reason → Refusal
-
-abbrev faultNumber : Fault → ℕ
+-- "Where a book is turned back": the number of each row from 2 to 10,
+abbrev pub faultNumber : Fault → ℕ
 faultNumber bad-length = 2
 faultNumber bad-trailer = 3
 faultNumber bad-count = 4
@@ -21,18 +16,13 @@ faultNumber bad-sort = 8
 faultNumber bad-root = 9
 faultNumber bad-size = 10
 
-abbrev reasonNumber : Reason → ℕ
+-- and from 11 to 15.
+abbrev pub reasonNumber : Reason → ℕ
 reasonNumber unbound = 11
 reasonNumber not-function = 12
 reasonNumber no-field = 13
 reasonNumber conflict = 14
 reasonNumber mismatch = 15
-
--- the number of a refusal's row
-abbrev pub number : Refusal → ℕ
-number bad-buffer = 1
-number (malformed f) = faultNumber f
-number (ill-typed r) = reasonNumber r
 
 -- "A run says value ..; else spent ..; else no room"
 pub data Stop : Type 0 where
@@ -40,7 +30,7 @@ pub data Stop : Type 0 where
 
 pub data Answer : Type 0 where
   -- "Answer: number and cell (0 for 1 to 4)"
-  refused : Refusal → ℕ → Answer
+  refused : ℕ → ℕ → Answer
   -- "A check lays down the type and gives its size"
   accepted : ℕ → Answer
   -- "Each carries the steps taken"
@@ -48,7 +38,7 @@ pub data Answer : Type 0 where
 
 -- The steps that a run reports; 0 where it reports none.
 abbrev pub stepsOf : Answer → ℕ
-stepsOf (refused r i) = 0
+stepsOf (refused n i) = 0
 stepsOf (accepted n) = 0
 stepsOf (stopped s n) = n
 

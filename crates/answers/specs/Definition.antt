@@ -12,25 +12,25 @@ use Rattle.calculus.specs.Infer as Infer
 use Rattle.calculus.specs.Decide.{value?}
 use Rattle.calculus.specs.Evaluate.{next}
 use Rattle.format.specs.Book.{Finding, sizeLimit, formFinding, rootOf, follow, opened, typeBook, termBook}
-use Rattle.answers.specs.Answer.{Refusal, bad-buffer, malformed, ill-typed, Stop, value, spent, room, refused, accepted, stopped, Result, result}
+use Rattle.answers.specs.Answer.{faultNumber, reasonNumber, Stop, value, spent, room, refused, accepted, stopped, Result, result}
 use Rattle.answers.specs.Engine.{Engine, workLength, zeros, laid}
 
 -- "all others zero the work buffer"
-unfoldable pub turnedBack : Refusal → ℕ → Result
-turnedBack r i = result (refused r i) (zeros workLength)
+unfoldable pub turnedBack : ℕ → ℕ → Result
+turnedBack n i = result (refused n i) (zeros workLength)
 
 -- What typing says of a book past row 10: g answers for the type found.
 unfoldable pub afterTyping : List ℕ → (Ty → Result) → Found → Result
 afterTyping b g (found A) = g A
-afterTyping b g (Infer.refused r p) = turnedBack (ill-typed r) (follow b (rootOf b) p)
+afterTyping b g (Infer.refused r p) = turnedBack (reasonNumber r) (follow b (rootOf b) p)
 
 unfoldable pub afterForm : List ℕ → (Ty → Result) → Option Finding → Result
 afterForm b g none = afterTyping b g (infer [] (opened b))
-afterForm b g (some f) = turnedBack (malformed (f .fault)) (f .cell)
+afterForm b g (some f) = turnedBack (faultNumber (f .fault)) (f .cell)
 
 -- Rows 1 to 15 in their order; g answers for a book that no row meets. "Refusal 1 touches nothing"
 unfoldable pub judge : List ℕ → List ℕ → (Ty → Result) → Result
-judge b w g = elim (eqb (length w) workLength) [ true ↦ afterForm b g (formFinding b) | false ↦ result (refused bad-buffer 0) w ]
+judge b w g = elim (eqb (length w) workLength) [ true ↦ afterForm b g (formFinding b) | false ↦ result (refused 1 0) w ]
 
 -- "A check lays down the type and gives its size"
 unfoldable pub shown : Ty → Result

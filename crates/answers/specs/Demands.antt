@@ -56,6 +56,13 @@ Demand2 E = (b : List ℕ) → IsBytes b → Demand2For E b
 abbrev pub EndsOrSteps : Term → Type 0
 EndsOrSteps f = (IsValue f × ((g : Term) → ¬ Step f g)) ⊎ ((¬ IsValue f) × ((g : Term) × Step f g × ((h : Term) → Step f h → h ≡ g)))
 
+-- "two laptops running that book agree": one answered x under its limit, the other y under its own.
+pub record Agree (limit other : ℕ) (x y : Result) : Type 0 where
+  -- "one whose limit is no higher than the other's reports as its steps the lesser of its limit and the other's steps;
+  pub lesser : limit ≤ other → stepsOf (x .answer) ≡ min limit (stepsOf (y .answer))
+  -- and unless that one was stopped for steps, both give the same answer and the same bytes."
+  pub same : limit ≤ other → ((n : ℕ) → x .answer ≢ stopped spent n) → x ≡ y
+
 -- Demand 3, of one accepted book, whole: "whichever half each merge on the way is read from,
 pub record Demand3For (E : Engine) (b : List ℕ) : Type 0 where
   -- every term it reaches after any number of steps, with room for it or without, is the only one reached after that many;
@@ -70,12 +77,9 @@ pub record Demand3For (E : Engine) (b : List ℕ) : Type 0 where
   -- "And for every two step limits, two laptops running that book agree: each lays down the term reached after the steps it reports;
   pub lays-down : (w : List ℕ) (limit : ℕ) → IsWork w → IsLimit limit →
       (s : Stop) × (n : ℕ) × (f : Term) × Reaches n (opened b) f × (E .run b w limit ≡ result (stopped s n) (laid (termBook f)))
-  -- one whose limit is no higher than the other's reports as its steps the lesser of its limit and the other's steps;
-  pub lesser : (w v : List ℕ) (limit other : ℕ) → IsWork w → IsWork v → IsLimit limit → IsLimit other → limit ≤ other →
-      stepsOf (E .run b w limit .answer) ≡ min limit (stepsOf (E .run b v other .answer))
-  -- and unless that one was stopped for steps, both give the same answer and the same bytes."
-  pub same : (w v : List ℕ) (limit other : ℕ) → IsWork w → IsWork v → IsLimit limit → IsLimit other → limit ≤ other →
-      ((n : ℕ) → E .run b w limit .answer ≢ stopped spent n) → E .run b w limit ≡ E .run b v other
+  -- one whose limit is no higher .., and unless that one was stopped for steps, both give the same answer and the same bytes."
+  pub agree : (w v : List ℕ) (limit other : ℕ) → IsWork w → IsWork v → IsLimit limit → IsLimit other →
+      Agree limit other (E .run b w limit) (E .run b v other)
 
 abbrev pub Demand3 : Engine → Type 0
 Demand3 E = (b : List ℕ) → IsBytes b → Accepts E b → Demand3For E b

@@ -1,10 +1,10 @@
--- Document 01, "Sample books": those marked M, as one list. Bytes, answers and laid-down bytes are literals. Assumes nothing.
+-- Document 01, "Sample books": those marked M, as one list; and a small book for each row from 2 to 15 of "Where a book is turned back".
+-- Bytes, answers and laid-down bytes are literals. Assumes nothing.
 use Prim.Native.Nat.{ℕ}
 use Prim.Native.String.{String}
 use mathlib.Core.Path.{_≡_}
 use mathlib.Core.List.{List, [], _∷_, _++_}
-use Rattle.calculus.specs.Infer.{conflict, not-function}
-use Rattle.answers.specs.Answer.{ill-typed, value, spent, Answer, refused, accepted, stopped, Result, result}
+use Rattle.answers.specs.Answer.{value, spent, Answer, refused, accepted, stopped, Result, result}
 use Rattle.answers.specs.Engine.{Engine, IsWork, laid}
 
 pub data Call : Type 0 where
@@ -146,18 +146,35 @@ ownFixpoint =
     ++ line 23 0 0 0 1 0 0 0
     ++ line 240 1 3 0 2 0 0 0
 
+-- the top value, merged with itself 12 times over by sharing
+unfoldable pub doubled : List ℕ
+doubled =
+    line 18 0 0 0 0 0 0 0
+    ++ line 22 0 0 0 0 0 0 0
+    ++ line 22 0 1 0 1 0 0 0
+    ++ line 22 0 2 0 2 0 0 0
+    ++ line 22 0 3 0 3 0 0 0
+    ++ line 22 0 4 0 4 0 0 0
+    ++ line 22 0 5 0 5 0 0 0
+    ++ line 22 0 6 0 6 0 0 0
+    ++ line 22 0 7 0 7 0 0 0
+    ++ line 22 0 8 0 8 0 0 0
+    ++ line 22 0 9 0 9 0 0 0
+    ++ line 22 0 10 0 10 0 0 0
+    ++ line 22 0 11 0 11 0 0 0
+
 -- every sample marked M: the check, and the run with a limit equal to its steps and with one above
 unfoldable pub samples : List Sample
 samples =
     sample "1 merged with 1" equalNumbers check (accepted 3) (line 1 0 0 0 0 0 0 0 ++ line 1 0 0 0 0 0 0 0 ++ line 4 0 0 0 1 0 0 0 ++ line 240 1 3 0 2 0 0 0)
     ∷ sample "1 merged with 1" equalNumbers (run 0) (stopped value 0) (line 17 0 0 0 1 0 0 0 ++ line 17 0 0 0 1 0 0 0 ++ line 22 0 0 0 1 0 0 0 ++ line 240 1 3 0 2 0 0 0)
     ∷ sample "1 merged with 1" equalNumbers (run 1) (stopped value 0) (line 17 0 0 0 1 0 0 0 ++ line 17 0 0 0 1 0 0 0 ++ line 22 0 0 0 1 0 0 0 ++ line 240 1 3 0 2 0 0 0)
-    ∷ sample "1 merged with 2" unequalNumbers check (refused (ill-typed conflict) 2) []
-    ∷ sample "1 merged with 2" unequalNumbers (run 0) (refused (ill-typed conflict) 2) []
-    ∷ sample "1 merged with 2" unequalNumbers (run 1) (refused (ill-typed conflict) 2) []
-    ∷ sample "a variable merged with itself" mergedVariable check (refused (ill-typed conflict) 2) []
-    ∷ sample "a variable merged with itself" mergedVariable (run 0) (refused (ill-typed conflict) 2) []
-    ∷ sample "a variable merged with itself" mergedVariable (run 1) (refused (ill-typed conflict) 2) []
+    ∷ sample "1 merged with 2" unequalNumbers check (refused 14 2) []
+    ∷ sample "1 merged with 2" unequalNumbers (run 0) (refused 14 2) []
+    ∷ sample "1 merged with 2" unequalNumbers (run 1) (refused 14 2) []
+    ∷ sample "a variable merged with itself" mergedVariable check (refused 14 2) []
+    ∷ sample "a variable merged with itself" mergedVariable (run 0) (refused 14 2) []
+    ∷ sample "a variable merged with itself" mergedVariable (run 1) (refused 14 2) []
     ∷ sample "1 under Int and Int, then Int" twiceRead check (accepted 1) (line 1 0 0 0 0 0 0 0 ++ line 240 1 1 0 0 0 0 0)
     ∷ sample "1 under Int and Int, then Int" twiceRead (run 2) (stopped value 2) (line 17 0 0 0 1 0 0 0 ++ line 240 1 1 0 0 0 0 0)
     ∷ sample "1 under Int and Int, then Int" twiceRead (run 3) (stopped value 2) (line 17 0 0 0 1 0 0 0 ++ line 240 1 1 0 0 0 0 0)
@@ -170,13 +187,32 @@ samples =
     ∷ sample "the top value applied to 3" appliedTop check (accepted 1) (line 2 0 0 0 0 0 0 0 ++ line 240 1 1 0 0 0 0 0)
     ∷ sample "the top value applied to 3" appliedTop (run 1) (stopped value 1) (line 18 0 0 0 0 0 0 0 ++ line 240 1 1 0 0 0 0 0)
     ∷ sample "the top value applied to 3" appliedTop (run 2) (stopped value 1) (line 18 0 0 0 0 0 0 0 ++ line 240 1 1 0 0 0 0 0)
-    ∷ sample "3 applied to 4" appliedNumber check (refused (ill-typed not-function) 2) []
-    ∷ sample "3 applied to 4" appliedNumber (run 0) (refused (ill-typed not-function) 2) []
-    ∷ sample "3 applied to 4" appliedNumber (run 1) (refused (ill-typed not-function) 2) []
+    ∷ sample "3 applied to 4" appliedNumber check (refused 12 2) []
+    ∷ sample "3 applied to 4" appliedNumber (run 0) (refused 12 2) []
+    ∷ sample "3 applied to 4" appliedNumber (run 1) (refused 12 2) []
     ∷ sample "the hidden field" hiddenField check (accepted 1) (line 1 0 0 0 0 0 0 0 ++ line 240 1 1 0 0 0 0 0)
     ∷ sample "the hidden field" hiddenField (run 4) (stopped value 4) (line 17 0 0 0 2 0 0 0 ++ line 240 1 1 0 0 0 0 0)
     ∷ sample "the hidden field" hiddenField (run 5) (stopped value 4) (line 17 0 0 0 2 0 0 0 ++ line 240 1 1 0 0 0 0 0)
     ∷ sample "the fixpoint of its own variable" ownFixpoint check (accepted 1) (line 1 0 0 0 0 0 0 0 ++ line 240 1 1 0 0 0 0 0)
     ∷ sample "the fixpoint of its own variable" ownFixpoint (run 0) (stopped spent 0) (line 16 0 0 0 0 0 0 0 ++ line 1 0 0 0 0 0 0 0 ++ line 23 0 0 0 1 0 0 0 ++ line 240 1 3 0 2 0 0 0)
     ∷ sample "the fixpoint of its own variable" ownFixpoint (run 1) (stopped spent 1) (line 16 0 0 0 0 0 0 0 ++ line 1 0 0 0 0 0 0 0 ++ line 23 0 0 0 1 0 0 0 ++ line 1 0 0 0 0 0 0 0 ++ line 19 0 2 0 3 0 0 0 ++ line 240 1 5 0 4 0 0 0)
+    ∷ []
+
+-- A small book for each row from 2 to 15, with the number and the cell that it is turned back with. docs/FORMAT.md has the same books.
+unfoldable pub refusals : List Sample
+refusals =
+    sample "a number and a trailer cut short" (line 17 0 0 0 1 0 0 0 ++ 240 ∷ 1 ∷ 1 ∷ 0 ∷ 0 ∷ 0 ∷ 0 ∷ []) check (refused 2 0) []
+    ∷ sample "a trailer that does not begin with F0" (line 17 0 0 0 1 0 0 0 ++ line 0 1 1 0 0 0 0 0) check (refused 3 0) []
+    ∷ sample "one cell counted as two" (line 17 0 0 0 1 0 0 0 ++ line 240 1 2 0 0 0 0 0) check (refused 4 0) []
+    ∷ sample "a cell of kind 0" (line 17 0 0 0 1 0 0 0 ++ line 0 0 0 0 0 0 0 0 ++ line 240 1 2 0 1 0 0 0) check (refused 5 1) []
+    ∷ sample "a top value with a label" (line 17 0 0 0 1 0 0 0 ++ line 18 7 0 0 0 0 0 0 ++ line 240 1 2 0 1 0 0 0) check (refused 6 1) []
+    ∷ sample "a merge with itself" (line 17 0 0 0 1 0 0 0 ++ line 22 0 0 0 1 0 0 0 ++ line 240 1 2 0 1 0 0 0) check (refused 7 1) []
+    ∷ sample "a type annotated" (line 1 0 0 0 0 0 0 0 ++ line 19 0 0 0 0 0 0 0 ++ line 240 1 2 0 1 0 0 0) check (refused 8 1) []
+    ∷ sample "a root that is a type" (line 17 0 0 0 1 0 0 0 ++ line 1 0 0 0 0 0 0 0 ++ line 240 1 2 0 1 0 0 0) check (refused 9 1) []
+    ∷ sample "the top value merged with itself 12 times over" (doubled ++ line 240 1 13 0 12 0 0 0) check (refused 10 12) []
+    ∷ sample "a variable under too few binders" (line 1 0 0 0 0 0 0 0 ++ line 16 0 1 0 0 0 0 0 ++ line 21 0 1 0 0 0 0 0 ++ line 240 1 3 0 2 0 0 0) check (refused 11 1) []
+    ∷ sample "3 applied to 4" appliedNumber check (refused 12 2) []
+    ∷ sample "field 8 of a record with label 7" (line 17 0 0 0 5 0 0 0 ++ line 24 7 0 0 0 0 0 0 ++ line 25 8 1 0 0 0 0 0 ++ line 240 1 3 0 2 0 0 0) check (refused 13 2) []
+    ∷ sample "1 merged with 2" unequalNumbers check (refused 14 2) []
+    ∷ sample "the top value under Int" (line 1 0 0 0 0 0 0 0 ++ line 18 0 0 0 0 0 0 0 ++ line 19 0 1 0 0 0 0 0 ++ line 240 1 3 0 2 0 0 0) check (refused 15 1) []
     ∷ []

@@ -18,7 +18,7 @@ use Rattle.format.specs.Book.{unnamedOk, referenceOk, sortOk, everyField, first
 use Rattle.cells.specs.declared.Cell.{Cell}
 use Rattle.cells.specs.declared.Entry.{Entry}
 use Rattle.cells.specs.Coded.{asCell, rowFrom}
-use Rattle.answers.specs.Answer.{refused, malformed}
+use Rattle.answers.specs.Answer.{refused, faultNumber}
 use Rattle.outcome.specs.Numbers.{refusalAnswer}
 use Rattle.outcome.specs.declared.Refusal.{Refusal}
 use Rattle.outcome.specs.declared.Refusal.the-variants.{Kind, Unnamed, Reference, Sort}
@@ -29,7 +29,7 @@ use Rattle.book.proofs.Fields.{Read, lower, uses-of}
 
 -- ---- one cell
 
-found : (s : List ℕ) (i : ℕ) (f : Fault) (q : Refusal) → refusalAnswer q ≡ refused (malformed f) i → cellFault s i ≡ some f → CellCheck s i (Bad q)
+found : (s : List ℕ) (i : ℕ) (f : Fault) (q : Refusal) → refusalAnswer q ≡ refused (faultNumber f) i → cellFault s i ≡ some f → CellCheck s i (Bad q)
 found s i f q h e = record { says = rw e (q, refl, h) }
 
 clear : (s : List ℕ) (i : ℕ) → cellFault s i ≡ none → CellCheck s i Clear

@@ -12,11 +12,11 @@ use lib.Seq.{getD-take, getD-drop}
 use Rattle.format.specs.Table.{term-sort}
 use Rattle.format.specs.Cell.{byte, pair, cellAt}
 use Rattle.format.specs.Tree.{cells, treeAt}
-use Rattle.format.specs.Book.{bad-length, bad-trailer, bad-count, Finding, count, trailerAt, rootOf, hasSort, sizeLimit}
+use Rattle.format.specs.Book.{Fault, bad-length, bad-trailer, bad-count, Finding, count, trailerAt, rootOf, hasSort, sizeLimit}
 use Rattle.format.specs.Book.{lengthOk, trailerOk, countOk, cellsFinding, cellsForm, rootFinding, formFinding}
 use Rattle.format.proofs.Opening.{treeAt-same}
 use Rattle.format.proofs.Tests.{cellsForm-says}
-use Rattle.answers.specs.Answer.{refused, malformed}
+use Rattle.answers.specs.Answer.{refused, faultNumber}
 use Rattle.outcome.specs.Numbers.{refusalAnswer}
 use Rattle.outcome.specs.declared.Refusal.{Refusal}
 use Rattle.outcome.specs.declared.Refusal.the-variants.{Length, Trailer, Count}
@@ -78,32 +78,38 @@ module _ {b : List ℕ} (l : Long b) where
 
 -- ---- findings
 
-found : (b : List ℕ) (f : Finding) (q : Refusal) → refusalAnswer q ≡ refused (malformed (f .fault)) (f .cell) → formFinding b ≡ some f
+found : (b : List ℕ) (f : Finding) (q : Refusal) → refusalAnswer q ≡ refused (faultNumber (f .fault)) (f .cell) → formFinding b ≡ some f
     → FormCheck b (Malformed q)
 found b f q h e = record { says = rw e (q, refl, h) }
 
+-- rows 2 to 4 name cell 0
+found-first : (b : List ℕ) (f : Fault) (q : Refusal) → refusalAnswer q ≡ refused (faultNumber f) 0 →
+    cellsForm b ≡ some (record { fault = f; cell = 0 }) → FormCheck b (Malformed q)
+unfolding formFinding
+found-first b f q h e = found b (record { fault = f; cell = 0 }) q h (rw (e, formFinding))
+
 pub length-bad : (b : List ℕ) {r : Bool} → r ≡ lengthOk b → not r ≡ true → FormCheck b (Malformed Length)
-unfolding formFinding cellsForm
+unfolding cellsForm
 length-bad b {r} e h =
     let c : cellsForm b ≡ some (record { fault = bad-length; cell = 0 }) = rw (sym e ∙ not-true r h, cellsForm) in
-    found b _ Length refl (rw (c, formFinding))
+    found-first b bad-length Length refl c
 
 pub trailer-bad : (b : List ℕ) {r m : Bool} → r ≡ lengthOk b → not r ≡ false → m ≡ markOk (trailerPart b) → not m ≡ true
     → FormCheck b (Malformed Trailer)
-unfolding formFinding cellsForm
+unfolding cellsForm
 trailer-bad b {r} {m} e h f k =
     let c : cellsForm b ≡ some (record { fault = bad-trailer; cell = 0 }) =
     rw (sym e ∙ not-false r h, sym (f ∙ mark-at (long b e h)) ∙ not-true m k, cellsForm) in
-    found b _ Trailer refl (rw (c, formFinding))
+    found-first b bad-trailer Trailer refl c
 
 pub count-bad : (b : List ℕ) {r m n : Bool} → r ≡ lengthOk b → not r ≡ false → m ≡ markOk (trailerPart b) → not m ≡ false
     → n ≡ countedOk (trailerPart b) (count b) → not n ≡ true → FormCheck b (Malformed Count)
-unfolding formFinding cellsForm
+unfolding cellsForm
 count-bad b {r} {m} {n} e h f k g i =
     let l = long b e h in
     let c : cellsForm b ≡ some (record { fault = bad-count; cell = 0 }) =
     rw (sym e ∙ not-false r h, sym (f ∙ mark-at l) ∙ not-false m k, sym (g ∙ counted-at l) ∙ not-true n i, cellsForm) in
-    found b _ Count refl (rw (c, formFinding))
+    found-first b bad-count Count refl c
 
 -- rows 2 to 4 passed: what is left of 5 to 8 are the findings of the part of cells
 pub record Counted (b : List ℕ) : Type 0 where

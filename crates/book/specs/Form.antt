@@ -13,7 +13,7 @@ use Rattle.format.specs.Book.{Fault, bad-root, bad-size, Finding, everyField, h
 use Rattle.cells.specs.declared.Cell.{Cell}
 use Rattle.cells.specs.declared.Entry.{Entry}
 use Rattle.cells.specs.Coded.{asCell, rowFrom}
-use Rattle.answers.specs.Answer.{refused, malformed}
+use Rattle.answers.specs.Answer.{refused, faultNumber}
 use Rattle.outcome.specs.Numbers.{refusalAnswer}
 use Rattle.outcome.specs.declared.Refusal.{Refusal}
 use Rattle.book.specs.declared.Check.{Check}
@@ -45,7 +45,7 @@ pub record EveryField (q : Use → ℕ → Bool) (t : Cell) (r : Bool) : Type 0 
 -- A finding, as a refusal of the same number and cell; or none.
 abbrev pub ChecksAs : Check → Option Finding → Type 0
 ChecksAs r none = r ≡ Clear
-ChecksAs r (some f) = (q : Refusal) × (r ≡ Bad q) × (refusalAnswer q ≡ refused (malformed (f .fault)) (f .cell))
+ChecksAs r (some f) = (q : Refusal) × (r ≡ Bad q) × (refusalAnswer q ≡ refused (faultNumber (f .fault)) (f .cell))
 
 abbrev pub atCell : Option Fault → ℕ → Option Finding
 atCell none i = none
@@ -86,7 +86,7 @@ pub record RootCheck (s : List ℕ) (i : ℕ) (r : Check) : Type 0 where
 
 abbrev pub FormsAs : List ℕ → Form → Option Finding → Type 0
 FormsAs s r none = r ≡ WellFormed (rootOf s)
-FormsAs s r (some f) = (q : Refusal) × (r ≡ Malformed q) × (refusalAnswer q ≡ refused (malformed (f .fault)) (f .cell))
+FormsAs s r (some f) = (q : Refusal) × (r ≡ Malformed q) × (refusalAnswer q ≡ refused (faultNumber (f .fault)) (f .cell))
 
 -- rows 2 to 10: the root, or why the book is turned back
 pub record FormCheck (s : List ℕ) (r : Form) : Type 0 where

@@ -5,12 +5,12 @@ use mathlib.Core.Path.{_≡_, refl}
 use mathlib.Core.Logic.{_≢_, _⊎_, inl, inr}
 use mathlib.Core.Bool.{true, false}
 use mathlib.Core.Option.{some}
-use mathlib.Core.List.{[], _∷_}
+use mathlib.Core.List.{[], _∷_, map}
 use lib.IntN.{pos}
 use native.Mathlib.Omega.{arith}
 use native.Mathlib.Decide.{ℕ-discrete}
 use Rattle.calculus.specs.Syntax.{Ty, int, top, arrow, inter, field}
-use Rattle.calculus.specs.Syntax.{Term, var, lit, unit, anno, app, lam, merge, rcd, put, size-type}
+use Rattle.calculus.specs.Syntax.{Term, var, lit, unit, anno, app, lam, merge, fix, rcd, proj, put, size-type}
 use Rattle.calculus.specs.Syntax.{Value, v-lit, v-lam, v-merge, v-rcd}
 use Rattle.calculus.specs.Subtyping.{Below, b-int, b-top, b-left, b-right, b-arrow, b-field}
 use Rattle.calculus.specs.Disjointness.{Disjoint, h-int, h-arrow, DisjointByList}
@@ -21,7 +21,8 @@ use Rattle.calculus.specs.Typing.{Typed, t-lit, t-anno, t-merge, t-merge
 use Rattle.calculus.specs.Step.{Step, s-app-left, s-app-right, s-merge-left, s-merge-right, s-anno, s-rcd, s-cast, s-beta}
 use Rattle.calculus.specs.Decide.{topLike?, belowWithin, below?, disjointInt, disjointArrow, disjoint?, value?, closed?}
 use Rattle.calculus.specs.Decide.{decided, sameUnder, sameInteger, sameType, sameTerm, eachPart, consistentLit, consistentLam, consistent?}
-use Rattle.calculus.specs.Infer.{conflict, refused, checked, mergeable?, merged, infer}
+use Rattle.calculus.specs.Infer.{unbound, not-function, no-field, conflict, mismatch, refused}
+use Rattle.calculus.specs.Infer.{lookup, checked, applied, projected, labelled, mergeable?, merged, infer}
 use Rattle.calculus.specs.Evaluate.{within, orElse, mergeBoth, firstPart, castInt, castArrow, cast, apply, next}
 
 abbrev number : ℕ → Term
@@ -185,3 +186,47 @@ consistent?-constants = refl
 consistent?-identity : consistent? (lam (var 0) int int) (constant 1) ≡ false
 unfolding consistent? eachPart consistentLam disjoint? disjointArrow disjointInt sameTerm sameType decided ℕ-discrete
 consistent?-identity = refl
+
+-- ---- Rows 11 to 15: the part that a refusal names, as the way to it from the term (0 for field a, 1 for field b).
+
+-- a function that is given the top value under its input type Int
+abbrev misapplied : Term
+misapplied = app (lam (var 0) int int) unit
+
+places :
+    map (infer [])
+    (lam (var 1) int int
+    ∷ rcd 7 (merge unit (var 0))
+    ∷ app (number 3) (var 0)
+    ∷ app unit (app (number 3) (number 4))
+    ∷ proj 8 (rcd 7 (number 5))
+    ∷ merge unit (proj 8 (number 5))
+    ∷ merge (number 1) (number 2)
+    ∷ proj 7 (merge (number 1) (number 2))
+    ∷ anno unit int
+    ∷ lam unit int int
+    ∷ fix unit int
+    ∷ misapplied
+    ∷ rcd 7 (merge misapplied (var 0))
+    ∷ [])
+    -- 11: the variable, under too few binders; under a record and a merge
+    ≡ (refused unbound (0 ∷ [])
+    ∷ refused unbound (0 ∷ 1 ∷ [])
+    -- 12: the application, before its right side is walked; within another
+    ∷ refused not-function []
+    ∷ refused not-function (1 ∷ [])
+    -- 13: the field read, and one within a merge
+    ∷ refused no-field []
+    ∷ refused no-field (1 ∷ [])
+    -- 14: the merge, and one that a field is read of
+    ∷ refused conflict []
+    ∷ refused conflict (0 ∷ [])
+    -- 15: what is annotated, a function's body, a fixpoint's body, an argument; and the first finding stands
+    ∷ refused mismatch (0 ∷ [])
+    ∷ refused mismatch (0 ∷ [])
+    ∷ refused mismatch (0 ∷ [])
+    ∷ refused mismatch (1 ∷ [])
+    ∷ refused mismatch (0 ∷ 0 ∷ 1 ∷ [])
+    ∷ [])
+unfolding infer lookup checked applied projected labelled merged mergeable? below? belowWithin topLike? size-type disjoint? disjointInt value? closed? consistent? eachPart consistentLit decided sameInteger sameUnder ℕ-discrete
+places = refl

@@ -11,4 +11,5 @@ pub mod Typing
 pub mod Soundness
 pub mod Chain
 pub mod Inference
+pub mod Places
 pub mod Evaluation

@@ -48,8 +48,6 @@ pub record TwoTypes (s : List ℕ) (i : ℕ) (f : Ty → Ty → Ty) (A : Ty) : T
   pub first : Ty
   pub second : Ty
   pub is : A ≡ f first second
-  pub first-lower : cellAt s i .a < i
-  pub second-lower : cellAt s i .b < i
   pub holds-first : RunsType s (cellAt s i .a) first
   -- it begins behind the first
   pub run-second : Run true s (suc (cellAt s i .a)) (refers type-sort) (cellAt s i .b) (fromType second) (suc (cellAt s i .b))
@@ -58,7 +56,6 @@ pub record TwoTypes (s : List ℕ) (i : ℕ) (f : Ty → Ty → Ty) (A : Ty) : T
 pub record OneType (s : List ℕ) (i : ℕ) (A : Ty) : Type 0 where
   pub content : Ty
   pub is : A ≡ field (cellAt s i .label) content
-  pub lower : cellAt s i .a < i
   pub holds : RunsType s (cellAt s i .a) content
 
 -- a type of two, whatever its kind
@@ -69,8 +66,6 @@ two-types w a b =
       first = w .first;
       second = w .second;
       is = w .is;
-      first-lower = w .first-lower;
-      second-lower = w .second-lower;
       holds-first = runs-type a;
       run-second = rw (ends a) at (whole b);
       holds-second = runs-type b;
@@ -96,7 +91,7 @@ module _ {s : List ℕ} {i : ℕ} {A : Ty} (r : RunsType s i A) where
   field-at k =
       let w = Held.field-at (holds-type r) k in
       let p = fields (rw (w .is) at r .run) refl in
-      record { content = w .content; is = w .is; lower = w .lower; holds = runs-type (p .first) }
+      record { content = w .content; is = w .is; holds = runs-type (p .first) }
 
 -- ---- terms
 
@@ -112,8 +107,6 @@ pub record TwoTerms (s : List ℕ) (i : ℕ) (f : Term → Term → Term) (e : T
   pub first : Term
   pub second : Term
   pub is : e ≡ f first second
-  pub first-lower : cellAt s i .a < i
-  pub second-lower : cellAt s i .b < i
   pub holds-first : RunsTerm s (cellAt s i .a) first
   pub holds-second : RunsTerm s (cellAt s i .b) second
 
@@ -164,8 +157,6 @@ module _ {s : List ℕ} {i : ℕ} {e : Term} (r : RunsTerm s i e) where
         first = w .first;
         second = w .second;
         is = w .is;
-        first-lower = w .first-lower;
-        second-lower = w .second-lower;
         holds-first = runs-term (t .fits .0) (p .first);
         holds-second = runs-term (t .fits .1) (p .second);
       }

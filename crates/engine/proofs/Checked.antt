@@ -1,24 +1,35 @@
 -- What the definition answers to a check means what demand 2 says. Assumes nothing.
 use Prim.Native.Nat.{ℕ}
-use mathlib.Core.Path.{sym, _∙_, ap}
+use mathlib.Core.Path.{_≡_, sym, _∙_, ap, subst}
+use mathlib.Core.Logic.{_≢_}
 use mathlib.Core.List.{List}
-use Rattle.calculus.specs.Syntax.{size-type}
+use native.Mathlib.Omega.{arith}
+use Rattle.calculus.specs.Syntax.{Ty, size-type}
 use Rattle.calculus.proofs.Typing.{typed-size}
 use Rattle.format.specs.Cell.{IsBytes}
-use Rattle.answers.specs.Answer.{Result}
+use Rattle.answers.specs.Answer.{refused, Result}
 use Rattle.answers.specs.Definition.{check, judge, shown}
 use Rattle.answers.proofs.Demands.{demand2}
 use Rattle.outcome.specs.declared.Outcome.{Outcome}
+use Rattle.engine.specs.Rows.{Refuses}
 use Rattle.engine.specs.Check.{Checked}
 use Rattle.engine.specs.Inner.{Gives}
+use Rattle.engine.proofs.Rows.{judge-refuses}
+
+shown-accepts : (A : Ty) (n i : ℕ) → shown A .answer ≢ refused n i
+unfolding shown
+shown-accepts A n i e = let z : _≡_ {A = ℕ} 0 1 = cc in absurd (omega arith)
 
 module _ {b w v : List ℕ} {r : Outcome} (bytes : IsBytes b) where
   meaning : Gives v r (check b w) → Checked b w v r
+  unfolding check
   meaning g =
       let d = demand2 b bytes in
       record {
         answer = g .answer;
         left = g .left;
+        refuses = λ n i e.
+            subst (λ (u : List ℕ). Refuses b w u n i) (sym (g .left)) (judge-refuses b w bytes shown shown-accepts n i (sym (g .answer) ∙ e));
         accepts = λ k. (
           (λ n. d .accepts .0 (record { work = w; is-work = k; size = n .0; answers = sym (g .answer) ∙ n .1 })),
           λ t. (size-type (t .1 .0), g .answer ∙ ap (λ (x : Result). x .answer) (d .shows (t .1 .0) (t .0) (t .1 .1) w k)),

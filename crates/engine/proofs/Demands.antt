@@ -1,15 +1,25 @@
 -- Every engine that meets the contracts of the two public calls meets demands 2 and 3, whole. Assumes nothing.
 use Prim.Native.Nat.{ℕ}
 use mathlib.Core.Path.{_≡_, sym, _∙_, subst}
-use mathlib.Core.List.{List}
+use mathlib.Core.List.{List, []}
+use Rattle.calculus.specs.Syntax.{Ty}
+use Rattle.calculus.specs.Typing.{Typed}
 use Rattle.format.specs.Cell.{IsBytes}
-use Rattle.format.specs.Book.{opened}
+use Rattle.format.specs.Book.{opened, WellFormed}
 use Rattle.answers.specs.Answer.{Answer, accepted, Result, result}
-use Rattle.answers.specs.Engine.{Engine, IsLimit}
+use Rattle.answers.specs.Engine.{Engine, IsWork, IsLimit}
 use Rattle.answers.specs.Definition.{definition, check, run}
-use Rattle.answers.specs.Demands.{Accepts, Runs, Demand2, Demand3}
+use Rattle.answers.specs.Demands.{Accepts, Runs, Agree, Demand2, Demand3}
 use Rattle.answers.proofs.Demands.{demand2, demand3-from-2}
+use Rattle.outcome.specs.Numbers.{answerOf}
+use Rattle.outcome.specs.declared.Outcome.{Outcome}
+use Rattle.engine.specs.Run.{Ran}
 use Rattle.engine.specs.Demands.{MeetsContracts}
+
+-- Two laptops, by what the contracts of their two calls say and nothing else.
+pub calls-agree : {b w v w′ v′ : List ℕ} {l m : ℕ} {r q : Outcome} {A : Ty} → Ran b w v l r → Ran b w′ v′ m q → IsWork w → IsWork w′ → WellFormed b →
+    Typed [] (opened b) A → Agree l m (result (answerOf r) v) (result (answerOf q) v′)
+calls-agree {v′ = v′} {m = m} {q = q} {A = A} x y j k f t = x .agree j f A t m (result (answerOf q) v′) (y .runs k f A t) .0
 
 whole : {a : Answer} {v : List ℕ} {x : Result} → a ≡ x .answer → v ≡ x .left → result a v ≡ x
 whole p q = rw (p, q)

@@ -1,16 +1,19 @@
 -- The root laid down and run; what the definition answers to a run means what demands 2 and 3 say. Assumes nothing.
 use Prim.Native.Nat.{ℕ, suc, _≤_}
 use mathlib.Core.Path.{_≡_, sym, subst, _∙_}
+use mathlib.Core.Logic.{_≢_}
 use lib.ListN.{length}
-use mathlib.Core.List.{List}
+use mathlib.Core.List.{List, []}
 use native.Mathlib.Omega.{arith}
-use Rattle.calculus.specs.Syntax.{Term}
+use Rattle.calculus.specs.Syntax.{Ty, Term}
+use Rattle.calculus.specs.Typing.{Typed}
 use Rattle.format.specs.Cell.{IsBytes}
-use Rattle.format.specs.Book.{opened, sizeLimit}
-use Rattle.answers.specs.Answer.{Result, result}
+use Rattle.format.specs.Book.{opened, sizeLimit, WellFormed}
+use Rattle.answers.specs.Answer.{refused, Result, result}
+use Rattle.answers.specs.Engine.{IsWork}
 use Rattle.answers.specs.Definition.{run, judge, told, reported}
 use Rattle.answers.specs.Demands as Demands
-use Rattle.answers.proofs.Demands.{typed-accepts, definition-runs, demand3}
+use Rattle.answers.proofs.Demands.{typed-accepts, definition-runs, runs-agree, demand3}
 use Rattle.outcome.specs.Numbers.{answerOf}
 use Rattle.outcome.specs.declared.Outcome.{Outcome}
 use Rattle.outcome.specs.declared.Outcome.the-variants.{Stopped}
@@ -27,7 +30,9 @@ use Rattle.format.specs.Tree.{cells}
 use Rattle.running.specs.Turns.{Lies, StepReady, Runs}
 use Rattle.running.specs.declared.End.{End}
 use Rattle.engine.specs.Inner.{Gives, RootAt, SomeRoot, RunsRoot}
+use Rattle.engine.specs.Rows.{Refuses}
 use Rattle.engine.specs.Run.{Ran}
+use Rattle.engine.proofs.Rows.{judge-refuses}
 
 -- ---- the root, laid down and run
 
@@ -75,20 +80,30 @@ module _ {w : List ℕ} {i : ℕ} (bytes : IsBytes w) where
 
 -- ---- what the definition answers, and so its meaning
 
+run-stops : (b : List ℕ) (l : ℕ) (A : Ty) (n i : ℕ) → reported b l A .answer ≢ refused n i
+unfolding told
+run-stops b l A n i e = let z : _≡_ {A = ℕ} 0 1 = cc in absurd (omega arith)
+
 module _ {b w v : List ℕ} {l : ℕ} {r : Outcome} (bytes : IsBytes b) where
   meaning : Gives v r (run b w l) → Ran b w v l r
+  unfolding run
   meaning g =
       record {
         answer = g .answer;
         left = g .left;
-        runs = λ k f A t.
-            subst (λ (x : Result). Demands.Runs (opened b) l x) (sym (same g))
-            (definition-runs b w l bytes k (typed-accepts b (f, (A, t))));
-        agree = λ p. demand3 b bytes p;
+        refuses = λ n i e.
+            subst (λ (u : List ℕ). Refuses b w u n i) (sym (g .left)) (judge-refuses b w bytes (reported b l) (run-stops b l) n i (sym (g .answer) ∙ e));
+        runs = runs;
+        book = λ p. demand3 b bytes p;
+        agree = λ k f A t other y q. (runs-agree t (runs k f A t) q, runs-agree t q (runs k f A t));
       }
     where
       same : {x : Result} → Gives v r x → result (answerOf r) v ≡ x
       same h = rw (h .answer, h .left)
+
+      runs : IsWork w → WellFormed b → (A : Ty) → Typed [] (opened b) A → Demands.Runs (opened b) l (result (answerOf r) v)
+      runs k f A t =
+          subst (λ (x : Result). Demands.Runs (opened b) l x) (sym (same g)) (definition-runs b w l bytes k (typed-accepts b (f, (A, t))))
 
   pub ran-as : Gives v r (judge b w (reported b l)) → Ran b w v l r
   unfolding run

@@ -19,7 +19,7 @@ use Rattle.format.specs.Terms.{toTerm, fromType}
 use Rattle.format.proofs.Trees.{type-cells}
 use Rattle.format.specs.Book.{count, WellFormed, rootOf, follow, opened, book, sizeLimit}
 use Rattle.format.proofs.Tests.{opened-small, opened-fits}
-use Rattle.answers.specs.Answer.{Result, refused, accepted, ill-typed}
+use Rattle.answers.specs.Answer.{Result, refused, accepted, reasonNumber}
 use Rattle.answers.specs.Definition.{afterTyping, turnedBack, shown, reported}
 use Rattle.outcome.specs.Numbers.{refusalAnswer}
 use Rattle.outcome.specs.declared.Refusal.{Refusal}
@@ -97,7 +97,7 @@ module _ (b s : List ℕ) (bytes : IsBytes b) (f : WellFormed b) (l : Loaded (ta
           finds q e (a .7) (same-term (a .5) (f .formed .rooted) root-held)
       go (Infer.refused w p) e a =
           let q : r ≡ Refused (a .0) = cc in
-          refuses q e (a .2 ∙ ap (λ (i : ℕ). refused (ill-typed w) i) (way-alike p))
+          refuses q e (a .2 ∙ ap (λ (i : ℕ). refused (reasonNumber w) i) (way-alike p))
 
 type-held : {t : List ℕ} {c : ℕ} {A : Ty} → HoldsType t c A → HeldField t (suc c) (refers type-sort) c (fromType A)
 type-held h = type-field h (omega arith)

@@ -6,17 +6,20 @@ use mathlib.Core.List.{List, []}
 use Rattle.calculus.specs.Syntax.{Ty, size-type, size}
 use Rattle.calculus.specs.Typing.{Typed}
 use Rattle.format.specs.Book.{WellFormed, opened, typeBook}
-use Rattle.answers.specs.Answer.{accepted}
+use Rattle.answers.specs.Answer.{refused, accepted}
 use Rattle.answers.specs.Engine.{IsWork, laid}
 use Rattle.answers.specs.Definition.{check}
 use Rattle.outcome.specs.Numbers.{answerOf}
 use Rattle.outcome.specs.declared.Outcome.{Outcome}
+use Rattle.engine.specs.Rows.{Refuses}
 
 -- The book b, the work buffer w as lent and v as left, and the answer r.
 pub record Checked (b w v : List ℕ) (r : Outcome) : Type 0 where
-  -- the answer and every byte left are the definition's, refusals with their number and cell among them
+  -- the answer, by document 01's number and values, and every byte left are the definition's
   pub answer : answerOf r ≡ check b w .answer
   pub left : v ≡ check b w .left
+  -- turned back: by the number of a row that meets the book, with the cell that it names
+  pub refuses : (n i : ℕ) → answerOf r ≡ refused n i → Refuses b w v n i
   -- accepted precisely if the book is well-formed and the rules derive a type for its root
   pub accepts : IsWork w → ((n : ℕ) × (answerOf r ≡ accepted n)) ↔ (WellFormed b × ((A : Ty) × Typed [] (opened b) A))
   -- that type is the one laid down, and its size, the one given, does not pass the book's own

@@ -7,7 +7,7 @@ use lib.ListN.{length}
 use Rattle.calculus.specs.Syntax.{Ty, size, Term}
 use Rattle.calculus.specs.Typing.{Typed}
 use Rattle.format.specs.Book.{WellFormed, opened, rootOf, follow, sizeLimit}
-use Rattle.answers.specs.Answer.{Result, refused, ill-typed}
+use Rattle.answers.specs.Answer.{Result, refused, reasonNumber}
 use Rattle.answers.specs.Engine.{IsWork, zeros, workLength}
 use Rattle.answers.specs.Definition.{afterTyping, told, evaluate}
 use Rattle.calculus.specs.Infer as Infer
@@ -30,7 +30,7 @@ pub data Begins (b : List ℕ) (n : ℕ) (x : Form) : Type 0 where
   row-1 : n ≢ workLength → x ≡ Malformed Buffer → Begins b n x
   rows-2-to-10 : n ≡ workLength → FormCheck b x → Begins b n x
 
--- "Refusal 1 touches nothing, all others zero the work buffer"
+-- "Refusal 1 touches nothing; all others zero the work buffer."
 pub record TurnsBack (w v : List ℕ) (q : Refusal) (r : Outcome) : Type 0 where
   pub says : r ≡ Outcome·Refused q
   pub zeroed : IsWork w → v ≡ zeros workLength
@@ -50,7 +50,7 @@ pub record Findable (b s : List ℕ) (i : ℕ) : Type 0 where
 pub data FindsRoot (b t : List ℕ) (i : ℕ) (r : Found) : Type 0 where
   finds : {A : Ty} {c k : ℕ} → r ≡ Found·Typed c k → infer [] (opened b) ≡ found A → HoldsType t c A → HoldsTerm t i (opened b) → FindsRoot b t i r
   refuses : {x : Reason} {p : List ℕ} {q : Refusal} → r ≡ Refused q → infer [] (opened b) ≡ Infer.refused x p →
-      refusalAnswer q ≡ refused (ill-typed x) (follow b (rootOf b) p) → FindsRoot b t i r
+      refusalAnswer q ≡ refused (reasonNumber x) (follow b (rootOf b) p) → FindsRoot b t i r
 
 -- The same book and a work buffer.
 pub record Formed (b w : List ℕ) (i : ℕ) : Type 0 where

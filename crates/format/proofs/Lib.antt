@@ -4,3 +4,5 @@ pub mod Opening
 pub mod Tests
 pub mod Laying
 pub mod RoundTrip
+pub mod Assertions
+pub mod Places

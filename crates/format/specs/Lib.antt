@@ -3,3 +3,4 @@ pub mod Cell
 pub mod Tree
 pub mod Terms
 pub mod Book
+pub mod Places

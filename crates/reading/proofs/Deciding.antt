@@ -29,6 +29,7 @@ use Rattle.types.proofs.Heads.{top-like, not-top-like}
 use Rattle.reading.specs.Reads.{isSome, ValueAndType, Readable, ProperAt, NoMerge, SingleAt, PartBy, FindsPart, PartOf}
 use Rattle.reading.specs.declared.Part.{Part}
 use Rattle.reading.specs.declared.Part.the-variants.{At, Nothing}
+use Rattle.reading.proofs.Sizes.{sizeAt, half-smaller, field-smaller, merge-smaller, record-smaller}
 use Rattle.reading.proofs.Single.{single-int, single-arrow, single-field, no-number, no-function, no-record, no-merge}
 
 -- Under any type.
@@ -60,8 +61,7 @@ and-fails s e f g = sym (e ∙ rw (sym f ∙ g) refl)
 pub record Halves (s : List ℕ) (v a p q : ℕ) : Type 0 where
   pub first : ValueAndType s v p
   pub second : ValueAndType s v q
-  pub first-lower : p < a
-  pub second-lower : q < a
+  pub smaller : (sizeAt s p < sizeAt s a) × (sizeAt s q < sizeAt s a)
 
 pub ordinary-at : {s : List ℕ} {a : ℕ} {A : Ty} → HoldsType s a A → (cellAt s a .kind ≡ 4 → ⊥) → Ordinary A
 ordinary-at (h-int p c) n = tt
@@ -81,8 +81,7 @@ module _ {s : List ℕ} {a : ℕ} {y : Cell} (is : y ≡ cellAt s a) (v : ℕ) w
       record {
         first = record { value = b .value; type = p .first; holds-value = b .holds-value; holds-type = p .holds-first };
         second = record { value = b .value; type = p .second; holds-value = b .holds-value; holds-type = p .holds-second };
-        first-lower = p .first-lower;
-        second-lower = p .second-lower;
+        smaller = half-smaller (b .holds-type) (p .is) (p .holds-first) (p .holds-second);
       }
 
   pub reads-both : {q r : Bool} → y .kind ≡ 4 → Readable s v (y .a) q → q ≡ true → Readable s v (y .b) r → Readable s v a r
@@ -147,8 +146,7 @@ module _ {s : List ℕ} {v a : ℕ} {r : Part} (f : FindsPart s v a r) where
 pub record MergeHalves (s : List ℕ) (v a p q : ℕ) : Type 0 where
   pub first : ProperAt s p a
   pub second : ProperAt s q a
-  pub first-lower : p < v
-  pub second-lower : q < v
+  pub smaller : (sizeAt s p < sizeAt s v) × (sizeAt s q < sizeAt s v)
 
 module _ {s : List ℕ} {v a : ℕ} (p : ProperAt s v a) where
   -- the same of whatever the cell of the type holds
@@ -173,8 +171,7 @@ module _ {s : List ℕ} {v a : ℕ} (p : ProperAt s v a) where
         record {
           first = under (m .holds-first);
           second = under (m .holds-second);
-          first-lower = m .first-lower;
-          second-lower = m .second-lower;
+          smaller = merge-smaller (p .both .holds-value) (m .is) (m .holds-first) (m .holds-second);
         }
 
     pub finds-left : {r : Part} {n : ℕ} → x .kind ≡ 22 → FindsPart s (x .a) a r → r ≡ At n → FindsPart s v a r
@@ -252,8 +249,8 @@ field-left (h-field p c u x) o n f g = kind-of p
 -- the content at p of the record at v under that of the record type at a, which is the type at q
 pub record Contents (s : List ℕ) (v a p q : ℕ) : Type 0 where
   pub both : ValueAndType s p q
-  pub value-lower : p < v
-  pub type-lower : q < a
+  pub value-smaller : sizeAt s p < sizeAt s v
+  pub type-smaller : sizeAt s q < sizeAt s a
 
 -- x and y stand in the cells of the value and of the type
 pub record CellsOf (s : List ℕ) (v a : ℕ) (x y : Cell) : Type 0 where
@@ -349,8 +346,8 @@ module _ {s : List ℕ} {v a : ℕ} {x y : Cell} (g : CellsOf s v a x y) where
         let u = rcd-at own-value n in
         record {
           both = record { value = u .term; type = t .content; holds-value = u .holds; holds-type = t .holds };
-          value-lower = u .lower;
-          type-lower = t .lower;
+          value-smaller = record-smaller own-value (u .is) (u .holds);
+          type-smaller = field-smaller own-type (t .is) (t .holds);
         }
 
     pub reads-record : {r : Bool} → x .kind ≡ 24 → x .label ≡ y .label → Readable s (x .a) (y .a) r → Readable s v a r

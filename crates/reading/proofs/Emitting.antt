@@ -37,6 +37,7 @@ use Rattle.emission.proofs.RunParts.{lam-at, arrow-at, inter-at, field-at}
 use Rattle.reading.specs.Reads.{ProperAt, NoMerge, PartOf, ReadingReady, PartReady, EmitsReading, FunctionReady, EmitsFunction}
 use Rattle.reading.specs.declared.Part.{Part}
 use Rattle.reading.specs.declared.Part.the-variants.{At, Nothing}
+use Rattle.reading.proofs.Sizes.{sizeAt, field-smaller}
 use Rattle.reading.proofs.Deciding.{ordinary-at, halves, is-proper, field-left, different}
 use Rattle.reading.proofs.Readings.{BothRead, both-read, number-read, function-read, record-read}
 
@@ -222,8 +223,8 @@ module _ {s d : List ℕ} {v a m : ℕ} {y : Cell} (g : Split s d v a m y) where
   own : HalvesRead s (y .a) (y .b) (g .ready .both .value) (g .ready .reading)
   own = parts (g .ready .both .holds-type) (g .ready .reads)
 
-  pub lower : (y .a < a) × (y .b < a)
-  lower = let p = halves (g .is) v (g .ready .both) (g .kind) in (p .first-lower, p .second-lower)
+  pub smaller : (sizeAt s (y .a) < sizeAt s a) × (sizeAt s (y .b) < sizeAt s a)
+  smaller = halves (g .is) v (g .ready .both) (g .kind) .smaller
 
   -- the value under a half
   half : {i n : ℕ} {o : List ℕ} {B : Ty} {x : Term} → Space o n → RunsType s i B → cast B (g .ready .both .value) ≡ some x → ReadingReady s o v i n
@@ -462,8 +463,8 @@ module _ {s d : List ℕ} {v a m p : ℕ} {y : Cell} (g : Found s d v a m p y) w
     own-record : RecordPart s (t .a) (y .a) (t .label) (g .ready .ready .reading)
     own-record = record-part (g .ready .ready .both .holds-value) (g .ready .ready .both .holds-type) (g .ready .ready .reads)
 
-    pub content-lower : y .a < a
-    content-lower = rw (g .is) (field-at (g .ready .ready .both .holds-type) is-field .lower)
+    pub content-smaller : sizeAt s (y .a) < sizeAt s a
+    content-smaller = rw (g .is) (let h = g .ready .ready .both .holds-type in let f = field-at h is-field in field-smaller h (f .is) (f .holds))
 
     pub content-ready : ReadingReady s d (t .a) (y .a) m
     content-ready = record {

@@ -1,3 +1,4 @@
+pub mod Sizes
 pub mod Single
 pub mod Deciding
 pub mod Readings

@@ -1,14 +1,35 @@
--- The numbers that are shown of an answer. Assumes nothing.
-use Prim.Native.Nat.{ℕ}
-use Rattle.answers.specs.Answer.{Answer, refused, accepted, stopped, number}
+-- How an answer is shown in numbers: a tag, its value, a second figure, and all in one number of 64 bits. Assumes nothing.
+use Prim.Native.Nat.{ℕ, _+_, _*_}
+use Rattle.answers.specs.Answer.{Answer, refused, accepted, stopped, Stop, value, spent, room}
 
--- "Answer: number and cell"
-abbrev pub rowOf : Answer → ℕ
-rowOf (refused r i) = number r
-rowOf (accepted n) = 0
-rowOf (stopped s n) = 0
+abbrev stopTag : Stop → ℕ
+stopTag value = 33
+stopTag spent = 34
+stopTag room = 35
 
-abbrev pub cellOf : Answer → ℕ
-cellOf (refused r i) = i
-cellOf (accepted n) = 0
-cellOf (stopped s n) = 0
+-- a refusal's own number: 1 to 31 are kept for these
+abbrev pub tagOf : Answer → ℕ
+tagOf (refused n i) = n
+tagOf (accepted n) = 32
+tagOf (stopped s n) = stopTag s
+
+-- the refusal's cell, the type's size, the steps
+abbrev pub valueOf : Answer → ℕ
+valueOf (refused n i) = i
+valueOf (accepted n) = n
+valueOf (stopped s n) = n
+
+-- a second figure: no answer has one
+abbrev pub secondOf : Answer → ℕ
+secondOf a = 0
+
+-- 2 to the 32nd: the tag stands above a value of 32 bits,
+abbrev pub tagPlace : ℕ
+tagPlace = 4294967296
+
+-- and 2 to the 40th: the second figure above a tag of 8.
+abbrev pub secondPlace : ℕ
+secondPlace = 1099511627776
+
+abbrev pub packed : Answer → ℕ
+packed a = secondOf a * secondPlace + tagOf a * tagPlace + valueOf a

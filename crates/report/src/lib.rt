@@ -1,12 +1,15 @@
-// The numbers that are shown of a refusal: its row of document 01's table, and its cell.
+// The numbers that are shown of an answer: specs/Numbers.antt defines them.
+use outcome::Outcome;
 use outcome::Refusal;
+use outcome::Stop;
 ghost use mathlib.Core.Path.{_≡_};
 ghost use Prim.Native.Nat.{_<_};
-ghost use Rattle.outcome.specs.Numbers.{refusalAnswer};
-ghost use Rattle.report.specs.Numbers.{rowOf, cellOf};
+ghost use Rattle.outcome.specs.Numbers.{answerOf, refusalAnswer};
+ghost use Rattle.report.specs.Numbers.{tagOf, valueOf};
 
+// A refusal's row of document 01's table.
 pub fn row(r: Refusal) -> usize
-    ensures { λ n. ⌜ n ≡ rowOf (refusalAnswer r) ⌝ }
+    ensures { λ n. ⌜ n ≡ tagOf (refusalAnswer r) ⌝ }
     ensures { λ n. ⌜ n < 16 ⌝ }
 {
     match r {
@@ -29,7 +32,7 @@ pub fn row(r: Refusal) -> usize
 }
 
 pub fn cell(r: Refusal) -> usize
-    ensures { λ n. ⌜ n ≡ cellOf (refusalAnswer r) ⌝ }
+    ensures { λ n. ⌜ n ≡ valueOf (refusalAnswer r) ⌝ }
 {
     match r {
         Refusal::Kind(i) => i,
@@ -47,5 +50,34 @@ pub fn cell(r: Refusal) -> usize
         Refusal::Length => 0,
         Refusal::Trailer => 0,
         Refusal::Count => 0,
+    }
+}
+
+pub fn tag(o: Outcome) -> usize
+    ensures { λ n. ⌜ n ≡ tagOf (answerOf o) ⌝ }
+    ensures { λ n. ⌜ n < 256 ⌝ }
+{
+    match o {
+        Outcome::Refused(r) => row(r),
+        Outcome::Accepted(_) => 32,
+        Outcome::Stopped(s) => match s {
+            Stop::Value(_) => 33,
+            Stop::Spent(_) => 34,
+            Stop::Room(_) => 35,
+        },
+    }
+}
+
+pub fn value(o: Outcome) -> usize
+    ensures { λ n. ⌜ n ≡ valueOf (answerOf o) ⌝ }
+{
+    match o {
+        Outcome::Refused(r) => cell(r),
+        Outcome::Accepted(n) => n,
+        Outcome::Stopped(s) => match s {
+            Stop::Value(n) => n as usize,
+            Stop::Spent(n) => n as usize,
+            Stop::Room(n) => n as usize,
+        },
     }
 }

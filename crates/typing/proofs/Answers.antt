@@ -10,7 +10,7 @@ use Rattle.calculus.specs.Infer as Infer
 use Rattle.calculus.specs.Infer.{Reason, mismatch, checked, infer}
 use Rattle.calculus.specs.Decide.{below?}
 use Rattle.format.specs.Book.{follow}
-use Rattle.answers.specs.Answer.{refused, ill-typed}
+use Rattle.answers.specs.Answer.{refused, reasonNumber}
 use Rattle.outcome.specs.Numbers.{refusalAnswer}
 use Rattle.outcome.specs.declared.Refusal.{Refusal}
 use Rattle.cells.specs.Held.{HoldsType, HoldsTerm, HoldsContext, Same}
@@ -59,7 +59,7 @@ pub record IsRefused (s : List ℕ) (i : ℕ) (q : Refusal) (F : Infer.Found) : 
   pub reason : Reason
   pub way : List ℕ
   pub is : F ≡ Infer.refused reason way
-  pub says : refusalAnswer q ≡ refused (ill-typed reason) (follow s i way)
+  pub says : refusalAnswer q ≡ refused (reasonNumber reason) (follow s i way)
 
 pub turned : {s t : List ℕ} {n m i : ℕ} {q : Refusal} {r : Found} {F : Infer.Found} → Answer s t n m i r F → r ≡ Refused q → IsRefused s i q F
 turned {s} {t} {n} {m} {i} {q} {r} {F} a e = go F (a .says)
@@ -73,7 +73,7 @@ turned {s} {t} {n} {m} {i} {q} {r} {F} a e = go F (a .says)
 -- The refusal for a part, at cell j of a buffer with the same first n cells, is the whole's: the way goes on through the part's field.
 pub handed : {s u : List ℕ} {n i f j : ℕ} {q : Refusal} {r : Found} {F : Infer.Found} → Leads s i f j → i < n → Same s u n → r ≡ Refused q →
     (a : IsRefused u j q F) → Answered s u n n i r (Infer.refused (a .reason) (f ∷ a .way))
-handed {j = j} {q = q} l b p e a = (q, e, a .says ∙ ap (refused (ill-typed (a .reason))) (follow-same p (a .way) j (omega (arith, l .lower)) ∙ sym (l .way (a .way))))
+handed {j = j} {q = q} l b p e a = (q, e, a .says ∙ ap (refused (reasonNumber (a .reason))) (follow-same p (a .way) j (omega (arith, l .lower)) ∙ sym (l .way (a .way))))
 
 -- What was found for a part at field f that is checked, carried to the whole, of type B.
 abbrev pub carried : ℕ → Ty → Infer.Found → Infer.Found

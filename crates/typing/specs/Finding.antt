@@ -14,7 +14,7 @@ use Rattle.calculus.specs.Infer.{mismatch, infer}
 use Rattle.calculus.specs.Decide.{below?}
 use Rattle.format.specs.Cell.{cellAt}
 use Rattle.format.specs.Book.{follow}
-use Rattle.answers.specs.Answer.{refused, ill-typed}
+use Rattle.answers.specs.Answer.{refused, reasonNumber}
 use Rattle.outcome.specs.Numbers.{refusalAnswer}
 use Rattle.outcome.specs.declared.Refusal.{Refusal}
 use Rattle.cells.specs.Held.{IsCell, HoldsType, HoldsTerm, HoldsContext, Same}
@@ -50,7 +50,7 @@ pub record ReadyTwo (s : List ℕ) (n c i : ℕ) : Type 0 where
 abbrev pub Answered : (s t : List ℕ) (n m i : ℕ) → Found → Infer.Found → Type 0
 Answered s t n m i r (Infer.found A) =
     (c : ℕ) × (k : ℕ) × (r ≡ Typed c k) × (n ≤ k) × (k ≤ n + m) × Same s t n × (c < k) × HoldsType t c A
-Answered s t n m i r (Infer.refused w p) = (q : Refusal) × (r ≡ Refused q) × (refusalAnswer q ≡ refused (ill-typed w) (follow s i p))
+Answered s t n m i r (Infer.refused w p) = (q : Refusal) × (r ≡ Refused q) × (refusalAnswer q ≡ refused (reasonNumber w) (follow s i p))
 
 pub record Finds (s t : List ℕ) (n c i : ℕ) (r : Found) : Type 0 where
   pub says : (Γ : List Ty) (e : Term) → HoldsContext s c Γ → HoldsTerm s i e → Answered s t n (size e) i r (infer Γ e)

@@ -1,5 +1,5 @@
--- The reading of a held value under a held type is emitted exactly. The measure is twice the type's cell, and one more for any type.
--- Assumes nothing.
+-- The reading of a held value under a held type is emitted exactly. The measure is twice the type's size, and one more for
+-- `emit_reading`. Assumes nothing.
 use borrow.Author.Tests.{eqb-true, eqb-false, not-true, not-false}
 use native.Mathlib.Omega.{arith}
 use mathlib.Core.Path.{_∙_}
@@ -9,9 +9,10 @@ use Rattle.cells.specs.Coded.{asCell}
 use Rattle.cells.proofs.Held.{type-within}
 use Rattle.emission.proofs.Runs.{holds-type}
 use Rattle.reading.specs.Reads.{EmitsReading}
-use Rattle.reading.proofs.Emitting.{Split, lower, first-ready, no-first, second-ready, no-second, Last, merge-last}
+use Rattle.reading.proofs.Sizes.{sizeAt}
+use Rattle.reading.proofs.Emitting.{Split, smaller, first-ready, no-first, second-ready, no-second, Last, merge-last}
 use Rattle.reading.proofs.Emitting.{top-last, emits-top, part-ready, proper-at, no-part, Found, part-within, number-last, emits-number}
-use Rattle.reading.proofs.Emitting.{function-ready, emits-arrow, content-lower, content-ready, no-content, record-last}
+use Rattle.reading.proofs.Emitting.{function-ready, emits-arrow, content-smaller, content-ready, no-content, record-last}
 use Prim.Native.Nat.{ℕ, _+_, _*_, _-_, _≤_, _<_}
 use borrow.Fn.Kinds.{In}
 use borrow.Fn.PlainCycle.{Measures, is, falls, and}
@@ -29,10 +30,10 @@ use Rattle.reading.proofs.+emit_part+emit_reading.{statement}
 use Rattle.reading.proofs.+emit_part+emit_reading.Tie.{close}
 
 abbrev μ-emit-part : Measures 2 emit-part-kinds.ps ℕ
-μ-emit-part κs a = 2 * a .1 .1 .1 .0
+μ-emit-part κs a = 2 * sizeAt (a .0 .now) (a .1 .1 .1 .0)
 
 abbrev μ-emit-reading : Measures 2 emit-reading-kinds.ps ℕ
-μ-emit-reading κs a = 2 * a .1 .1 .1 .0 + 1
+μ-emit-reading κs a = 2 * sizeAt (a .0 .now) (a .1 .1 .1 .0) + 1
 
 abbrev emit-part-at : ℕ → In 2 emit-part-kinds.ps
 emit-part-at t = and 2 emit-part-kinds.ps (is 2 emit-part-kinds.ps μ-emit-part t) emit-part.Pre
@@ -185,7 +186,7 @@ emit-part-emit-reading-requires t c κs =
     let at-read-cell = at-if1 .before .before in
     let at-start = at-read-cell .before .before .before .before .before .before .before in
     let g = found t at-read-cell in
-    (omega (arith, content-lower g (at-read-cell2 .read-cell2 .ensures) (at-if2 .if2 .left) (at-if1 .if1 .left), at-start .pre .0), content-ready g (at-read-cell2 .read-cell2 .ensures) (at-if2 .if2 .left) (at-if1 .if1 .left))
+    (omega (arith, content-smaller g (at-read-cell2 .read-cell2 .ensures) (at-if2 .if2 .left) (at-if1 .if1 .left), at-start .pre .0), content-ready g (at-read-cell2 .read-cell2 .ensures) (at-if2 .if2 .left) (at-if1 .if1 .left))
 
 emit-part-enum-known-z : (t : ℕ) → emit-part-lts.Need-enum-known-z (emit-part-calls t) (emit-part-at t) emit-part.Post
 emit-part-enum-known-z t c = search needs
@@ -254,7 +255,7 @@ emit-reading-returns-2 t c = c .before .before .emit-part .ensures
 
 emit-reading-emit-reading-requires : (t : ℕ) → emit-reading-lts.Need-emit-reading-requires (emit-reading-calls t) (emit-reading-at t) emit-reading.Post
 emit-reading-emit-reading-requires t c κs =
-    let g = split t (c .before) in (omega (arith, lower g .0, c .before .before .before .before .before .before .before .before .pre .0), first-ready g)
+    let g = split t (c .before) in (omega (arith, smaller g .0, c .before .before .before .before .before .before .before .before .pre .0), first-ready g)
 
 emit-reading-enum-known-x : (t : ℕ) → emit-reading-lts.Need-enum-known-x (emit-reading-calls t) (emit-reading-at t) emit-reading.Post
 emit-reading-enum-known-x t c = search needs
@@ -277,7 +278,7 @@ emit-reading-emit-reading-requires-2 t c κs =
     let at-emit-reading = at-x .before .before .before .before in
     let at-if3 = at-emit-reading .before .before in
     let at-start = at-if3 .before .before .before .before .before .before .before in
-    let g = split t at-if3 in (omega (arith, lower g .1, at-start .pre .0), second-ready g (at-emit-reading .emit-reading .ensures) (at-x .x .given .1))
+    let g = split t at-if3 in (omega (arith, smaller g .1, at-start .pre .0), second-ready g (at-emit-reading .emit-reading .ensures) (at-x .x .given .1))
 
 emit-reading-enum-known-y : (t : ℕ) → emit-reading-lts.Need-enum-known-y (emit-reading-calls t) (emit-reading-at t) emit-reading.Post
 emit-reading-enum-known-y t c = search needs

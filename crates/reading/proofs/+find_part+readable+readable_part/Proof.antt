@@ -1,10 +1,11 @@
 -- Whether and by which part a held value can be read under a held type is decided exactly. The measure is three times the sum of the two
--- cells, and 2, 1, 0 for the three functions. Assumes nothing.
+-- sizes, and 2, 1, 0 for the three functions. Assumes nothing.
 use native.Mathlib.Omega.{arith}
 use borrow.Author.Needs.{needs}
 use Rattle.cells.specs.Coded.{asCell}
 use Rattle.cells.proofs.Held.{type-within, term-within}
 use Rattle.emission.proofs.Runs.{holds-type, holds-term}
+use Rattle.reading.proofs.Sizes.{sizeAt}
 use Rattle.reading.proofs.Deciding.{reads-top, halves, reads-both, reads-not-first, proper, reads-part, reads-nothing}
 use Rattle.reading.proofs.Deciding.{merge-halves, finds-left, finds-right, single, finds-none, finds-itself}
 use Rattle.reading.proofs.Deciding.{CellsOf, reads-number, inputs, outputs, reads-function, reads-not-input, reads-no-function}
@@ -27,13 +28,13 @@ use Rattle.reading.proofs.+find_part+readable+readable_part.{statement}
 use Rattle.reading.proofs.+find_part+readable+readable_part.Tie.{close}
 
 abbrev μ-find-part : Measures 1 find-part-kinds.ps ℕ
-μ-find-part κs a = 3 * (a .1 .0 + a .1 .1 .0) + 1
+μ-find-part κs a = 3 * (sizeAt (a .0 .now) (a .1 .0) + sizeAt (a .0 .now) (a .1 .1 .0)) + 1
 
 abbrev μ-readable : Measures 1 readable-kinds.ps ℕ
-μ-readable κs a = 3 * (a .1 .0 + a .1 .1 .0) + 2
+μ-readable κs a = 3 * (sizeAt (a .0 .now) (a .1 .0) + sizeAt (a .0 .now) (a .1 .1 .0)) + 2
 
 abbrev μ-readable-part : Measures 1 readable-part-kinds.ps ℕ
-μ-readable-part κs a = 3 * (a .1 .0 + a .1 .1 .0)
+μ-readable-part κs a = 3 * (sizeAt (a .0 .now) (a .1 .0) + sizeAt (a .0 .now) (a .1 .1 .0))
 
 abbrev find-part-at : ℕ → In 1 find-part-kinds.ps
 find-part-at t = and 1 find-part-kinds.ps (is 1 find-part-kinds.ps μ-find-part t) find-part.Pre
@@ -77,7 +78,7 @@ find-part-find-part-requires : (t : ℕ) → find-part-lts.Need-find-part-requir
 find-part-find-part-requires t c κs =
     let at-read-cell = c .before .before in
     let at-start = at-read-cell .before .before in
-    let h = merge-halves (at-start .pre .1) (at-read-cell .read-cell .ensures) (c .if1 .taken) in (omega (arith, h .first-lower, at-start .pre .0), h .first)
+    let h = merge-halves (at-start .pre .1) (at-read-cell .read-cell .ensures) (c .if1 .taken) in (omega (arith, h .smaller .0, at-start .pre .0), h .first)
 
 find-part-enum-told : (t : ℕ) → find-part-lts.Need-enum-told (find-part-calls t) (find-part-at t) find-part.Post
 find-part-enum-told t c = search needs
@@ -98,7 +99,7 @@ find-part-find-part-requires-2 t c κs =
     let at-if1 = c .before .before .before in
     let at-read-cell = at-if1 .before .before in
     let at-start = at-read-cell .before .before in
-    let h = merge-halves (at-start .pre .1) (at-read-cell .read-cell .ensures) (at-if1 .if1 .taken) in (omega (arith, h .second-lower, at-start .pre .0), h .second)
+    let h = merge-halves (at-start .pre .1) (at-read-cell .read-cell .ensures) (at-if1 .if1 .taken) in (omega (arith, h .smaller .1, at-start .pre .0), h .second)
 
 find-part-returns-2 : (t : ℕ) → find-part-lts.Need-returns-2 (find-part-calls t) (find-part-at t) find-part.Post
 find-part-returns-2 t c =
@@ -134,14 +135,14 @@ readable-readable-requires : (t : ℕ) → readable-lts.Need-readable-requires (
 readable-readable-requires t c κs =
     let at-read-cell = c .before .before .before .before in
     let at-start = at-read-cell .before .before in
-    let h = halves (at-read-cell .read-cell .ensures) _ (at-start .pre .1) (c .if2 .taken) in (omega (arith, h .first-lower, at-start .pre .0), h .first)
+    let h = halves (at-read-cell .read-cell .ensures) _ (at-start .pre .1) (c .if2 .taken) in (omega (arith, h .smaller .0, at-start .pre .0), h .first)
 
 readable-readable-requires-2 : (t : ℕ) → readable-lts.Need-readable-requires-2 (readable-calls t) (readable-at t) readable.Post
 readable-readable-requires-2 t c κs =
     let at-if2 = c .before .before in
     let at-read-cell = at-if2 .before .before .before .before in
     let at-start = at-read-cell .before .before in
-    let h = halves (at-read-cell .read-cell .ensures) _ (at-start .pre .1) (at-if2 .if2 .taken) in (omega (arith, h .second-lower, at-start .pre .0), h .second)
+    let h = halves (at-read-cell .read-cell .ensures) _ (at-start .pre .1) (at-if2 .if2 .taken) in (omega (arith, h .smaller .1, at-start .pre .0), h .second)
 
 readable-returns-2 : (t : ℕ) → readable-lts.Need-returns-2 (readable-calls t) (readable-at t) readable.Post
 readable-returns-2 t c =
@@ -227,7 +228,7 @@ readable-part-readable-requires t c κs =
     let at-if1 = at-if2 .before .before in
     let at-read-cell2 = at-if1 .before .before in
     let at-start = at-read-cell2 .before .before .before in
-    let h = contents (cells-of t at-read-cell2) (at-if1 .if1 .left) (at-if2 .if2 .left) (at-if5 .if5 .taken) in (omega (arith, h .value-lower, h .type-lower, at-start .pre .0), h .both)
+    let h = contents (cells-of t at-read-cell2) (at-if1 .if1 .left) (at-if2 .if2 .left) (at-if5 .if5 .taken) in (omega (arith, h .value-smaller, h .type-smaller, at-start .pre .0), h .both)
 
 readable-part-returns-5 : (t : ℕ) → readable-part-lts.Need-returns-5 (readable-part-calls t) (readable-part-at t) readable-part.Post
 readable-part-returns-5 t c =

@@ -1,0 +1,278 @@
+//! Books that meet one row of "Where a book is turned back", and books that meet two: the first finding decides the number and the cell.
+
+use crate::cells::{lay, Cell, Cells, Sharing, Sort, KINDS};
+use crate::random::Random;
+use crate::samples::{identity, refused_books};
+use evaluator::{Term, Type};
+
+/// The parts of the family by turns, so that the first books are some of each.
+pub fn refusals() -> Vec<Vec<u8>> {
+    let kept = refused_books().into_values().collect();
+    let parts = [kept, one_cell(), two_cells(), trailers(), lengths(), two_parts(), nested()];
+    let longest = parts.iter().map(Vec::len).max().unwrap_or(0);
+    (0..longest).flat_map(|n| parts.iter().filter_map(move |part| part.get(n).cloned())).collect()
+}
+
+/// Most books here begin with a type and a term.
+const FIRST: [Cell; 2] = [INT, ONE];
+const INT: Cell = Cell { kind: 1, label: 0, fields: [0; 3] };
+const ONE: Cell = Cell { kind: 17, label: 0, fields: [0, 1, 0] };
+const A_TYPE: u16 = 0;
+const A_TERM: u16 = 1;
+
+const TOP: Cell = Cell { kind: 2, label: 0, fields: [0; 3] };
+const TOP_VALUE: Cell = Cell { kind: 18, label: 0, fields: [0; 3] };
+
+/// What a field holds by turns, the right thing first: a reference also its own cell and one of the other sort, an unnamed field also 1.
+fn contents(cell: Cell, field: usize, at: u16) -> Vec<u16> {
+    match (cell.references()[field], cell.kind, field) {
+        (Some(Sort::Type), ..) => vec![A_TYPE, at, A_TERM],
+        (Some(Sort::Term), ..) => vec![A_TERM, at, A_TYPE],
+        (None, 16, 0) | (None, 17, 1 | 2) => vec![0],
+        _ => vec![0, 1],
+    }
+}
+
+/// A cell of every kind with all contents of its fields: the rows 6 to 8 of one cell, alone and together. And unknown kinds.
+fn one_cell() -> Vec<Vec<u8>> {
+    let at = FIRST.len() as u16;
+    let mut cells = Vec::new();
+    for kind in KINDS {
+        let of = |field| contents(Cell::new(kind, 0, [0; 3]), field, at);
+        for (a, b) in of(0).into_iter().flat_map(|a| of(1).into_iter().map(move |b| (a, b))) {
+            for c in of(2) {
+                cells.extend([0, 1].map(|label| Cell::new(kind, label, [a, b, c])));
+            }
+        }
+    }
+    for kind in [0, 6, 15, 26, 240, 255] {
+        cells.extend([0, 1, u16::MAX].map(|field| Cell::new(kind, field as u8, [field; 3])));
+    }
+    let book = |cell| Cells { cells: [&FIRST[..], &[cell, TOP_VALUE]].concat(), root: at };
+    cells.into_iter().map(|cell| book(cell).bytes()).collect()
+}
+
+/// Two cells for each of the rows 5 to 8 that meet it at this place.
+fn ill_formed(at: u16) -> [Cell; 8] {
+    [
+        Cell::new(0, 0, [0; 3]),
+        Cell::new(26, 1, [at; 3]),
+        Cell::new(17, 1, [0; 3]),
+        Cell::new(24, 1, [A_TERM, 0, 1]),
+        Cell::new(22, 0, [A_TERM, at, 0]),
+        Cell::new(3, 0, [at + 1, A_TYPE, 0]),
+        Cell::new(19, 0, [A_TYPE, A_TYPE, 0]),
+        Cell::new(4, 0, [A_TYPE, A_TERM, 0]),
+    ]
+}
+
+/// Cells from this place on, of which the last is too large: merges or intersections, and what is doubled by them.
+fn too_large(at: u16, kind: u8, leaf: Cell) -> Vec<Cell> {
+    let doubled = (at..at + 12).map(|n| Cell::new(kind, 0, [n, n, 0]));
+    [leaf].into_iter().chain(doubled).collect()
+}
+
+/// Cells from this place on, of which the last is a root that passes, or meets 9, 10, both, one of 11 to 15, or 10 and one of these.
+fn roots(at: u16) -> Vec<Vec<Cell>> {
+    let mut roots = vec![vec![ONE], vec![TOP], too_large(at, 22, TOP_VALUE), too_large(at, 4, TOP)];
+    let ill_typed = [
+        (TOP_VALUE, Cell::new(16, 0, [1, 0, 0])),
+        (TOP_VALUE, Cell::new(20, 0, [A_TERM, at, 0])),
+        (ONE, Cell::new(25, 1, [at, 0, 0])),
+        (Cell::number(2), Cell::new(22, 0, [A_TERM, at, 0])),
+        (TOP_VALUE, Cell::new(23, 0, [at, A_TYPE, 0])),
+    ];
+    for (part, whole) in ill_typed {
+        roots.push(vec![part, whole]);
+        let mut large = too_large(at, 22, part);
+        let place = at + large.len() as u16;
+        large.extend([whole, Cell::new(22, 0, [place - 1, place, 0])]);
+        roots.push(large);
+    }
+    roots
+}
+
+/// The first cells, those in between, and those of a root; the last is the root.
+fn rooted(between: &[Cell], root: &[Cell]) -> Cells {
+    let cells = [&FIRST, between, root].concat();
+    Cells { root: cells.len() as u16 - 1, cells }
+}
+
+/// Each root alone, and each ill-formed cell with a root that passes, behind so many more cells.
+fn single(more: usize) -> Vec<Cells> {
+    let before = vec![TOP_VALUE; more];
+    let at = (FIRST.len() + more) as u16;
+    let roots = roots(at).into_iter().map(|root| rooted(&before, &root));
+    let ill_formed = ill_formed(at).map(|cell| rooted(&[&before[..], &[cell]].concat(), &[ONE]));
+    roots.chain(ill_formed).collect()
+}
+
+/// Each root and each ill-formed cell alone, also with one more cell behind it and many before; each ill-formed cell before and behind each
+/// other and each root.
+fn two_cells() -> Vec<Vec<u8>> {
+    let at = FIRST.len() as u16;
+    let mut books = single(0);
+    for one in ill_formed(at) {
+        books.extend(ill_formed(at + 1).map(|other| rooted(&[one, other], &[ONE])));
+    }
+    for cell in ill_formed(at) {
+        books.extend(roots(at + 1).iter().map(|root| rooted(&[cell], root)));
+    }
+    for root in roots(at) {
+        let book = rooted(&[], &root);
+        for cell in ill_formed(book.root + 1) {
+            books.push(Cells { cells: [&book.cells[..], &[cell]].concat(), ..book });
+        }
+    }
+    for book in [single(0), single(300)].concat() {
+        books.push(Cells { cells: [&book.cells[..], &[TOP_VALUE]].concat(), ..book });
+    }
+    books.iter().map(Cells::bytes).collect()
+}
+
+/// Each wrong byte of the trailer, then each wrong count and root, in a book with so many cells: the byte's place, and what stands there.
+fn wrong_trailers(count: u16) -> Vec<Vec<(usize, u8)>> {
+    let field = |place: usize, value: u16| value.to_le_bytes().into_iter().enumerate().map(|(n, byte)| (place + n, byte)).collect();
+    let bytes = [(0, 0), (0, 0xF1), (1, 0), (1, 2), (6, 1), (7, 1)].map(|wrong| vec![wrong]);
+    let counts = [0, count - 1, count + 1, count + 256].map(|count| field(2, count));
+    let roots = [count, count + 1, u16::MAX].map(|root| field(4, root));
+    bytes.into_iter().chain(counts).chain(roots).collect()
+}
+
+/// The book with these bytes in its trailer.
+fn with_trailer(book: &Cells, wrong: &[(usize, u8)]) -> Vec<u8> {
+    let mut bytes = book.bytes();
+    let trailer = bytes.len() - 8;
+    wrong.iter().for_each(|&(place, byte)| bytes[trailer + place] = byte);
+    bytes
+}
+
+/// Every wrong trailer, and every two at once, on a book that passes; every wrong trailer on all others.
+fn trailers() -> Vec<Vec<u8>> {
+    let mut books = Vec::new();
+    let all = single(0);
+    let wrong = wrong_trailers(all[0].cells.len() as u16);
+    for one in &wrong {
+        books.extend(wrong.iter().map(|other| with_trailer(&all[0], &[&one[..], other].concat())));
+    }
+    for book in &all[1..] {
+        books.extend(wrong_trailers(book.cells.len() as u16).iter().map(|wrong| with_trailer(book, wrong)));
+    }
+    books
+}
+
+/// Every way for a length to be wrong, on books with a trailer that is right or wrong.
+fn lengths() -> Vec<Vec<u8>> {
+    let mut books = Vec::new();
+    for book in single(0) {
+        let mut long = book.clone();
+        long.cells.resize(4_096, TOP_VALUE);
+        for wrong in [vec![], vec![(0, 0)], vec![(3, 255)]] {
+            let bytes = with_trailer(&book, &wrong);
+            let end = bytes.len();
+            books.extend([&bytes[..0], &bytes[end - 8..], &bytes[1..], &bytes[..end - 1]].map(<[u8]>::to_vec));
+            books.push([&bytes[..], &[0]].concat());
+            books.push(with_trailer(&long, &wrong));
+        }
+    }
+    books
+}
+
+fn int() -> Type {
+    Type::int()
+}
+
+fn number(n: i32) -> Term {
+    Term::number(n)
+}
+
+/// Terms with a type.
+fn typed() -> Vec<Term> {
+    let beside = Term::merge(number(1), Term::record(1, number(2)));
+    vec![number(1), Term::top(), identity(), Term::record(1, number(3)), beside, Term::merge(Term::top(), Term::top())]
+}
+
+/// Terms that meet one of 11 to 15, the last in each of its four places.
+fn ill_typed() -> Vec<Term> {
+    vec![
+        Term::variable(1),
+        Term::application(number(4), number(5)),
+        Term::read(1, Term::record(2, number(6))),
+        Term::merge(number(7), number(8)),
+        Term::annotation(Term::top(), int()),
+        Term::application(identity(), Term::top()),
+        Term::function(Term::top(), int(), int()),
+        Term::fixpoint(Term::top(), int()),
+    ]
+}
+
+/// Where a part can stand: with nothing wrong around it, and then with something.
+const PLACES: [fn(Term) -> Term; 17] = [
+    |e| Term::application(e, number(1)),
+    |e| Term::application(Term::top(), e),
+    |e| Term::application(identity(), e),
+    |e| Term::merge(e, Term::top()),
+    |e| Term::merge(Term::record(1, number(1)), e),
+    |e| Term::function(e, int(), int()),
+    |e| Term::function(e, int(), Type::top()),
+    |e| Term::fixpoint(e, int()),
+    |e| Term::annotation(e, int()),
+    |e| Term::annotation(e, Type::top()),
+    |e| Term::record(1, e),
+    |e| Term::read(1, e),
+    |e| Term::application(number(1), e),
+    |e| Term::application(e, Term::variable(7)),
+    |e| Term::application(Term::variable(7), e),
+    |e| Term::merge(e, Term::variable(7)),
+    |e| Term::merge(Term::variable(7), e),
+];
+
+/// The same term with the parts of each cell laid down last first, so that the walk meets higher cells before lower ones.
+fn turned(book: &Cells) -> Cells {
+    fn part(book: &Cells, n: u16, cells: &mut Vec<Cell>) -> u16 {
+        let mut cell = book.cells[usize::from(n)];
+        let references = cell.references();
+        for (field, _) in cell.fields.iter_mut().zip(references).rev().filter(|(_, sort)| sort.is_some()) {
+            *field = part(book, *field, cells);
+        }
+        cells.push(cell);
+        cells.len() as u16 - 1
+    }
+    let mut cells = Vec::new();
+    let root = part(book, book.root, &mut cells);
+    Cells { cells, root }
+}
+
+/// Any two terms in an application and in a merge, and each in every place: laid down in order, turned, and shared.
+fn two_parts() -> Vec<Vec<u8>> {
+    let parts = [ill_typed(), typed()].concat();
+    let mut terms = Vec::new();
+    for one in &parts {
+        for other in &parts {
+            terms.extend([Term::application, Term::merge].map(|both| both(one.clone(), other.clone())));
+        }
+    }
+    terms.extend(PLACES.iter().flat_map(|place| parts.iter().map(|part| place(part.clone()))));
+    let mut random = Random::of(0, "", 0);
+    let mut books = Vec::new();
+    for term in &terms {
+        let opened = lay(term, Sharing::Never, &mut random);
+        books.extend([turned(&opened), opened, lay(term, Sharing::Always, &mut random)]);
+    }
+    books.iter().map(Cells::bytes).collect()
+}
+
+/// Places within places, round a term for each of 11 to 15: turned and shared by turns.
+fn nested() -> Vec<Vec<u8>> {
+    let mut random = Random::of(0, "", 1);
+    let mut books = Vec::new();
+    for part in ill_typed().iter().take(5) {
+        for outer in PLACES {
+            for (n, inner) in PLACES.iter().enumerate() {
+                let book = lay(&outer(inner(part.clone())), Sharing::Sometimes, &mut random);
+                books.push(if n % 2 == 0 { turned(&book) } else { book }.bytes());
+            }
+        }
+    }
+    books
+}

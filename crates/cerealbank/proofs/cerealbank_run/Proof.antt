@@ -1,0 +1,31 @@
+-- `cerealbank::cerealbank_run` meets its contract. Assumes nothing.
+use Prim.Native.Nat.{_<_}
+use native.Mathlib.Omega.{arith}
+use mathlib.Core.Path.{sym, subst}
+use Rattle.answers.specs.Answer.{Answer}
+use Rattle.report.specs.Numbers.{valueOf, tagPlace}
+use Rattle.cerealbank.proofs.Packing.{packs}
+use Rattle.cerealbank.proofs.Values.{run-fits}
+use borrow.Author.Needs.{needs}
+use Rattle.cerealbank.proofs.cerealbank_run.Statement.{statement}
+use Rattle.cerealbank.proofs.cerealbank_run.Tie as tie
+
+run-requires : tie.Need-run-requires
+run-requires c κs = search needs
+
+pack-requires : tie.Need-pack-requires
+pack-requires c κs =
+    subst (λ (a : Answer). valueOf a < tagPlace) (sym (c .before .before .run .ensures .answer))
+    (run-fits _ _ _ (λ i. c .before .before .before .before .before .shared-slice-known .given i .fits) (omega arith))
+
+same-length : tie.Need-same-length
+same-length c = search needs
+
+returns : tie.Need-returns
+returns c =
+    let k = c .before .before .before .run .ensures in
+    packs _ (run-fits _ _ _ (λ i. c .before .before .before .before .before .before .shared-slice-known .given i .fits) (omega arith))
+    (k .answer) (k .left) (c .pack .ensures)
+
+pub cerealbank-run-spec : {M : Type 1} → statement M
+cerealbank-run-spec = tie.close (tie.spec run-requires pack-requires same-length returns)

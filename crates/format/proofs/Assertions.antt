@@ -1,0 +1,69 @@
+-- Closed facts that show what the tests of a book say: which row stands where a book meets two, and the cell that it names; and where a way
+-- leads. Each is computed from the definitions alone. Assumes nothing.
+use Prim.Native.Nat.{ℕ}
+use mathlib.Core.Path.{_≡_, refl}
+use mathlib.Core.Option.{none, some}
+use mathlib.Core.List.{List, [], _∷_, _++_, map}
+use Rattle.format.specs.Table.{table, rowIn, rowOf}
+use Rattle.format.specs.Cell.{cellAt, cellBytes}
+use Rattle.format.specs.Tree.{cells, branch, grow, openWithin, treeAt}
+use Rattle.format.specs.Book.{Fault, bad-length, bad-trailer, bad-count, bad-unnamed, bad-reference, bad-sort, bad-root, Finding}
+use Rattle.format.specs.Book.{firstBad, rowFault, cellFault, cellsFinding, rootFinding, cellsForm, formFinding, follow, trailer}
+
+abbrev cell : (kind label a b c : ℕ) → List ℕ
+cell k l a b c = cellBytes (record { kind = k; label = l; a = a; b = b; c = c })
+
+abbrev at : Fault → ℕ → Finding
+at f i = record { fault = f; cell = i }
+
+abbrev int : List ℕ
+int = cell 1 0 0 0 0
+
+-- the number 1
+abbrev one : List ℕ
+one = cell 17 0 0 1 0
+
+abbrev top : List ℕ
+top = cell 18 0 0 0 0
+
+-- "Rows are tested downward, cells ascending, each cell completely. .. The first finding stands."
+rows :
+    map formFinding
+    (one
+    ∷ (one ++ cell 0 1 5 0 0)
+    ∷ (cell 0 0 0 0 0 ++ trailer 1 1)
+    ∷ (cell 18 7 0 0 0 ++ cell 0 0 0 0 0 ++ trailer 2 0)
+    ∷ (one ++ cell 22 0 1 0 1 ++ trailer 2 1)
+    ∷ (int ++ one ++ cell 19 0 0 2 0 ++ trailer 3 2)
+    ∷ (int ++ one ++ cell 19 0 0 0 0 ++ trailer 3 1)
+    ∷ (one ++ cell 19 0 0 0 0 ++ trailer 2 0)
+    ∷ (one ++ int ++ trailer 2 1)
+    ∷ (int ++ one ++ cell 19 0 1 0 0 ++ trailer 3 2)
+    ∷ [])
+    -- 2: a cell and no trailer; 3: byte 0 of the trailer is wrong, and so is its count; 4: the root is past the cells, and cell 0 of no kind
+    ≡ (some (at bad-length 0)
+    ∷ some (at bad-trailer 0)
+    ∷ some (at bad-count 0)
+    -- 6 at cell 0, before 5 at cell 1
+    ∷ some (at bad-unnamed 0)
+    -- 6, where 7 meets the same cell; 7, where 8 does
+    ∷ some (at bad-unnamed 1)
+    ∷ some (at bad-reference 2)
+    -- 8: a type where a term belongs, and the reverse, reached from the root or not
+    ∷ some (at bad-sort 2)
+    ∷ some (at bad-sort 1)
+    -- 9: the root is a type
+    ∷ some (at bad-root 1)
+    -- 1 annotated with Int
+    ∷ none
+    ∷ [])
+unfolding table rowIn rowOf cellAt cellBytes cells branch grow openWithin treeAt firstBad rowFault cellFault cellsFinding rootFinding cellsForm formFinding trailer
+rows = refl
+
+-- The top value, and a record of 1, merged: ways from the merge, cell 3.
+abbrev merged : List ℕ
+merged = top ++ one ++ cell 24 7 1 0 0 ++ cell 22 0 0 2 0 ++ trailer 4 3
+
+ways : map (follow merged 3) ([] ∷ (0 ∷ []) ∷ (1 ∷ []) ∷ (1 ∷ 0 ∷ []) ∷ []) ≡ (3 ∷ 0 ∷ 2 ∷ 1 ∷ [])
+unfolding follow cellAt cellBytes trailer
+ways = refl

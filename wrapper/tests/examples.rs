@@ -1,0 +1,91 @@
+//! The example programs, in C and in Rust, print the desk program's lines. The lines that they are compared with are the evaluator's
+//! (`evaluator::desk`).
+
+#![cfg(not(library_missing))]
+
+use std::ffi::OsStr;
+use std::path::{Path, PathBuf};
+use std::process::Command;
+use std::{env, fs};
+
+const REPOSITORY: &str = concat!(env!("CARGO_MANIFEST_DIR"), "/..");
+/// The library and the program as README's line for C names them, and the book that it runs.
+const LIBRARY: &str = "target/staticlib/libcerealbank.a";
+const PROGRAM: &str = "target/book";
+const BOOK: &str = "books/hidden_field.book";
+
+/// README's line for C, without the compiler's name: what compiles the example.
+fn readme_line() -> String {
+    let readme = fs::read_to_string(Path::new(REPOSITORY).join("README.md")).expect("README.md");
+    let line = readme.lines().find_map(|line| line.strip_prefix("    cc ")).expect("README's line for C");
+    let (compiling, running) = line.split_once(" && ").expect("the compiler, then the program");
+    assert_eq!(running, format!("{PROGRAM} {BOOK}"));
+    compiling.to_string()
+}
+
+/// The C example, compiled by README's line and with no warning. The library is the one that the wrapper links, and the program is
+/// written where cargo keeps what tests write.
+fn in_c() -> PathBuf {
+    let program = Path::new(env!("CARGO_TARGET_TMPDIR")).join("book");
+    let line = readme_line();
+    let mut words: Vec<&OsStr> = line.split_whitespace().map(OsStr::new).collect();
+    for (named, file) in [(LIBRARY, Path::new(env!("CEREALBANK_FILE"))), (PROGRAM, &program)] {
+        *words.iter_mut().find(|word| **word == named).unwrap_or_else(|| panic!("{line} has no {named}")) = file.as_os_str();
+    }
+    let mut compiler = Command::new(env::var_os("CC").unwrap_or("cc".into()));
+    compiler.current_dir(REPOSITORY).arg("-Werror").args(words);
+    let status = compiler.status().expect("a C compiler: cc, or what CC names");
+    assert!(status.success(), "{compiler:?}: {status}");
+    program
+}
+
+/// The Rust example.
+fn in_rust() -> PathBuf {
+    let test = env::current_exe().expect("this program");
+    let folder = test.ancestors().nth(3).expect("cargo's folder");
+    let mut cargo = Command::new(env!("CARGO"));
+    cargo.current_dir(REPOSITORY).args(["build", "--quiet", "--release", "--offline", "--locked", "--example", "book"]);
+    cargo.args(["--manifest-path", "wrapper/Cargo.toml", "--target-dir"]).arg(folder);
+    let status = cargo.status().expect("cargo");
+    assert!(status.success(), "{cargo:?}: {status}");
+    folder.join("release/examples/book")
+}
+
+/// What a program writes when it is given a book.
+fn printed(program: &Path, book: &Path) -> String {
+    let output = Command::new(program).arg(book).output().unwrap_or_else(|error| panic!("{}: {error}", program.display()));
+    assert!(output.status.success(), "{} {}: {}", program.display(), book.display(), output.status);
+    String::from_utf8(output.stdout).expect("text")
+}
+
+/// The books of a folder.
+fn books_of(folder: &str) -> Vec<PathBuf> {
+    let files = fs::read_dir(Path::new(REPOSITORY).join(folder)).expect("the folder");
+    let files = files.map(|file| file.expect("a file").path());
+    let books: Vec<PathBuf> = files.filter(|file| file.extension().is_some_and(|end| end == "book")).collect();
+    assert!(!books.is_empty(), "{folder}");
+    books
+}
+
+/// The sample books and the refused ones, and two files that are too short and too long for a book.
+fn books() -> Vec<PathBuf> {
+    let mut books = [books_of("books"), books_of("books/refusals")].concat();
+    for length in [0, 100_000] {
+        let file = Path::new(env!("CARGO_TARGET_TMPDIR")).join(format!("{length}.book"));
+        fs::write(&file, vec![0; length]).expect("a file written");
+        books.push(file);
+    }
+    books
+}
+
+#[test]
+fn both_examples_print_the_lines_of_the_desk_program() {
+    for program in [in_c(), in_rust()] {
+        let hidden = printed(&program, &Path::new(REPOSITORY).join(BOOK));
+        assert_eq!(hidden, "accepted 1\nvalue 4\n0 17 0 0 2 0\n");
+        for book in books() {
+            let expected = evaluator::desk(&fs::read(&book).expect("a book"));
+            assert!(printed(&program, &book) == expected, "{} {}", program.display(), book.display());
+        }
+    }
+}

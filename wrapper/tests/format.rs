@@ -1,0 +1,280 @@
+//! What docs/FORMAT.md and books/README.md say of books is what the engine answers and leaves. A block of FORMAT.md that is marked `book` has a
+//! line a cell, in hexadecimal, and then each answer with the bytes that it leaves; what follows a `;` is for people.
+
+#![cfg(not(library_missing))]
+
+use cerealbank::{check, run, Answer, WORK};
+use std::collections::BTreeSet;
+use std::fs;
+use std::path::{Path, PathBuf};
+
+const REFUSALS: std::ops::RangeInclusive<u8> = 1..=15;
+/// The limit that the books of FORMAT.md are run with, and that of the desk program.
+const LIMIT: u32 = 10;
+const DESK_LIMIT: u32 = 10_000;
+
+fn at(path: &str) -> PathBuf {
+    Path::new(env!("CARGO_MANIFEST_DIR")).join("..").join(path)
+}
+
+fn text(path: &str) -> String {
+    fs::read_to_string(at(path)).unwrap_or_else(|error| panic!("{path}: {error}"))
+}
+
+fn number<T: std::str::FromStr>(word: &str) -> T {
+    word.replace(',', "").parse().unwrap_or_else(|_| panic!("{word} is no number here"))
+}
+
+/// An answer in the desk program's words; None if it is something else.
+fn answer(words: &str) -> Option<Answer> {
+    let words: Vec<&str> = words.split_whitespace().collect();
+    Some(match words[..] {
+        ["refused", n, cell] => Answer::Refused { number: number(n), cell: number(cell) },
+        ["accepted", size] => Answer::Accepted { size: number(size) },
+        ["value", steps] => Answer::Value { steps: number(steps) },
+        ["spent", steps] => Answer::Spent { steps: number(steps) },
+        ["room", steps] => Answer::Room { steps: number(steps) },
+        _ => return None,
+    })
+}
+
+/// A book, and each answer with the bytes that it leaves at the start of the work buffer.
+struct Block {
+    book: Vec<u8>,
+    answers: Vec<(Answer, Vec<u8>)>,
+}
+
+fn block(lines: &str) -> Block {
+    let mut block = Block { book: Vec::new(), answers: Vec::new() };
+    for line in lines.lines().map(|line| line.split(';').next().expect("a part").trim()) {
+        if let Some(answer) = answer(line) {
+            block.answers.push((answer, Vec::new()));
+            continue;
+        }
+        let bytes = line.split_whitespace().map(|byte| {
+            assert_eq!(byte.len(), 2, "{line}");
+            u8::from_str_radix(byte, 16).unwrap_or_else(|_| panic!("{line}"))
+        });
+        block.answers.last_mut().map_or(&mut block.book, |(_, left)| left).extend(bytes);
+    }
+    block
+}
+
+fn blocks(text: &str) -> Vec<Block> {
+    text.split("```book\n").skip(1).map(|text| block(text.split_once("```").expect("the end of the block").0)).collect()
+}
+
+/// FORMAT.md before the refusals, and the section of each refusal with the number that it begins with.
+fn format() -> (String, Vec<(u8, String)>) {
+    let text = text("docs/FORMAT.md");
+    let (before, after) = text.split_once("\n## Where a book is turned back\n").expect("the refusals");
+    let (refusals, _) = after.split_once("\n## ").expect("the end of the refusals");
+    let sections = refusals.split("\n### ").skip(1).map(|section| {
+        let (head, rest) = section.split_once(": ").expect("a number and a condition");
+        (number(head), rest.to_string())
+    });
+    (before.to_string(), sections.collect())
+}
+
+/// The answer, and the work buffer after it.
+fn asked(call: impl FnOnce(&mut [u8]) -> Answer) -> (Answer, Vec<u8>) {
+    let mut work = vec![9; WORK];
+    (call(&mut work), work)
+}
+
+/// These bytes, and zeros.
+fn laid(bytes: &[u8]) -> Vec<u8> {
+    let mut work = bytes.to_vec();
+    work.resize(WORK, 0);
+    work
+}
+
+#[test]
+fn every_refusal_has_its_section() {
+    let sections = format().1;
+    assert_eq!(sections.iter().map(|(number, _)| *number).collect::<Vec<_>>(), REFUSALS.collect::<Vec<_>>());
+    for (number, section) in sections {
+        for part in ["\nCell: ", "\nTell the writer: "] {
+            assert!(section.contains(part), "{number} has no {part}");
+        }
+    }
+}
+
+#[test]
+fn every_refused_book_is_refused_as_its_section_says() {
+    for (number, section) in format().1.into_iter().filter(|(number, _)| *number > 1) {
+        let [Block { book, answers }] = &blocks(&section)[..] else { panic!("{number} has no single book") };
+        let [(answer @ Answer::Refused { number: shown, .. }, left)] = &answers[..] else { panic!("{number}: {answers:?}") };
+        assert_eq!((number, &Vec::new()), (*shown, left));
+        let file = format!("books/refusals/{number:02}.book");
+        assert_eq!(book, &fs::read(at(&file)).expect("the book's file"), "{file}");
+        assert_eq!(asked(|work| check(book, work)), (*answer, laid(&[])), "{file}, checked");
+        assert_eq!(asked(|work| run(book, work, LIMIT)), (*answer, laid(&[])), "{file}, run");
+    }
+}
+
+#[test]
+fn every_file_of_a_refused_book_has_a_section() {
+    let names = fs::read_dir(at("books/refusals")).expect("the folder").map(|entry| entry.expect("its files").file_name());
+    let names: BTreeSet<String> = names.map(|name| name.into_string().expect("a name")).collect();
+    assert_eq!(names, REFUSALS.skip(1).map(|number| format!("{number:02}.book")).collect());
+}
+
+/// What an expression of Samples.antt stands for: lines of eight bytes, lists and named books, one behind the other.
+fn bytes(expression: &str, definitions: &str) -> Vec<u8> {
+    let part = |part: &str| -> Vec<u8> {
+        if let Some(line) = part.strip_prefix("line ") {
+            let line: Vec<u8> = line.split(' ').map(number).collect();
+            assert_eq!(line.len(), 8, "{part}");
+            return line;
+        }
+        if let Some(list) = part.strip_suffix(" ∷ []") {
+            return list.split(" ∷ ").map(number).collect();
+        }
+        let (_, book) = definitions.split_once(&format!("\n{part} =\n")).unwrap_or_else(|| panic!("{part} is not defined"));
+        bytes(book.split("\n\n").next().expect("a definition"), definitions)
+    };
+    expression.split("++").map(str::trim).flat_map(part).collect()
+}
+
+/// The book of a sample that is checked, and its answer.
+fn checked_sample(sample: &str, definitions: &str) -> (Vec<u8>, Answer) {
+    let (_, sample) = sample.rsplit_once("\" ").expect("a name");
+    let (book, said) = sample.split_once(" check (").expect("a check");
+    let book = book.strip_prefix('(').and_then(|book| book.strip_suffix(')')).unwrap_or(book);
+    let said = said.strip_suffix(") []").expect("an answer that lays nothing down");
+    (bytes(book, definitions), answer(said).expect("an answer"))
+}
+
+#[test]
+fn the_refused_books_are_those_of_the_definitions() {
+    let definitions = text("crates/answers/specs/Samples.antt");
+    let (_, list) = definitions.split_once("\nrefusals =\n").expect("the list of refusals");
+    let samples = list.lines().map_while(|line| line.trim().trim_start_matches("∷ ").strip_prefix("sample "));
+    let defined = samples.map(|sample| checked_sample(sample, &definitions));
+    let shown = REFUSALS.zip(format().1).skip(1).map(|(number, (_, section))| {
+        let Block { book, answers } = blocks(&section).remove(0);
+        assert!(matches!(answers[0].0, Answer::Refused { number: shown, .. } if shown == number), "{number}");
+        (book, answers[0].0)
+    });
+    assert_eq!(defined.collect::<Vec<_>>(), shown.collect::<Vec<_>>());
+}
+
+#[test]
+fn refusal_1_is_of_another_length_and_touches_nothing() {
+    let section = format().1.remove(0).1;
+    let [Block { book, answers }] = &blocks(&section)[..] else { panic!("no single book") };
+    assert_eq!(answers, &[(Answer::Refused { number: 1, cell: 0 }, Vec::new())]);
+    for length in [0, 1, 8, WORK - 1, WORK + 1, 2 * WORK] {
+        let mut work = vec![9; length];
+        for book in [&book[..], &[]] {
+            assert_eq!(check(book, &mut work), answers[0].0);
+            assert_eq!(run(book, &mut work, LIMIT), answers[0].0);
+        }
+        assert!(work.iter().all(|&byte| byte == 9));
+    }
+    assert!(matches!(asked(|work| check(book, work)).0, Answer::Accepted { .. }));
+}
+
+#[test]
+fn the_examples_are_answered_as_shown() {
+    let examples = blocks(&format().0);
+    assert!(!examples.is_empty());
+    for Block { book, answers } in examples {
+        let checked = asked(|work| check(&book, work));
+        let ran = asked(|work| run(&book, work, LIMIT));
+        assert_eq!([checked, ran].map(Some), [0, 1].map(|n| answers.get(n).map(|(answer, left)| (*answer, laid(left)))));
+        assert_eq!(answers.len(), 2);
+    }
+}
+
+#[test]
+fn the_example_is_the_book_that_it_names() {
+    let (before, _) = format();
+    let (_, example) = before.split_once("\n### An example\n").expect("the example");
+    let [Block { book, .. }] = &blocks(example)[..] else { panic!("no single book") };
+    let file = quoted(example)[0];
+    assert_eq!(file, "books/first_number.book");
+    assert_eq!(book, &fs::read(at(file)).expect("the book's file"));
+}
+
+/// "The first row of 8 bytes that begins with F0 is the trailer": the book up to its end.
+fn cut(work: &[u8]) -> &[u8] {
+    let trailer = work.chunks(8).position(|row| row[0] == 0xF0).expect("a trailer");
+    &work[..8 * (trailer + 1)]
+}
+
+#[test]
+fn a_spent_run_goes_on_with_what_was_laid_down() {
+    let book = fs::read(at("books/spent_loop.book")).expect("the book's file");
+    let (first, half) = asked(|work| run(&book, work, 5));
+    let (second, twice) = asked(|work| run(cut(&half), work, 5));
+    let (whole, once) = asked(|work| run(&book, work, 10));
+    assert_eq!([first, second, whole], [5, 5, 10].map(|steps| Answer::Spent { steps }));
+    assert!(twice == once, "the same bytes");
+}
+
+/// The rows of a table whose first column is a number, each a list of its columns.
+fn numbered_rows(text: &str) -> Vec<Vec<String>> {
+    let rows = text.lines().filter_map(|line| line.strip_prefix("| ")?.strip_suffix(" |"));
+    let rows = rows.map(|row| row.split(" | ").map(|column| column.trim().to_string()).collect::<Vec<_>>());
+    rows.filter(|row| row[0].parse::<u8>().is_ok()).collect()
+}
+
+#[test]
+fn the_table_of_kinds_is_that_of_the_definitions() {
+    let (before, _) = format();
+    let (_, table) = before.split_once("\n### Kinds\n").expect("the kinds");
+    let (table, _) = table.split_once("\n### ").expect("their end");
+    let shown = numbered_rows(table).into_iter().map(|row| {
+        let [kind, sort, _, fields @ ..] = &row[..] else { panic!("{row:?}") };
+        let used = |field: &String| match field.split(':').next() {
+            Some("-") => "unused",
+            Some("type") => "types",
+            Some("term") => "terms",
+            _ => "plain",
+        };
+        format!("{kind} {sort}-sort {}", fields.iter().map(used).collect::<Vec<_>>().join(" "))
+    });
+    let defined = text("crates/format/specs/Table.antt");
+    let defined = defined.lines().filter_map(|line| line.trim().trim_start_matches("∷ ").strip_prefix("row "));
+    let defined: Vec<&str> = defined.filter(|row| row.starts_with(|c: char| c.is_ascii_digit())).collect();
+    assert_eq!(shown.collect::<Vec<_>>(), defined);
+}
+
+/// The parts of a line that stand in backquotes.
+fn quoted(line: &str) -> Vec<&str> {
+    line.split('`').skip(1).step_by(2).collect()
+}
+
+/// The term laid down is "the number N", or has "N cells"; or, for "-", there is none.
+fn is_reached(said: &str, work: &[u8]) -> bool {
+    let trailer = |cells: u16| [&[0xF0, 1], &cells.to_le_bytes()[..], &(cells - 1).to_le_bytes(), &[0, 0]].concat();
+    if let Some(value) = said.strip_prefix("the number ") {
+        let cell = [[17, 0, 0, 0], number::<i32>(value).to_le_bytes()].concat();
+        return work == laid(&[cell, trailer(1)].concat());
+    }
+    if let Some(cells) = said.strip_suffix(" cells") {
+        let past = 8 * number::<usize>(cells);
+        return work == laid(&[&work[..past], &trailer(number(cells))].concat());
+    }
+    assert_eq!(said, "-");
+    work == laid(&[])
+}
+
+#[test]
+fn every_sample_book_is_answered_as_its_table_says() {
+    let mut named = BTreeSet::new();
+    for line in text("books/README.md").lines().filter(|line| line.starts_with("| `")) {
+        let [name, .., said] = quoted(line)[..] else { panic!("{line}") };
+        let reached = line.trim_end_matches(" |").rsplit(" | ").next().expect("a column");
+        let book = fs::read(at("books").join(name)).expect("the book's file");
+        let (got, work) = asked(|work| run(&book, work, DESK_LIMIT));
+        assert_eq!(Some(got), answer(said), "{name}");
+        assert!(is_reached(reached, &work), "{name} does not reach {reached}");
+        named.insert(name.to_string());
+    }
+    let files = fs::read_dir(at("books")).expect("the folder").map(|entry| entry.expect("its files").file_name());
+    let files = files.map(|name| name.into_string().expect("a name")).filter(|name| name.ends_with(".book"));
+    assert_eq!(named, files.collect());
+}
