@@ -2,7 +2,7 @@
 use Prim.Native.Nat.{ℕ, zero, suc, _+_, _%_, _<_, _≤_}
 use mathlib.Core.Path.{_≡_, refl, sym, ap, subst, _∙_}
 use mathlib.Core.Bool.{Bool, true, false}
-use mathlib.Core.Option.{Option, none, some, Option·some-injective, Option·none-ne-some}
+use mathlib.Core.Option.{Option, none, some}
 use mathlib.Core.List.{List, [], _∷_}
 use native.Mathlib.Omega.{arith}
 use borrow.Author.Tests.{ltb-true}
@@ -15,10 +15,9 @@ use Rattle.calculus.proofs.Bools.{_and_, equal, at-most}
 use Rattle.calculus.proofs.Inference.{infer-says}
 use Rattle.calculus.proofs.Typing.{typed-size}
 use Rattle.format.specs.Cell.{IsBytes, cellAt}
-use Rattle.format.specs.Book.{Fault, bad-root, bad-size, Finding, cellFault, cellsFinding, rootFinding, cellsForm, formFinding, lengthOk, trailerOk, countOk}
-use Rattle.format.specs.Book.{hasSort, rootOf, count, trailerAt, follow, opened, WellFormed, sizeLimit}
-use Rattle.format.specs.Table.{term-sort}
-use Rattle.format.specs.Tree.{cells, treeAt}
+use Rattle.format.specs.Book.{Finding, formFinding, lengthOk}
+use Rattle.format.specs.Book.{rootOf, trailerAt, follow, opened, WellFormed}
+use Rattle.format.proofs.Findings.{by-rows}
 use Rattle.format.proofs.Tests.{formFinding-says, opened-small}
 use Rattle.answers.specs.Answer.{Result, result, refused}
 use Rattle.answers.specs.Engine.{IsLimit, workLength, zeros}
@@ -31,54 +30,23 @@ Fits x = valueOf (x .answer) < tagPlace
 
 -- ---- the cells that rows 2 to 10 name
 
-cells-name : (s : List ℕ) (n i : ℕ) (f : Finding) → cellsFinding s n i ≡ some f → f .cell < i + n
-unfolding cellsFinding
-cells-name s zero i f e = absurd (Option·none-ne-some f e)
-cells-name s (suc n) i f e = go (cells-name s n (suc i) f) (cellFault s i) e
-  where
-    go : (cellsFinding s n (suc i) ≡ some f → f .cell < suc i + n) → (x : Option Fault) → _≡_ {A = Option Finding} (elim x [ none ↦ cellsFinding s n (suc i) | some g ↦ some (record { fault = g; cell = i }) ]) (some f)
-        → f .cell < i + suc n
-    go h none q = omega (arith, h q)
-    go h (some g) q = let z : i ≡ f .cell = ap (λ (x : Finding). x .cell) (Option·some-injective _ f q) in omega arith
-
--- a test and then what comes after it: each names a low cell
-low-after : (t : Bool) (g : Fault) (o : Option Finding) (f : Finding) → (t ≡ true → o ≡ some f → f .cell < 65536)
-    → _≡_ {A = Option Finding} (elim t [ false ↦ some (record { fault = g; cell = 0 }) | true ↦ o ]) (some f) → f .cell < 65536
-low-after true g o f h e = h refl e
-low-after false g o f h e = let z : 0 ≡ f .cell = ap (λ (x : Finding). x .cell) (Option·some-injective _ f e) in omega arith
-
-form-names : (s : List ℕ) (f : Finding) → cellsForm s ≡ some f → f .cell < 65536
-unfolding cellsForm
-form-names s f e =
-    low-after (lengthOk s) _ _ f
-    (λ l.
-    low-after (trailerOk s) _ _ f
-    (λ t. low-after (countOk s) _ _ f (λ c q. omega (arith, cells-name s (count s) 0 f q, short l)))) e
-  where
-    short : lengthOk s ≡ true → length s ≤ 32768
-    short l = (at-most 16 (length s) and at-most (length s) 32768 and equal (length s % 8) 0) .1 .0 (subst T (sym l) tt) .0 .1
-
 root-low : (s : List ℕ) → IsBytes s → rootOf s < 65536
 root-low s y = omega (arith, y (trailerAt s + 4), y (trailerAt s + 4 + 1))
 
+short : (s : List ℕ) → lengthOk s ≡ true → length s ≤ 32768
+short s l = (at-most 16 (length s) and at-most (length s) 32768 and equal (length s % 8) 0) .1 .0 (subst T (sym l) tt) .0 .1
+
 names : (s : List ℕ) → IsBytes s → (f : Finding) → formFinding s ≡ some f → f .cell < 65536
-unfolding formFinding rootFinding
-names s y f e = go (cellsForm s) refl e
-  where
-    at-root : (g : Fault) → _≡_ {A = Option Finding} (some (record { fault = g; cell = rootOf s })) (some f) → f .cell < 65536
-    at-root g q = let z : rootOf s ≡ f .cell = ap (λ (x : Finding). x .cell) (Option·some-injective _ f q) in omega (arith, root-low s y)
-
-    size : (t : Bool) → _≡_ {A = Option Finding} (elim t [ true ↦ some (record { fault = bad-size; cell = rootOf s }) | false ↦ none ]) (some f) → f .cell < 65536
-    size true q = at-root _ q
-    size false q = absurd (Option·none-ne-some f q)
-
-    root : (t : Bool) → _≡_ {A = Option Finding} (elim t [ true ↦ elim (ltb sizeLimit (cells (treeAt s (rootOf s)))) [ true ↦ some (record { fault = bad-size; cell = rootOf s }) | false ↦ none ] | false ↦ some (record { fault = bad-root; cell = rootOf s }) ]) (some f) → f .cell < 65536
-    root true q = size (ltb sizeLimit (cells (treeAt s (rootOf s)))) q
-    root false q = at-root _ q
-
-    go : (x : Option Finding) → cellsForm s ≡ x → _≡_ {A = Option Finding} (elim x [ none ↦ rootFinding s | some g ↦ some g ]) (some f) → f .cell < 65536
-    go none q r = root (hasSort s term-sort (rootOf s)) r
-    go (some g) q r = subst (λ (x : Finding). x .cell < 65536) (Option·some-injective g f r) (form-names s g q)
+names s y =
+    by-rows (λ (f : Finding). f .cell < 65536) s
+    (record {
+      row-2 = λ h. omega arith;
+      row-3 = λ h. omega arith;
+      row-4 = λ h. omega arith;
+      rows-5-to-8 = λ f i l h e. omega (arith, h, short s l);
+      row-9 = λ n h. root-low s y;
+      row-10 = λ h. root-low s y;
+    })
 
 -- a way goes down
 down : (i x r : ℕ) → r ≤ x → (t : Bool) → ltb x i ≡ t → elim t [ true ↦ r | false ↦ i ] ≤ i

@@ -1,14 +1,13 @@
 -- What the definition answers to a book that it turns back is the number and the cell of a row that meets the book, for both calls. Assumes
 -- nothing.
-use Prim.Native.Nat.{ℕ, zero, suc, _+_, _<_}
-use mathlib.Core.Path.{_≡_, refl, sym, ap, subst, _∙_}
+use Prim.Native.Nat.{ℕ, _<_}
+use mathlib.Core.Path.{_≡_, refl, sym, subst, _∙_}
 use mathlib.Core.Logic.{_≢_}
 use mathlib.Core.Bool.{Bool, true, false, false≢true}
 use mathlib.Core.Option.{Option, none, some, Option·some-injective, Option·none-ne-some}
-use mathlib.Core.List.{List, [], _∷_}
-use native.Mathlib.Omega.{arith}
+use mathlib.Core.List.{List, []}
 use borrow.Author.Tests.{ltb-true, eqb-true, eqb-false}
-use lib.Dec.{ltb, eqb}
+use lib.Dec.{eqb}
 use lib.ListN.{length}
 use Rattle.calculus.specs.Syntax.{Ty}
 use Rattle.calculus.specs.Infer.{Reason, unbound, not-function, no-field, conflict, mismatch, Found, found, infer}
@@ -16,14 +15,14 @@ use Rattle.calculus.specs.Infer as Infer
 use Rattle.format.specs.Table as Table
 use Rattle.format.specs.Table.{type-sort, term-sort}
 use Rattle.format.specs.Cell.{IsBytes, cellAt}
-use Rattle.format.specs.Tree.{cells, treeAt}
 use Rattle.format.specs.Book.{Fault, bad-length, bad-trailer, bad-count, bad-kind, bad-unnamed, bad-reference, bad-sort, bad-root, bad-size}
-use Rattle.format.specs.Book.{Finding, firstBad, rowFault, cellFault, cellsFinding, rootFinding, cellsForm, formFinding, everyField, unnamedOk, referenceOk, sortOk}
-use Rattle.format.specs.Book.{lengthOk, trailerOk, countOk, sortIs, hasSort, rootOf, count, follow, opened, WellFormed, sizeLimit}
+use Rattle.format.specs.Book.{Finding, firstBad, rowFault, cellFault, cellsForm, formFinding, everyField, unnamedOk, referenceOk, sortOk}
+use Rattle.format.specs.Book.{sortIs, hasSort, rootOf, count, follow, opened, WellFormed}
 use Rattle.format.proofs.Tests.{sortIs-says, cellFault-says, cellsForm-says, formFinding-says}
+use Rattle.format.proofs.Findings.{by-rows}
 use Rattle.format.proofs.Places.{Names, refusal-names}
 use Rattle.answers.specs.Answer.{faultNumber, reasonNumber, refused, Result, result}
-use Rattle.answers.specs.Engine.{workLength, zeros}
+use Rattle.answers.specs.Engine.{workLength}
 use Rattle.answers.specs.Definition.{judge, afterForm, afterTyping, turnedBack}
 use Rattle.engine.specs.Rows.{Row, buffer, length-row, trailer, count-row, kind, unnamed, reference, sort, root, size}
 use Rattle.engine.specs.Rows.{variable, application, field-read, merge, checked, Mistyped, Refuses}
@@ -52,23 +51,6 @@ cell-faults s i f e = go (Table.rowOf (cellAt s i .kind)) e
     go (some r) q =
         three (everyField unnamedOk r (cellAt s i)) (everyField (referenceOk i) r (cellAt s i)) (everyField (sortOk s) r (cellAt s i)) q
 
--- the first finding among n cells from i on is one of them
-record Among (s : List ℕ) (n : ℕ) (f : Finding) : Type 0 where
-  below : f .cell < n
-  meets : cellFault s (f .cell) ≡ some (f .fault)
-
-among : (s : List ℕ) (n i : ℕ) (f : Finding) → cellsFinding s n i ≡ some f → Among s (i + n) f
-unfolding cellsFinding
-among s zero i f e = absurd (Option·none-ne-some f e)
-among s (suc n) i f e = go (among s n (suc i) f) (cellFault s i) refl e
-  where
-    go : (cellsFinding s n (suc i) ≡ some f → Among s (suc i + n) f) → (x : Option Fault) → cellFault s i ≡ x →
-        _≡_ {A = Option Finding} (elim x [ none ↦ cellsFinding s n (suc i) | some g ↦ some (record { fault = g; cell = i }) ]) (some f) →
-        Among s (i + suc n) f
-    go h none p q = let a = h q in record { below = omega (arith, a .below); meets = a .meets }
-    go h (some g) p q =
-        subst (Among s (i + suc n)) (Option·some-injective (record { fault = g; cell = i }) f q) (record { below = omega arith; meets = p })
-
 module _ (b w : List ℕ) where
   -- a finding's row
   abbrev RowOf : Finding → Type 0
@@ -81,23 +63,6 @@ module _ (b w : List ℕ) where
   cell-row i bad-sort h e o = sort h e
 
   -- ---- rows 2 to 10
-
-  finds : (g f : Finding) → RowOf g → _≡_ {A = Option Finding} (some g) (some f) → RowOf f
-  finds g f r e = subst RowOf (Option·some-injective g f e) r
-
-  -- a test, and what comes after it
-  tested : (t : Bool) (g : Fault) (o : Option Finding) (f : Finding) → (t ≡ false → RowOf (record { fault = g; cell = 0 })) → (o ≡ some f → RowOf f) →
-      _≡_ {A = Option Finding} (elim t [ false ↦ some (record { fault = g; cell = 0 }) | true ↦ o ]) (some f) → RowOf f
-  tested true g o f m h e = h e
-  tested false g o f m h e = finds (record { fault = g; cell = 0 }) f (m refl) e
-
-  cells-row : (f : Finding) → cellsForm b ≡ some f → RowOf f
-  unfolding cellsForm
-  cells-row f e =
-      tested (lengthOk b) bad-length _ f length-row
-      (tested (trailerOk b) bad-trailer _ f trailer
-      (tested (countOk b) bad-count _ f count-row
-      (λ q. let a = among b (count b) 0 f q in cell-row (f .cell) (f .fault) (omega (arith, a .below)) (a .meets) (cell-faults b (f .cell) (f .fault) (a .meets))))) e
 
   -- past row 8 a root that is no term is a type
   root-type : cellsForm b ≡ none → hasSort b term-sort (rootOf b) ≡ false → hasSort b type-sort (rootOf b) ≡ true
@@ -113,28 +78,17 @@ module _ (b w : List ℕ) where
           by type-sort e = sortIs-says type-sort r .1 e
           by term-sort e = absurd (false≢true (sym q ∙ sortIs-says term-sort r .1 e))
 
-  root-row : cellsForm b ≡ none → (f : Finding) → rootFinding b ≡ some f → RowOf f
-  unfolding rootFinding
-  root-row n f e = go (hasSort b term-sort (rootOf b)) refl e
-    where
-      sized : (t : Bool) → ltb sizeLimit (cells (treeAt b (rootOf b))) ≡ t →
-          _≡_ {A = Option Finding} (elim t [ true ↦ some (record { fault = bad-size; cell = rootOf b }) | false ↦ none ]) (some f) → RowOf f
-      sized true p q = finds (record { fault = bad-size; cell = rootOf b }) f (size (ltb-true _ _ p)) q
-      sized false p q = absurd (Option·none-ne-some f q)
-
-      go : (t : Bool) → hasSort b term-sort (rootOf b) ≡ t →
-          _≡_ {A = Option Finding} (elim t [ true ↦ elim (ltb sizeLimit (cells (treeAt b (rootOf b)))) [ true ↦ some (record { fault = bad-size; cell = rootOf b }) | false ↦ none ] | false ↦ some (record { fault = bad-root; cell = rootOf b }) ]) (some f) →
-          RowOf f
-      go true p q = sized (ltb sizeLimit (cells (treeAt b (rootOf b)))) refl q
-      go false p q = finds (record { fault = bad-root; cell = rootOf b }) f (root (root-type n p)) q
-
   form-row : (f : Finding) → formFinding b ≡ some f → RowOf f
-  unfolding formFinding
-  form-row f e = go (cellsForm b) refl e
-    where
-      go : (x : Option Finding) → cellsForm b ≡ x → _≡_ {A = Option Finding} (elim x [ none ↦ rootFinding b | some g ↦ some g ]) (some f) → RowOf f
-      go none p q = root-row p f q
-      go (some g) p q = finds g f (cells-row g p) q
+  form-row =
+      by-rows RowOf b
+      (record {
+        row-2 = length-row;
+        row-3 = trailer;
+        row-4 = count-row;
+        rows-5-to-8 = λ f i l h e. cell-row i f h e (cell-faults b i f e);
+        row-9 = λ n h. root (root-type n h);
+        row-10 = λ h. size (ltb-true _ _ h);
+      })
 
   -- ---- rows 11 to 15
 

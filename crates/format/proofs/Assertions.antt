@@ -7,14 +7,12 @@ use mathlib.Core.List.{List, [], _∷_, _++_, map}
 use Rattle.format.specs.Table.{table, rowIn, rowOf}
 use Rattle.format.specs.Cell.{cellAt, cellBytes}
 use Rattle.format.specs.Tree.{cells, branch, grow, openWithin, treeAt}
-use Rattle.format.specs.Book.{Fault, bad-length, bad-trailer, bad-count, bad-unnamed, bad-reference, bad-sort, bad-root, Finding}
+use Rattle.format.specs.Book.{bad-length, bad-trailer, bad-count, bad-unnamed, bad-reference, bad-sort, bad-root}
 use Rattle.format.specs.Book.{firstBad, rowFault, cellFault, cellsFinding, rootFinding, cellsForm, formFinding, follow, trailer}
+use Rattle.format.proofs.Findings.{at}
 
 abbrev cell : (kind label a b c : ℕ) → List ℕ
 cell k l a b c = cellBytes (record { kind = k; label = l; a = a; b = b; c = c })
-
-abbrev at : Fault → ℕ → Finding
-at f i = record { fault = f; cell = i }
 
 abbrev int : List ℕ
 int = cell 1 0 0 0 0

@@ -6,3 +6,4 @@ pub mod Laying
 pub mod RoundTrip
 pub mod Assertions
 pub mod Places
+pub mod Findings
