@@ -7,7 +7,7 @@ use lib.Dec.{eqb, ltb}
 use lib.IntN.{ℤ, pos, negsuc, pos-ne-negsuc}
 use native.Mathlib.Decide.{ℕ-discrete}
 use Rattle.calculus.specs.Syntax.{Ty, int, top, arrow, inter, field, size-type, Ty-discrete, Term-discrete}
-use Rattle.calculus.specs.Syntax.{Term, var, lit, unit, anno, app, lam, merge, fix, rcd, proj}
+use Rattle.calculus.specs.Syntax.{Term, var, lit, unit, anno, app, lam, merge, fix, rcd, proj, byForm, foldValue, foldParts}
 
 unfoldable pub topLike? : Ty → Bool
 topLike? int = false
@@ -72,29 +72,11 @@ disjoint? (inter C D) B = disjoint? C B && disjoint? D B
 disjoint? (field k C) B = disjointField k (disjoint? C) B
 
 unfoldable pub value? : Term → Bool
-value? (var n) = false
-value? (lit i) = true
-value? unit = true
-value? (anno e A) = false
-value? (app e f) = false
-value? (lam e A B) = true
-value? (merge e f) = value? e && value? f
-value? (fix e A) = false
-value? (rcd l e) = value? e
-value? (proj l e) = false
+value? e = foldValue (λ i. true) true (λ b A B. true) _&&_ (λ l x. x) false e
 
 -- The type that a value shows by its form; of a term that is no value, Top.
 unfoldable pub typeOf : Term → Ty
-typeOf (var n) = top
-typeOf (lit i) = int
-typeOf unit = top
-typeOf (anno e A) = top
-typeOf (app e f) = top
-typeOf (lam e A B) = arrow A B
-typeOf (merge e f) = inter (typeOf e) (typeOf f)
-typeOf (fix e A) = top
-typeOf (rcd l e) = field l (typeOf e)
-typeOf (proj l e) = top
+typeOf e = foldValue (λ i. int) top (λ b A B. arrow A B) inter field top e
 
 -- No variable of e skips k binders or more: with k = 0, e is closed.
 unfoldable pub closed? : ℕ → Term → Bool
@@ -139,64 +121,21 @@ sameTerm e f = decided (Term-discrete ℕ-discrete sameInteger (Ty-discrete ℕ-
 
 -- f asked of each part of a value that is no merge: all must say yes.
 unfoldable pub eachPart : (Term → Bool) → Term → Bool
-eachPart f (var n) = f (var n)
-eachPart f (lit i) = f (lit i)
-eachPart f unit = f unit
-eachPart f (anno e A) = f (anno e A)
-eachPart f (app e g) = f (app e g)
-eachPart f (lam e A B) = f (lam e A B)
-eachPart f (merge v w) = eachPart f v && eachPart f w
-eachPart f (fix e A) = f (fix e A)
-eachPart f (rcd l e) = f (rcd l e)
-eachPart f (proj l e) = f (proj l e)
+eachPart f e = foldParts f _&&_ e
 
 -- A number, a function and a record against a value that is no merge.
 unfoldable pub consistentLit : ℤ → Term → Bool
-consistentLit i (var n) = false
-consistentLit i (lit j) = decided (sameInteger i j)
-consistentLit i unit = true
-consistentLit i (anno e A) = false
-consistentLit i (app e f) = false
-consistentLit i (lam e A B) = true
-consistentLit i (merge e f) = false
-consistentLit i (fix e A) = false
-consistentLit i (rcd l e) = true
-consistentLit i (proj l e) = false
+consistentLit i w = byForm (λ j. decided (sameInteger i j)) true (λ f C D. true) (λ l f. true) false w
 
 unfoldable pub consistentLam : Term → Ty → Ty → Term → Bool
-consistentLam e A B (var n) = false
-consistentLam e A B (lit j) = true
-consistentLam e A B unit = true
-consistentLam e A B (anno f C) = false
-consistentLam e A B (app f g) = false
-consistentLam e A B (lam f C D) = (sameTerm e f && sameType A C) || disjoint? B D
-consistentLam e A B (merge f g) = false
-consistentLam e A B (fix f C) = false
-consistentLam e A B (rcd l f) = true
-consistentLam e A B (proj l f) = false
+consistentLam e A B w = byForm (λ j. true) true (λ f C D. (sameTerm e f && sameType A C) || disjoint? B D) (λ l f. true) false w
 
 -- f asks of a content whether it is consistent with that of the record of label l
 unfoldable pub consistentRcd : ℕ → (Term → Bool) → Term → Bool
-consistentRcd l f (var n) = false
-consistentRcd l f (lit j) = true
-consistentRcd l f unit = true
-consistentRcd l f (anno e C) = false
-consistentRcd l f (app e g) = false
-consistentRcd l f (lam e C D) = true
-consistentRcd l f (merge e g) = false
-consistentRcd l f (fix e C) = false
-consistentRcd l f (rcd k e) = not (eqb l k) || f e
-consistentRcd l f (proj k e) = false
+consistentRcd l f w = byForm (λ j. true) true (λ e C D. true) (λ k e. not (eqb l k) || f e) false w
 
 -- Of values.
 unfoldable pub consistent? : Term → Term → Bool
-consistent? (var n) w = false
-consistent? (lit i) w = eachPart (consistentLit i) w
-consistent? unit w = true
-consistent? (anno e A) w = false
-consistent? (app e f) w = false
-consistent? (lam e A B) w = eachPart (consistentLam e A B) w
-consistent? (merge v u) w = consistent? v w && consistent? u w
-consistent? (fix e A) w = false
-consistent? (rcd l v) w = eachPart (consistentRcd l (consistent? v)) w
-consistent? (proj l e) w = false
+consistent? v =
+    foldValue (λ i. eachPart (consistentLit i)) (λ w. true) (λ e A B. eachPart (consistentLam e A B)) (λ p q w. p w && q w)
+    (λ l p. eachPart (consistentRcd l p)) (λ w. false) v

@@ -73,3 +73,44 @@ put k s (merge e f) = merge (put k s e) (put k s f)
 put k s (fix e A) = fix (put (suc k) s e) A
 put k s (rcd l e) = rcd l (put k s e)
 put k s (proj l e) = proj l (put k s e)
+
+-- ---- what evaluation asks of a term goes by five forms: a number, the top value, a function, a merge, a record; all else is other
+
+abbrev pub byForm : {X : Type 0} (number : ℤ → X) (top-value : X) (function : Term → Ty → Ty → X) (recorded : ℕ → Term → X) (other : X) → Term → X
+byForm n u f r z (var k) = z
+byForm n u f r z (lit i) = n i
+byForm n u f r z unit = u
+byForm n u f r z (anno e A) = z
+byForm n u f r z (app e g) = z
+byForm n u f r z (lam e A B) = f e A B
+byForm n u f r z (merge e g) = z
+byForm n u f r z (fix e A) = z
+byForm n u f r z (rcd l e) = r l e
+byForm n u f r z (proj l e) = z
+
+-- The same of a value as a whole: merges and records from what their parts give.
+abbrev pub foldValue : {X : Type 0} (number : ℤ → X) (top-value : X) (function : Term → Ty → Ty → X) (merged : X → X → X) (recorded : ℕ → X → X) (other : X)
+    → Term → X
+foldValue n u f m r z (var k) = z
+foldValue n u f m r z (lit i) = n i
+foldValue n u f m r z unit = u
+foldValue n u f m r z (anno e A) = z
+foldValue n u f m r z (app e g) = z
+foldValue n u f m r z (lam e A B) = f e A B
+foldValue n u f m r z (merge e g) = m (foldValue n u f m r z e) (foldValue n u f m r z g)
+foldValue n u f m r z (fix e A) = z
+foldValue n u f m r z (rcd l e) = r l (foldValue n u f m r z e)
+foldValue n u f m r z (proj l e) = z
+
+-- f of the parts of a value that are no merges, joined by m.
+abbrev pub foldParts : {X : Type 0} (f : Term → X) (m : X → X → X) → Term → X
+foldParts f m (var k) = f (var k)
+foldParts f m (lit i) = f (lit i)
+foldParts f m unit = f unit
+foldParts f m (anno e A) = f (anno e A)
+foldParts f m (app e g) = f (app e g)
+foldParts f m (lam e A B) = f (lam e A B)
+foldParts f m (merge e g) = m (foldParts f m e) (foldParts f m g)
+foldParts f m (fix e A) = f (fix e A)
+foldParts f m (rcd l e) = f (rcd l e)
+foldParts f m (proj l e) = f (proj l e)
