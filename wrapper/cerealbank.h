@@ -35,7 +35,7 @@ extern "C" {
 /* Both calls read the book's bytes, and write the work buffer's and nothing else but their stack. The book and the work buffer must not
    overlap. */
 
-/* Checks a book: accepted with its type laid down as a book of its own at the start of the work buffer and zeros past it, or refused
+/* Checks a book: accepted with its type encoded as a book of its own at the start of the work buffer and zeros past it, or refused
    with a zeroed work buffer. Refusal 1 touches nothing. */
 uint64_t cerealbank_check(const uint8_t *book, size_t book_len, uint8_t *work, size_t work_len);
 

@@ -1,13 +1,13 @@
 //! The books that are timed.
 
-use compare::cells::{lay, Cell, Cells, Sharing};
-use compare::comparing::Course;
+use compare::cells::{encode, zeroed, Cells, Sharing};
+use compare::comparing::Execution;
 use compare::deepest::merges;
 use compare::extremes::{left, times};
 use compare::families::families;
 use compare::random::Random;
 use compare::samples::{doubled, own_fixpoint};
-use evaluator::{read, Answer, Term, Type};
+use evaluator::{decode, kind, Answer, Cell, Term, Type};
 
 pub type Named = (String, Vec<u8>);
 
@@ -21,7 +21,7 @@ fn top() -> Type {
 
 /// The term as a book, equal cells shared.
 pub fn shared(term: &Term) -> Vec<u8> {
-    lay(term, Sharing::Always, &mut Random::of(0, "", 0)).bytes()
+    encode(term, Sharing::Always, &mut Random::of(0, "", 0)).bytes()
 }
 
 fn named(name: &str, term: Term) -> Named {
@@ -43,27 +43,27 @@ pub fn small_typed(count: usize) -> Vec<Vec<u8>> {
     let mut books = Vec::new();
     for family in families().into_iter().filter(|family| names.contains(&family.name)) {
         let small = |book: &Vec<u8>| {
-            read(book).is_ok_and(|root| root.size() <= 200)
-                && Course::of(book).is_some_and(|course| matches!(course.answer, Answer::Value { steps: 1..=50 }))
+            decode(book).is_ok_and(|root| root.size() <= 200)
+                && Execution::of(book).is_some_and(|execution| matches!(execution.answer, Answer::Value { steps: 1..=50 }))
         };
         books.extend(family.books(1, 10 * count).filter(small).take(count / names.len()));
     }
     books
 }
 
-/// Books of 4,095 opened cells, or as near as their form comes.
+/// Books of 4,095 cells with nothing shared, or as near as their form comes.
 pub fn full() -> Vec<Named> {
     let parts = vec![Term::annotation(Term::number(1), top()); 1_023];
     let merged = merges(&parts).map(|(way, term)| named(&format!("1,023 annotated parts merged, {way}"), term));
     let mut books = vec![
         named("4,094 nested records", times(4_094, Term::number(1), |e| Term::record(7, e))),
-        named("4,094 nested field reads", times(4_094, Term::top(), |e| Term::read(7, e))),
+        named("4,094 nested field reads", times(4_094, Term::top(), |e| Term::projection(7, e))),
         named("2,047 nested annotations", times(2_047, Term::number(1), |e| Term::annotation(e, int()))),
         named("2,047 nested applications", times(2_047, Term::top(), |e| Term::application(e, Term::top()))),
         named("2,047 nested merges, to the right", times(2_047, Term::top(), |e| Term::merge(Term::top(), e))),
         named("2,047 nested fixpoints", times(2_047, Term::top(), |e| Term::fixpoint(e, top()))),
         named("1,364 nested functions", times(1_364, Term::variable(0), |e| Term::function(e, top(), top()))),
-        ("the top value merged with itself 11 times".to_string(), doubled(Cell::new(18, 0, [0; 3]), 11)),
+        ("the top value merged with itself 11 times".to_string(), doubled(zeroed(kind::TOP_VALUE), 11)),
     ];
     books.extend(merged);
     books
@@ -102,10 +102,10 @@ pub fn costly() -> Vec<Named> {
 }
 
 fn two_chains() -> Vec<u8> {
-    let one = Cells::of(&doubled(Cell::new(18, 0, [0; 3]), 38)).expect("a book").cells;
+    let one = Cells::of(&doubled(zeroed(kind::TOP_VALUE), 38)).expect("a book").cells;
     let n = one.len() as u16;
     let other = one.iter().map(|cell| cell.redirected(|to| to + n));
-    let merge = Cell::new(22, 0, [n - 1, 2 * n - 1, 0]);
+    let merge = Cell::new(kind::MERGE, 0, [n - 1, 2 * n - 1, 0]);
     Cells { cells: one.iter().copied().chain(other).chain([merge]).collect(), root: 2 * n }.bytes()
 }
 
@@ -142,24 +142,24 @@ pub fn growing() -> Vec<u8> {
     shared(&own_fixpoint())
 }
 
-/// A merge of records, read under an intersection of as many record types, in the reverse order.
-pub fn records_read(count: usize) -> Vec<u8> {
+/// A merge of records, cast to an intersection of as many record types, in the reverse order.
+pub fn records_cast(count: usize) -> Vec<u8> {
     let label = |n: usize| (n % 256) as u8;
     let value = merged((0..count).map(|n| Term::record(label(n), Term::number(n as i32 % 256))));
     let types = (0..count).rev().map(|n| Type::record(label(n), int()));
     shared(&Term::annotation(value, types.reduce(Type::intersection).expect("a part")))
 }
 
-/// A record behind so many others, read under as many copies of its type.
-pub fn last_read(count: usize) -> Vec<u8> {
+/// A record behind so many others, cast to as many copies of its type.
+pub fn last_cast(count: usize) -> Vec<u8> {
     let others = (0..count - 1).map(|n| Term::record((n % 255) as u8, Term::number(1)));
     let value = merged(others.chain([Term::record(255, Term::number(1))]));
     shared(&Term::annotation(value, left(&Type::record(255, int()), count)))
 }
 
-/// A function with a body of so many cells, read under as many function types.
-pub fn function_read(body: usize, count: usize) -> Vec<u8> {
-    let body = times(body - 3, Term::top(), |e| Term::read(3, e));
+/// A function with a body of so many cells, cast to as many function types.
+pub fn function_cast(body: usize, count: usize) -> Vec<u8> {
+    let body = times(body - 3, Term::top(), |e| Term::projection(3, e));
     let function = Term::function(Term::merge(Term::number(6), body), int(), int());
     shared(&Term::annotation(function, left(&Type::function(int(), int()), count)))
 }

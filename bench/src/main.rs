@@ -11,8 +11,8 @@ mod timing;
 use books::Named;
 use compare::engines::Call;
 use compare::extremes::times;
-use compare::samples::kept_books;
-use evaluator::{lay_term, on_large_stack, read, successors, Answer, Term};
+use compare::samples::sample_books;
+use evaluator::{decode, encode_term, on_large_stack, successors, Answer, Term, CELL};
 use std::process::ExitCode;
 use std::sync::atomic::Ordering::Relaxed;
 use timing::{engine, evaluator, from_the_root, race, steps_alone, Side, Timed, QUICK};
@@ -22,7 +22,7 @@ const TWO: [Side; 2] = [engine, evaluator];
 const THREE: [Side; 3] = [engine, evaluator, from_the_root];
 
 fn cells(book: &[u8]) -> usize {
-    book.len() / 8 - 1
+    book.len() / CELL - 1
 }
 
 fn head(title: &str, columns: &str) {
@@ -30,7 +30,7 @@ fn head(title: &str, columns: &str) {
     println!("\n### {title}\n\n| {} |\n|{}", columns.join(" | "), "---|".repeat(columns.len()));
 }
 
-fn said(answer: Answer) -> String {
+fn shown(answer: Answer) -> String {
     match answer {
         Answer::Refused { number, cell } => format!("refused {number} {cell}"),
         Answer::Accepted { size } => format!("accepted {size}"),
@@ -67,7 +67,7 @@ fn table(title: &str, sides: &[Side], call: Call, books: &[Named]) {
     head(title, if sides.len() == 2 { CHECKS } else { RUNS });
     for (name, book) in books {
         let Timed { answer, seconds } = race(sides, call, std::slice::from_ref(book));
-        row(name, &said(answer), &seconds);
+        row(name, &shown(answer), &seconds);
     }
 }
 
@@ -84,11 +84,11 @@ fn long_runs(title: &str) {
     head(title, RUNS);
     for limit in [255, 511, 1_023, 2_046, 10_000] {
         let Timed { answer, seconds } = race(&THREE, Call::Run { limit }, &[books::growing()]);
-        row(&format!("the growing fixpoint, limit {limit}"), &said(answer), &seconds);
+        row(&format!("the growing fixpoint, limit {limit}"), &shown(answer), &seconds);
     }
     let calls = |name: &str, book: Vec<u8>| {
         let Timed { answer, seconds } = race(&THREE, DESK, &[book]);
-        row(name, &said(answer), &seconds);
+        row(name, &shown(answer), &seconds);
     };
     calls("a function that calls itself, limit 10000", books::endless(0));
     calls("the same within 2,000 records", books::endless(2_000));
@@ -100,12 +100,12 @@ fn long_runs(title: &str) {
     }
 }
 
-fn sample_books(title: &str) {
+fn samples(title: &str) {
     head(
         title,
         "book, answer, check ms, check: engine / evaluator, run ms, steps a second, run: engine / evaluator, run: engine / from the root",
     );
-    for (name, book) in kept_books() {
+    for (name, book) in sample_books() {
         let books = [book];
         let check = race(&TWO, Call::Check, &books).seconds;
         let Timed { answer, seconds } = race(&THREE, DESK, &books);
@@ -117,7 +117,7 @@ fn sample_books(title: &str) {
         };
         let (first, second) = (ratio(&seconds, 1), ratio(&seconds, 2));
         let (check, over) = (ms(check[0]), ratio(&check, 1));
-        println!("| {name} | {} | {check} | {over} | {} | {rate} | {first} | {second} |", said(answer), ms(seconds[0]));
+        println!("| {name} | {} | {check} | {over} | {} | {rate} | {first} | {second} |", shown(answer), ms(seconds[0]));
     }
 }
 
@@ -138,7 +138,7 @@ fn growth_of_the_check(title: &str) {
         rows.push(("nested annotations", times((n - 1) / 2, Term::number(1), |e| Term::annotation(e, books::int()))));
     }
     rows.sort_by_key(|(name, _)| *name);
-    let books: Vec<Vec<u8>> = rows.iter().map(|(_, term)| lay_term(term)).collect();
+    let books: Vec<Vec<u8>> = rows.iter().map(|(_, term)| encode_term(term)).collect();
     let seconds = passes(rows.len(), |row| race(&TWO, Call::Check, &books[row..=row]).seconds);
     for ((name, term), seconds) in rows.iter().zip(seconds) {
         let [a, b] = [0, 1].map(|side| seconds[side] * 1e9 / term.size() as f64);
@@ -149,7 +149,7 @@ fn growth_of_the_check(title: &str) {
 /// The cells of a term on the way, on average over so many steps.
 fn average_cells(book: &[u8], steps: u32) -> f64 {
     on_large_stack(|| {
-        let mut term = read(book).expect("a term");
+        let mut term = decode(book).expect("a term");
         let mut sum = 0;
         for _ in 0..steps {
             sum += term.size();
@@ -177,22 +177,22 @@ fn growth_of_a_step(title: &str) {
     }
 }
 
-fn readings(title: &str) {
+fn casts(title: &str) {
     let columns = "value and type, parts of each, engine ms, evaluator ms, engine / evaluator, engine ns a pair of parts";
     head(title, columns);
     let mut rows: Vec<(&str, usize)> = Vec::new();
     let mut books: Vec<Vec<u8>> = Vec::new();
     for parts in [85, 170, 341, 682] {
         rows.push(("records, under their types in reverse order", parts));
-        books.push(books::records_read(parts));
+        books.push(books::records_cast(parts));
     }
     for parts in [85, 170, 341, 682] {
         rows.push(("a record behind others, under copies of its type", parts));
-        books.push(books::last_read(parts));
+        books.push(books::last_cast(parts));
     }
     for parts in [15, 30, 60] {
         rows.push(("a function with so many cells of body, under function types", parts));
-        books.push(books::function_read(parts, parts));
+        books.push(books::function_cast(parts, parts));
     }
     for ((name, parts), book) in rows.into_iter().zip(books) {
         let seconds = steps_alone(&TWO, &book, 1);
@@ -210,10 +210,10 @@ const TABLES: [(&str, Table); 10] = [
     ("Books of 4,095 cells: run, limit 10,000", |title| table(title, &THREE, DESK, &books::full())),
     ("Long runs", long_runs),
     ("Costly books: check", |title| table(title, &TWO, Call::Check, &books::costly())),
-    ("The sample books: check, and run with limit 10,000", sample_books),
+    ("The sample books: check, and run with limit 10,000", samples),
     ("Growth: the check", growth_of_the_check),
     ("Growth: a step of a function that calls itself within records", growth_of_a_step),
-    ("The largest readings: the one step alone", readings),
+    ("The largest readings: the one step alone", casts),
     ("Stack: the most that a book takes, run with limits 0, 1, 2, 3, 10 and 10,000", stack::stack),
 ];
 

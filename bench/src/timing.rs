@@ -1,7 +1,7 @@
 //! Sides and clocks.
 
 use compare::engines::{Call, Engine, Evaluator, Library};
-use evaluator::{find, lay_term, on_large_stack, read, successors, Answer, Refusal, SIZE_LIMIT, WORK};
+use evaluator::{decode, encode_term, infer, on_large_stack, successors, Answer, Refusal, SIZE_LIMIT, WORK};
 use std::sync::atomic::{AtomicBool, Ordering::Relaxed};
 use std::time::Instant;
 
@@ -23,15 +23,15 @@ pub fn evaluator(call: Call, book: &[u8], work: &mut [u8]) -> Answer {
 pub fn from_the_root(call: Call, book: &[u8], work: &mut [u8]) -> Answer {
     let Call::Run { limit } = call else { return evaluator(call, book, work) };
     let refused = |Refusal { number, cell }| (Answer::Refused { number, cell }, Vec::new());
-    let (answer, laid) = stepped(book, limit).unwrap_or_else(refused);
+    let (answer, encoded) = stepped(book, limit).unwrap_or_else(refused);
     work.fill(0);
-    work[..laid.len()].copy_from_slice(&laid);
+    work[..encoded.len()].copy_from_slice(&encoded);
     answer
 }
 
 fn stepped(book: &[u8], limit: u32) -> Result<(Answer, Vec<u8>), Refusal> {
-    let mut term = read(book)?;
-    find(&mut Vec::new(), &term)?;
+    let mut term = decode(book)?;
+    infer(&mut Vec::new(), &term)?;
     let mut steps = 0;
     let answer = loop {
         if term.is_value() {
@@ -46,7 +46,7 @@ fn stepped(book: &[u8], limit: u32) -> Result<(Answer, Vec<u8>), Refusal> {
         }
         (term, steps) = (next, steps + 1);
     };
-    Ok((answer, lay_term(&term)))
+    Ok((answer, encode_term(&term)))
 }
 
 /// The answer, the same of each side, and each side's least seconds.
@@ -82,7 +82,7 @@ fn enough(round: usize, start: Instant, seconds: f64) -> bool {
     spent > 3.0 || round >= rounds && spent > seconds
 }
 
-/// The seconds of so many steps alone, on each side: those of the run without those of the run with limit 0, which checks and lays down.
+/// The seconds of so many steps alone, on each side: those of the run without those of the run with limit 0, which checks and encodes the root.
 /// The median of many rounds, for it may be little of the whole.
 pub fn steps_alone(sides: &[Side], book: &[u8], limit: u32) -> Vec<f64> {
     on_large_stack(|| {

@@ -1,72 +1,34 @@
 //! Books as lists of cells, to make, change and shrink them.
 
 use crate::random::Random;
-use evaluator::{lay_term, Term};
+use evaluator::{encode_term, row, Cell, Sort, Term, CELL, TABLE, TRAILER};
 use std::collections::HashMap;
 
-#[derive(Clone, Copy, PartialEq, Eq, Hash, Debug)]
-pub struct Cell {
-    pub kind: u8,
-    pub label: u8,
-    pub fields: [u16; 3],
+/// A cell of this kind with zeros in it.
+pub const fn zeroed(kind: u8) -> Cell {
+    Cell::new(kind, 0, [0; 3])
 }
 
-#[derive(Clone, Copy, PartialEq, Eq, Debug)]
-pub enum Sort {
-    Type,
-    Term,
+/// The sort of a kind. An unknown one counts as the next kind of the table, or as the last.
+pub fn sort_of(kind: u8) -> Sort {
+    TABLE.iter().find(|row| row.kind >= kind).unwrap_or(&TABLE[TABLE.len() - 1]).sort
 }
 
-/// The kinds of types, then those of terms.
-pub const KINDS: [u8; 15] = [1, 2, 3, 4, 5, 16, 17, 18, 19, 20, 21, 22, 23, 24, 25];
+pub fn is_labelled(kind: u8) -> bool {
+    row(kind).is_some_and(|row| row.labelled)
+}
 
-impl Cell {
-    pub fn new(kind: u8, label: u8, fields: [u16; 3]) -> Cell {
-        Cell { kind, label, fields }
-    }
+/// The next kind of the table, round and round, with the same fields: itself, if there is no other.
+pub fn alike(kind: u8) -> u8 {
+    let Some(of) = row(kind) else { return kind };
+    let later = TABLE.iter().cycle().skip_while(|row| row.kind != kind).skip(1);
+    later.take(TABLE.len()).find(|row| row.same_fields(of)).map_or(kind, |row| row.kind)
+}
 
-    pub fn number(n: i32) -> Cell {
-        let bits = n as u32;
-        Cell::new(17, 0, [0, bits as u16, (bits >> 16) as u16])
-    }
-
-    pub fn sort(&self) -> Sort {
-        if self.kind <= 5 {
-            Sort::Type
-        } else {
-            Sort::Term
-        }
-    }
-
-    /// Which of a, b and c refer, and to what.
-    pub fn references(&self) -> [Option<Sort>; 3] {
-        const TYPE: Option<Sort> = Some(Sort::Type);
-        const TERM: Option<Sort> = Some(Sort::Term);
-        match self.kind {
-            3 | 4 => [TYPE, TYPE, None],
-            5 => [TYPE, None, None],
-            19 | 23 => [TERM, TYPE, None],
-            20 | 22 => [TERM, TERM, None],
-            21 => [TERM, TYPE, TYPE],
-            24 | 25 => [TERM, None, None],
-            _ => [None; 3],
-        }
-    }
-
-    pub fn labelled(&self) -> bool {
-        matches!(self.kind, 5 | 24 | 25)
-    }
-
-    /// The same cell with each reference put through `to`.
-    pub fn redirected(mut self, to: impl Fn(u16) -> u16) -> Cell {
-        let references = self.references();
-        for (field, sort) in self.fields.iter_mut().zip(references) {
-            if sort.is_some() {
-                *field = to(*field);
-            }
-        }
-        self
-    }
+/// Unknown kinds: those beside a kind of the table, and the trailer's.
+pub fn unknown_kinds() -> Vec<u8> {
+    let beside = |kind: u8| [kind.checked_sub(1), kind.checked_add(1)].into_iter().flatten().any(|kind| row(kind).is_some());
+    (0..=u8::MAX).filter(|&kind| row(kind).is_none() && (beside(kind) || kind == TRAILER)).collect()
 }
 
 #[derive(Clone, PartialEq, Eq, Debug)]
@@ -78,33 +40,23 @@ pub struct Cells {
 impl Cells {
     /// Of bytes with a fitting trailer.
     pub fn of(book: &[u8]) -> Option<Cells> {
-        if book.len() < 16 || !book.len().is_multiple_of(8) {
+        if book.len() < 2 * CELL || !book.len().is_multiple_of(CELL) {
             return None;
         }
-        let field = |at: usize| u16::from_le_bytes([book[at], book[at + 1]]);
-        let trailer = book.len() - 8;
-        if book[trailer..trailer + 2] != [0xF0, 1] || field(trailer + 6) != 0 || usize::from(field(trailer + 2)) != trailer / 8 {
-            return None;
-        }
-        let cell = |at: usize| Cell::new(book[at], book[at + 1], [field(at + 2), field(at + 4), field(at + 6)]);
-        Some(Cells { cells: (0..trailer).step_by(8).map(cell).collect(), root: field(trailer + 4) })
+        let mut cells: Vec<Cell> = book.chunks(CELL).map(Cell::of).collect();
+        let trailer = cells.pop()?;
+        let [count, root, _] = trailer.fields;
+        (usize::from(count) == cells.len() && trailer == Cell::trailer(count, root)).then_some(Cells { cells, root })
     }
 
     pub fn bytes(&self) -> Vec<u8> {
-        let mut bytes = Vec::with_capacity(self.cells.len() * 8 + 8);
-        let trailer = Cell::new(0xF0, 1, [self.cells.len() as u16, self.root, 0]);
-        for cell in self.cells.iter().chain([&trailer]) {
-            bytes.extend([cell.kind, cell.label]);
-            for field in cell.fields {
-                bytes.extend(field.to_le_bytes());
-            }
-        }
-        bytes
+        let trailer = Cell::trailer(self.cells.len() as u16, self.root);
+        self.cells.iter().chain([&trailer]).flat_map(|cell| cell.bytes()).collect()
     }
 
     /// The cells of one sort below this one.
     pub fn of_sort(&self, sort: Sort, below: usize) -> Vec<u16> {
-        (0..below as u16).filter(|&n| self.cells[usize::from(n)].sort() == sort).collect()
+        (0..below as u16).filter(|&n| sort_of(self.cells[usize::from(n)].kind) == sort).collect()
     }
 
     /// With one more cell at this place, the references beyond it raised.
@@ -146,26 +98,26 @@ impl Sharing {
     }
 }
 
-/// Lays a term down, equal cells shared as told.
-pub fn lay(term: &Term, sharing: Sharing, random: &mut Random) -> Cells {
-    let opened = Cells::of(&lay_term(term)).expect("a book");
+/// The book of a term, equal cells shared so often.
+pub fn encode(term: &Term, sharing: Sharing, random: &mut Random) -> Cells {
+    let unshared = Cells::of(&encode_term(term)).expect("a book");
     let mut cells: Vec<Cell> = Vec::new();
     let mut known: HashMap<Cell, u16> = HashMap::new();
-    // Where each cell of the opened book is now.
-    let mut now: Vec<u16> = Vec::with_capacity(opened.cells.len());
-    for cell in opened.cells {
-        let cell = cell.redirected(|n| now[usize::from(n)]);
+    // The new number of each cell.
+    let mut numbers: Vec<u16> = Vec::with_capacity(unshared.cells.len());
+    for cell in unshared.cells {
+        let cell = cell.redirected(|n| numbers[usize::from(n)]);
         let again = match sharing {
             Sharing::Never => false,
             Sharing::Sometimes => random.once_in(2),
             Sharing::Always => true,
         };
-        let place = known.get(&cell).copied().filter(|_| again).unwrap_or(cells.len() as u16);
-        if usize::from(place) == cells.len() {
+        let number = known.get(&cell).copied().filter(|_| again).unwrap_or(cells.len() as u16);
+        if usize::from(number) == cells.len() {
             cells.push(cell);
-            known.insert(cell, place);
+            known.insert(cell, number);
         }
-        now.push(place);
+        numbers.push(number);
     }
-    Cells { cells, root: now[usize::from(opened.root)] }
+    Cells { cells, root: numbers[usize::from(unshared.root)] }
 }

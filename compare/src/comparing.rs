@@ -1,14 +1,14 @@
 //! Comparing two engines on one book.
 
-use crate::engines::{Call, Engine, Evaluator, Said};
+use crate::engines::{Call, Engine, Evaluator, Reply};
 use crate::random::Random;
 use crate::theory;
-use evaluator::{read, Answer, WORK};
+use evaluator::{decode, Answer, WORK};
 use std::cell::{Cell, RefCell};
 
-/// What one side says and leaves.
+/// What one side returns and leaves.
 pub struct Outcome {
-    pub said: Said,
+    pub reply: Reply,
     pub work: Vec<u8>,
 }
 
@@ -69,13 +69,13 @@ impl<'a> Comparison<'a> {
             buffer.clear();
             buffer.extend_from_slice(&self.noise[start..start + length]);
         }
-        let said_left = Evaluator(None).call(call, book, left);
-        let said_right = self.engine.call(call, book, right);
-        match &said_left {
-            Ok(answer) if said_left == said_right && left == right => Ok(*answer),
+        let reply_left = Evaluator(None).call(call, book, left);
+        let reply_right = self.engine.call(call, book, right);
+        match &reply_left {
+            Ok(answer) if reply_left == reply_right && left == right => Ok(*answer),
             _ => Err(Difference::Outcomes(
-                Outcome { said: said_left, work: left.clone() },
-                Outcome { said: said_right, work: right.clone() },
+                Outcome { reply: reply_left, work: left.clone() },
+                Outcome { reply: reply_right, work: right.clone() },
             )),
         }
     }
@@ -97,17 +97,17 @@ impl<'a> Comparison<'a> {
             let run = self.call(book, Call::Run { limit }, WORK)?;
             return Ok(Seen { check, run });
         }
-        let Some(course) = Course::of(book) else {
+        let Some(execution) = Execution::of(book) else {
             // The evaluator gives no answer; asked, it fails.
             return self.call(book, Call::Run { limit: ENOUGH }, WORK).map(|run| Seen { check, run });
         };
-        for limit in course.limits(random) {
+        for limit in execution.limits(random) {
             self.call(book, Call::Run { limit }, WORK)?;
         }
         if self.theory {
             theory::holds(self.engine, book).map_err(|words| (Question::Theory, Difference::Broken(words)))?;
         }
-        Ok(Seen { check, run: course.answer })
+        Ok(Seen { check, run: execution.answer })
     }
 }
 
@@ -117,7 +117,7 @@ const ENOUGH: u32 = 10_000;
 const LARGE: u64 = 1_000;
 
 /// How the evaluator runs an accepted book.
-pub struct Course {
+pub struct Execution {
     pub answer: Answer,
     steps: u32,
     ends: bool,
@@ -125,8 +125,8 @@ pub struct Course {
     cells: u64,
 }
 
-impl Course {
-    pub fn of(book: &[u8]) -> Option<Course> {
+impl Execution {
+    pub fn of(book: &[u8]) -> Option<Execution> {
         let mut work = vec![0; WORK];
         let answer = Evaluator(None).call(Call::Run { limit: ENOUGH }, book, &mut work).ok()?;
         let (steps, ends) = match answer {
@@ -134,7 +134,7 @@ impl Course {
             Answer::Spent { steps } => (steps, false),
             _ => return None,
         };
-        Some(Course { answer, steps, ends, cells: read(book).ok()?.size() })
+        Some(Execution { answer, steps, ends, cells: decode(book).ok()?.size() })
     }
 
     /// The limits that are asked, each once: the lowest, those about the end and half of it, one of those between, and one far past it. A

@@ -1,11 +1,11 @@
 //! Terms that step within others, in every place where a step can be taken, and room decided there.
 
-use crate::cells::{lay, Sharing};
+use crate::cells::{encode, Sharing};
 use crate::deepest::merges;
 use crate::extremes::{left, times};
-use crate::maker::{Maker, Taste, EVEN, LABELS};
+use crate::maker::{Maker, Weights, EVEN, LABELS};
 use crate::random::Random;
-use evaluator::{successors, Term, Type, TypeShape, SIZE_LIMIT};
+use evaluator::{kind, successors, Term, Type, TypeShape, SIZE_LIMIT};
 
 /// A term and its type.
 type Typed = (Term, Type);
@@ -40,9 +40,9 @@ fn within((term, of): Typed, place: usize, random: &mut Random) -> Typed {
     let label = *random.pick(&LABELS);
     match random.lower(9) {
         0 => (Term::record(label, term), Type::record(label, of)),
-        1 => (Term::read(label, Term::record(label, term)), of),
+        1 => (Term::projection(label, Term::record(label, term)), of),
         2 => {
-            let above = Maker::new(random, EVEN, 4).above(&of);
+            let above = Maker::new(random, EVEN, 4).supertype(&of);
             (Term::annotation(term, above.clone()), above)
         }
         3 => {
@@ -66,7 +66,7 @@ fn within((term, of): Typed, place: usize, random: &mut Random) -> Typed {
         _ => {
             let (other, _) = beside(place, random);
             let record = Term::merge(Term::record(label, term), other);
-            (Term::read(label, Term::annotation(record, Type::record(label, of.clone()))), of)
+            (Term::projection(label, Term::annotation(record, Type::record(label, of.clone()))), of)
         }
     }
 }
@@ -79,7 +79,7 @@ fn applied((term, of): Typed, random: &mut Random) -> Typed {
     }
     let any = if matches!(of.shape(), TypeShape::Top) { term } else { Term::annotation(term, top()) };
     let (argument, _) = beside(0, random);
-    (if random.once_in(2) { Term::application(any, argument) } else { Term::read(5, any) }, top())
+    (if random.once_in(2) { Term::application(any, argument) } else { Term::projection(5, any) }, top())
 }
 
 /// The term within so many.
@@ -90,7 +90,7 @@ fn within_many(typed: Typed, count: usize, random: &mut Random) -> Typed {
 fn one_book(term: &Term, random: &mut Random) -> Vec<Vec<u8>> {
     let sharing = Sharing::any(random);
     let term = if term.size() > 2 * SIZE_LIMIT { Term::top() } else { term.clone() };
-    vec![lay(&term, sharing, random).bytes()]
+    vec![encode(&term, sharing, random).bytes()]
 }
 
 /// Something that takes a few steps: of any form, or a fixpoint.
@@ -99,7 +99,7 @@ fn stepping(random: &mut Random) -> Typed {
         return unfolded(random);
     }
     let fuel = random.between(1, 12);
-    let mut maker = Maker::new(random, Taste { annotation: 4, application: 4, read: 4, ..EVEN }, fuel);
+    let mut maker = Maker::new(random, Weights { annotation: 4, application: 4, projection: 4, ..EVEN }, fuel);
     let of = maker.a_type(2);
     let term = maker.term(&of);
     (Term::annotation(term, of.clone()), of)
@@ -115,7 +115,7 @@ pub fn contexts(random: &mut Random) -> Vec<Vec<u8>> {
 
 /// A function under function types, each above the one before, under intersections of them, in a record, applied at last.
 pub fn retyped_functions(random: &mut Random) -> Vec<Vec<u8>> {
-    let mut maker = Maker::new(random, Taste { intersection: 5, record: 5, ..EVEN }, 6);
+    let mut maker = Maker::new(random, EVEN.of_type(kind::INTERSECTION, 5).of_type(kind::RECORD_TYPE, 5), 6);
     let (input, output) = (maker.a_type(2), maker.a_type(2));
     let mut of = Type::function(input, output);
     let mut term = maker.closed_value(&of);
@@ -123,12 +123,12 @@ pub fn retyped_functions(random: &mut Random) -> Vec<Vec<u8>> {
         let mut above = Vec::new();
         for _ in 0..maker.random.between(1, 3) {
             let TypeShape::Function(i, o) = of.shape() else { break };
-            above.push(Type::function(maker.under(i), maker.above(o)));
+            above.push(Type::function(maker.subtype(i), maker.supertype(o)));
         }
         let [first, ..] = &above[..] else { break };
         let both = above.iter().cloned().reduce(Type::intersection).expect("a type");
         term = match maker.random.lower(4) {
-            0 => Term::read(4, Term::annotation(Term::record(4, term), Type::record(4, first.clone()))),
+            0 => Term::projection(4, Term::annotation(Term::record(4, term), Type::record(4, first.clone()))),
             1 => Term::annotation(Term::merge(term, Term::record(4, Term::number(1))), first.clone()),
             2 => Term::annotation(Term::annotation(term, both), first.clone()),
             _ => Term::annotation(term, first.clone()),
@@ -176,7 +176,7 @@ pub fn many_parts(random: &mut Random) -> Vec<Vec<u8>> {
 fn unfolded(random: &mut Random) -> Typed {
     let mut maker = Maker::new(random, EVEN, 5);
     let as_function = Type::function(int(), int());
-    let one = |maker: &mut Maker, kind: usize| match kind {
+    let one = |maker: &mut Maker, form: usize| match form {
         0 => (maker.number(), int()),
         1 => (Term::top(), top()),
         2 => {
@@ -187,9 +187,9 @@ fn unfolded(random: &mut Random) -> Typed {
         3 => (Term::function(Term::application(Term::variable(1), Term::variable(0)), int(), int()), as_function.clone()),
         _ => (Term::record(6, maker.number()), Type::record(6, int())),
     };
-    let kind = maker.random.lower(8);
-    let (body, of) = match kind {
-        0..=4 => one(&mut maker, kind),
+    let form = maker.random.lower(8);
+    let (body, of) = match form {
+        0..=4 => one(&mut maker, form),
         5 => {
             let (inside, of) = one(&mut maker, 2);
             (Term::record(7, inside), Type::record(7, of))
@@ -214,12 +214,12 @@ pub fn unfoldings(random: &mut Random) -> Vec<Vec<u8>> {
     one_book(&term, random)
 }
 
-/// Something that grows by a step or more: a fixpoint, a value put in several times or read several times; or that asks for no room
-/// although its reading is huge.
+/// Something that grows by a step or more: a fixpoint, a value substituted several times or cast to several types; or that asks for no
+/// room although its cast is huge.
 fn growing(random: &mut Random) -> Typed {
     let as_function = Type::function(int(), int());
     let large = random.between(1, 60);
-    let long = times(large, Term::top(), |e| Term::read(3, e));
+    let long = times(large, Term::top(), |e| Term::projection(3, e));
     let value = Term::function(Term::merge(Term::number(6), long), int(), int());
     let (copies, parts) = (random.between(2, 20), random.between(2, 30));
     match random.lower(5) {

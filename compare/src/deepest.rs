@@ -1,10 +1,10 @@
-//! The deepest books of every shape, each as deep as 4,095 cells allow: terms in one another, fixpoints that put themselves in, values put
-//! into bodies, and types.
+//! The deepest books of every shape, each as deep as 4,095 cells allow: terms in one another, fixpoints that unfold, values substituted in
+//! bodies, and types.
 
-use crate::cells::{lay, Sharing};
+use crate::cells::{encode, Sharing};
 use crate::extremes::times;
 use crate::random::Random;
-use evaluator::{top_like, Term, Type, SIZE_LIMIT};
+use evaluator::{kind, row, top_like, Node, Part, Row, Sort, Term, Type, SIZE_LIMIT, TABLE};
 
 /// A deep book: its group, what it nests, and its bytes.
 pub struct Deep {
@@ -15,7 +15,7 @@ pub struct Deep {
 
 fn deep(group: &'static str, name: String, term: Term) -> Deep {
     assert!(term.size() <= SIZE_LIMIT, "{group}, {name}: {} cells", term.size());
-    Deep { group, name, book: lay(&term, Sharing::Never, &mut Random::of(0, "", 0)).bytes() }
+    Deep { group, name, book: encode(&term, Sharing::Never, &mut Random::of(0, "", 0)).bytes() }
 }
 
 /// The most cells that a term may have.
@@ -29,39 +29,91 @@ fn top() -> Type {
     Type::top()
 }
 
-/// A way to go round a term of type Top, again and again.
+/// The label of what is nested.
+const LABEL: u8 = 8;
+
+/// A field that refers to its own cell's sort: parts nest there, again and again.
 #[derive(Clone, Copy)]
-struct Shape {
-    name: &'static str,
-    binders: usize,
-    wrap: fn(Term) -> Term,
+struct Place {
+    row: &'static Row,
+    field: usize,
 }
 
-const SHAPES: [Shape; 10] = [
-    Shape { name: "records", binders: 0, wrap: |e| Term::record(8, e) },
-    Shape { name: "field reads", binders: 0, wrap: |e| Term::read(8, e) },
-    Shape { name: "annotations", binders: 0, wrap: |e| Term::annotation(e, top()) },
-    Shape { name: "applications to the left", binders: 0, wrap: |e| Term::application(e, Term::top()) },
-    Shape { name: "applications to the right", binders: 0, wrap: |e| Term::application(Term::top(), e) },
-    Shape { name: "merges to the left", binders: 0, wrap: |e| Term::merge(e, Term::top()) },
-    Shape { name: "merges to the right", binders: 0, wrap: |e| Term::merge(Term::top(), e) },
-    Shape { name: "functions", binders: 1, wrap: |e| Term::function(e, top(), top()) },
-    Shape { name: "fixpoints", binders: 1, wrap: |e| Term::fixpoint(e, top()) },
-    Shape { name: "all by turns", binders: 0, wrap: all_by_turns },
-];
+impl Place {
+    fn of(kind: u8, field: usize) -> Place {
+        Place { row: row(kind).expect("a kind"), field }
+    }
 
-/// Each shape once, with an annotation where the next needs Top.
+    /// All of a sort: those with a label first, those under a binder last.
+    fn all(sort: Sort) -> Vec<Place> {
+        let rows = TABLE.iter().filter(|row| row.sort == sort);
+        let places = rows.flat_map(|row| [0, 1, 2].map(|field| Place { row, field }));
+        let mut own: Vec<Place> = places.filter(|place| place.row.fields[place.field].sort() == Some(sort)).collect();
+        own.sort_by_key(|place| (place.row.binders, !place.row.labelled));
+        own
+    }
+
+    /// What nests there, and on which side if its kind has two.
+    fn name(&self) -> String {
+        let Row { meaning, sort, fields, .. } = self.row;
+        let side = match (fields.iter().filter(|field| field.sort() == Some(*sort)).count(), self.field) {
+            (1, _) => "",
+            (_, 0) => " to the left",
+            _ => " to the right",
+        };
+        format!("{meaning}s{side}")
+    }
+
+    /// A node with this part there, and with this type or term in its other fields.
+    fn node<'a>(&self, part: Part<'a>, t: &'a Type, e: &'a Term) -> Node<'a> {
+        let mut fields = self.row.fields.map(|field| match field.sort() {
+            Some(Sort::Type) => Part::Type(t),
+            Some(Sort::Term) => Part::Term(e),
+            None => Part::None,
+        });
+        fields[self.field] = part;
+        Node { row: self.row, label: if self.row.labelled { LABEL } else { 0 }, fields }
+    }
+
+    /// The type within as many as so many cells allow, itself beside it.
+    fn around(&self, cells: usize, leaf: &Type) -> Type {
+        let wrap = |t: Type| Type::of(self.node(Part::Type(&t), leaf, &Term::top()));
+        let more = wrap(leaf.clone()).size() - leaf.size();
+        (0..(cells as u64 - leaf.size()) / more).fold(leaf.clone(), |t, _| wrap(t))
+    }
+}
+
+/// A way to go round a term of type Top, again and again.
+struct Shape {
+    name: String,
+    binders: u32,
+    wrap: Box<dyn Fn(Term) -> Term>,
+}
+
+/// Every place of a term, then all by turns.
+fn shapes() -> Vec<Shape> {
+    let all = Shape { name: "all by turns".to_string(), binders: 0, wrap: Box::new(all_by_turns) };
+    Place::all(Sort::Term).into_iter().map(Shape::at).chain([all]).collect()
+}
+
+/// Each way once, with an annotation where the next needs Top.
 fn all_by_turns(inside: Term) -> Term {
     let left = Term::annotation(Term::merge(Term::application(inside, Term::top()), Term::top()), top());
     let right = Term::merge(Term::top(), Term::application(Term::top(), left));
-    Term::read(8, Term::annotation(Term::record(8, right), top()))
+    Term::projection(LABEL, Term::annotation(Term::record(LABEL, right), top()))
 }
 
 impl Shape {
-    /// The term within as many as so many cells allow; it is told how many binders are around it.
+    /// Top and the top value stand in the other fields.
+    fn at(place: Place) -> Shape {
+        let wrap = move |e: Term| Term::of(place.node(Part::Term(&e), &top(), &Term::top()));
+        Shape { name: place.name(), binders: place.row.binders_over(place.field), wrap: Box::new(wrap) }
+    }
+
+    /// The term within as many as so many cells allow; it is given how many binders are around it.
     fn around(&self, cells: usize, inside: impl FnOnce(u16) -> Term) -> Term {
         let count = cells / ((self.wrap)(Term::top()).size() as usize - 1);
-        times(count, inside((count * self.binders) as u16), self.wrap)
+        times(count, inside((count * self.binders as usize) as u16), &self.wrap)
     }
 
     /// A closed term of at most so many cells.
@@ -75,51 +127,29 @@ fn holding(inside: Term) -> Term {
     Term::function(Term::merge(Term::number(6), inside), int(), int())
 }
 
-/// A way to go round a type, again and again; the second type stands beside it.
-#[derive(Clone, Copy)]
-struct TypeShape {
-    name: &'static str,
-    wrap: fn(Type, &Type) -> Type,
-}
-
-const TYPE_SHAPES: [TypeShape; 5] = [
-    TypeShape { name: "record types", wrap: |t, _| Type::record(8, t) },
-    TypeShape { name: "function types to the left", wrap: |t, side| Type::function(t, side.clone()) },
-    TypeShape { name: "function types to the right", wrap: |t, side| Type::function(side.clone(), t) },
-    TypeShape { name: "intersections to the left", wrap: |t, side| Type::intersection(t, side.clone()) },
-    TypeShape { name: "intersections to the right", wrap: |t, side| Type::intersection(side.clone(), t) },
-];
-
-impl TypeShape {
-    /// The type within as many as so many cells allow, itself beside it.
-    fn around(&self, cells: usize, leaf: &Type) -> Type {
-        let more = (self.wrap)(leaf.clone(), leaf).size() - leaf.size();
-        (0..(cells as u64 - leaf.size()) / more).fold(leaf.clone(), |t, _| (self.wrap)(t, leaf))
-    }
-}
-
 /// All of them, in their groups.
 pub fn deepest() -> Vec<Deep> {
-    let terms = [terms(), terms_in_terms(), fixpoints(), fixpoints_within(), put_in()];
-    let types = [types(), two_types(), read_values(), equal_values(), many_parts()];
+    let terms = [terms(), terms_in_terms(), fixpoints(), fixpoints_within(), substitutions()];
+    let types = [types(), two_types(), cast_values(), equal_values(), many_parts()];
     terms.into_iter().chain(types).flatten().collect()
 }
 
 /// Each shape alone.
 fn terms() -> Vec<Deep> {
-    let contents = times(2_047, Term::top(), |e| Term::record(8, e));
-    let reads = times(2_047, contents, |e| Term::read(8, e));
+    let contents = times(2_047, Term::top(), |e| Term::record(LABEL, e));
+    let reads = times(2_047, contents, |e| Term::projection(LABEL, e));
     let annotations = times(2_047, Term::number(1), |e| Term::annotation(e, int()));
     let others = [("field reads of records", reads), ("annotations by Int", annotations)];
-    let all = SHAPES.iter().map(|shape| (shape.name, shape.alone(CELLS))).chain(others);
-    all.map(|(name, term)| deep("terms", name.to_string(), term)).collect()
+    let others = others.map(|(name, term)| deep("terms", name.to_string(), term));
+    shapes().iter().map(|shape| deep("terms", shape.name.clone(), shape.alone(CELLS))).chain(others).collect()
 }
 
 /// Each shape within each other.
 fn terms_in_terms() -> Vec<Deep> {
     let mut books = Vec::new();
-    for outer in SHAPES {
-        for inner in SHAPES {
+    let shapes = shapes();
+    for outer in &shapes {
+        for inner in &shapes {
             let inside = Term::annotation(inner.alone(CELLS / 2), top());
             let term = outer.around(CELLS - inside.size() as usize, |_| inside);
             books.push(deep("terms in terms", format!("{} round {}", outer.name, inner.name), term));
@@ -131,7 +161,7 @@ fn terms_in_terms() -> Vec<Deep> {
 /// A fixpoint whose body is each shape around the variable: as large as there is room for, and so that it goes round a few times.
 fn fixpoints() -> Vec<Deep> {
     let mut books = Vec::new();
-    for shape in SHAPES {
+    for shape in shapes() {
         for (part, times) in [(1, "once"), (2, "twice"), (3, "three times"), (10, "ten times")] {
             let body = shape.around((CELLS - 3) / part, Term::variable);
             let name = format!("of {}, with room {times}", shape.name);
@@ -141,28 +171,30 @@ fn fixpoints() -> Vec<Deep> {
     books
 }
 
-/// What is put into a body: an argument, the function's input type, and what they are.
+/// What is substituted in a body: an argument, the function's input type, and what they are.
 fn arguments(cells: usize) -> Vec<(&'static str, Term, Type)> {
-    let [records, .., left, right] = TYPE_SHAPES.map(|shape| shape.around(cells / 2, &int()));
+    let places = [(kind::RECORD_TYPE, 0), (kind::INTERSECTION, 0), (kind::INTERSECTION, 1)];
+    let [records, left, right] = places.map(|(kind, field)| Place::of(kind, field).around(cells / 2, &int()));
     let as_function = Type::function(int(), int());
-    let several = TYPE_SHAPES[3].around(cells / 3, &as_function);
+    let several = Place::of(kind::INTERSECTION, 0).around(cells / 3, &as_function);
     let ones = times(500.min(cells / 2 - 1), Term::number(1), |e| Term::merge(e, Term::number(1)));
-    let [field_reads, functions] = [1, 7].map(|shape: usize| holding(SHAPES[shape].alone(cells - 8)));
+    let field_reads = |cells: usize| holding(Shape::at(Place::of(kind::PROJECTION, 0)).alone(cells));
+    let functions = holding(Shape::at(Place::of(kind::FUNCTION, 0)).alone(cells - 8));
     vec![
-        ("records", times(cells / 2 - 1, Term::number(1), |e| Term::record(8, e)), records),
+        ("records", times(cells / 2 - 1, Term::number(1), |e| Term::record(LABEL, e)), records),
         ("a number as many to the left", Term::number(1), left),
         ("a number as many to the right", Term::number(1), right),
         ("one of many numbers", ones, int()),
-        ("a function of field reads", field_reads, as_function.clone()),
+        ("a function of field reads", field_reads(cells - 8), as_function.clone()),
         ("a function of functions", functions, as_function),
-        ("a function of field reads, many times", holding(SHAPES[1].alone(cells / 3)), several),
+        ("a function of field reads, many times", field_reads(cells / 3), several),
     ]
 }
 
 /// A function with a deep body applied to a deep value, in several proportions.
-fn put_in() -> Vec<Deep> {
+fn substitutions() -> Vec<Deep> {
     let mut books = Vec::new();
-    for shape in SHAPES {
+    for shape in shapes() {
         for quarter in [1, 2, 3] {
             for (name, argument, input) in arguments((CELLS - 20) * quarter / 4) {
                 let taken = (argument.size() + input.size()) as usize;
@@ -175,11 +207,12 @@ fn put_in() -> Vec<Deep> {
     books
 }
 
-/// A deep fixpoint within deep terms, so that what is put in goes deeper still.
+/// A deep fixpoint within deep terms, so that what is substituted goes deeper still.
 fn fixpoints_within() -> Vec<Deep> {
     let mut books = Vec::new();
-    for outer in SHAPES {
-        for inner in SHAPES {
+    let shapes = shapes();
+    for outer in &shapes {
+        for inner in &shapes {
             for quarter in [1, 3] {
                 let fixed = Term::fixpoint(inner.around(CELLS * quarter / 4 - 3, Term::variable), top());
                 let term = outer.around(CELLS - fixed.size() as usize, |_| fixed);
@@ -195,10 +228,10 @@ fn fixpoints_within() -> Vec<Deep> {
 fn types() -> Vec<Deep> {
     let mut books = Vec::new();
     let fixed = |t: &Type| Term::fixpoint(Term::variable(0), t.clone());
-    for shape in TYPE_SHAPES {
+    for shape in Place::all(Sort::Type) {
         for (leaf, of) in [(int(), "Int"), (top(), "Top"), (Type::record(9, int()), "a record type")] {
             let [whole, half] = [1, 2].map(|part| shape.around((CELLS - 8) / part, &leaf));
-            let mut add = |at: &str, term: Term| books.push(deep("types", format!("{} of {of}, {at}", shape.name), term));
+            let mut add = |at: &str, term: Term| books.push(deep("types", format!("{} of {of}, {at}", shape.name()), term));
             add("a fixpoint's", fixed(&whole));
             add("an input", Term::function(Term::top(), whole.clone(), top()));
             add("a fixpoint's and an annotation's", Term::annotation(fixed(&half), half.clone()));
@@ -221,9 +254,9 @@ fn types() -> Vec<Deep> {
 fn two_types() -> Vec<Deep> {
     let mut books = Vec::new();
     let fixed = |t: &Type| Term::fixpoint(Term::variable(0), t.clone());
-    for one in TYPE_SHAPES {
-        for other in TYPE_SHAPES {
-            let name = format!("{} and {}", one.name, other.name);
+    for one in Place::all(Sort::Type) {
+        for other in Place::all(Sort::Type) {
+            let name = format!("{} and {}", one.name(), other.name());
             for leaf in [int(), Type::record(9, int())] {
                 let [a, b] = [(one, int()), (other, leaf)].map(|(shape, leaf)| shape.around((CELLS - 6) / 2, &leaf));
                 books.push(deep("two types", format!("{name}, below"), Term::annotation(fixed(&a), b.clone())));
@@ -234,20 +267,21 @@ fn two_types() -> Vec<Deep> {
     books
 }
 
-/// Deep values read under deep types.
-fn read_values() -> Vec<Deep> {
+/// Deep values cast to deep types.
+fn cast_values() -> Vec<Deep> {
     let mut books = Vec::new();
     let mut add = |name: &str, value: Term, t: Type| books.push(deep("values read", name.to_string(), Term::annotation(value, t)));
-    let records = |n: usize| times(n, Term::number(1), |e| Term::record(8, e));
-    let [type_of, _, outputs, left, right] = TYPE_SHAPES;
-    add("records", records(2_045), type_of.around(2_046, &int()));
+    let records = |n: usize| times(n, Term::number(1), |e| Term::record(LABEL, e));
+    let places = [(kind::FUNCTION_TYPE, 1), (kind::INTERSECTION, 0), (kind::INTERSECTION, 1)];
+    let [outputs, left, right] = places.map(|(kind, field)| Place::of(kind, field));
+    add("records", records(2_045), Place::of(kind::RECORD_TYPE, 0).around(2_046, &int()));
     for (shape, side) in [(left, "left"), (right, "right")] {
         add(&format!("a number, to the {side}"), Term::number(1), shape.around(4_093, &int()));
         for (part, way) in [(0, "left"), (1, "right")] {
             let wrap = |e: Term| if part == 0 { Term::merge(e, Term::number(1)) } else { Term::merge(Term::number(1), e) };
             add(&format!("numbers to the {way}, to the {side}"), times(600, Term::number(1), wrap), shape.around(1_201, &int()));
         }
-        let function = holding(SHAPES[1].alone(1_000));
+        let function = holding(Shape::at(Place::of(kind::PROJECTION, 0)).alone(1_000));
         add(&format!("a function, to the {side}"), function, shape.around(3_000, &Type::function(int(), int())));
     }
     let function =
@@ -260,10 +294,10 @@ fn read_values() -> Vec<Deep> {
 fn equal_values() -> Vec<Deep> {
     let mut books = Vec::new();
     let mut add = |name: String, value: Term| books.push(deep("equal values", name, Term::merge(value.clone(), value)));
-    for shape in SHAPES {
+    for shape in shapes() {
         add(format!("functions of {}", shape.name), holding(shape.alone(2_040)));
     }
-    add("records".to_string(), times(2_045, Term::number(1), |e| Term::record(8, e)));
+    add("records".to_string(), times(2_045, Term::number(1), |e| Term::record(LABEL, e)));
     add("numbers to the left".to_string(), times(500, Term::number(1), |e| Term::merge(e, Term::number(1))));
     add("numbers to the right".to_string(), times(500, Term::number(1), |e| Term::merge(Term::number(1), e)));
     books

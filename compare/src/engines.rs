@@ -3,8 +3,8 @@
 use evaluator::{with_fault, Answer, Fault};
 use std::panic::{catch_unwind, AssertUnwindSafe};
 
-/// What a side says: an answer of document 01, or why it gave none.
-pub type Said = Result<Answer, String>;
+/// What a side returns: an answer of document 01, or why it gave none.
+pub type Reply = Result<Answer, String>;
 
 /// One call of the library.
 #[derive(Clone, Copy, PartialEq, Eq, Debug)]
@@ -16,7 +16,7 @@ pub enum Call {
 /// Anything that checks and runs books.
 pub trait Engine {
     fn name(&self) -> String;
-    fn call(&self, call: Call, book: &[u8], work: &mut [u8]) -> Said;
+    fn call(&self, call: Call, book: &[u8], work: &mut [u8]) -> Reply;
 }
 
 /// The evaluator, true or with a planted fault.
@@ -30,7 +30,7 @@ impl Engine for Evaluator {
         }
     }
 
-    fn call(&self, call: Call, book: &[u8], work: &mut [u8]) -> Said {
+    fn call(&self, call: Call, book: &[u8], work: &mut [u8]) -> Reply {
         let call = || match call {
             Call::Check => evaluator::check(book, work),
             Call::Run { limit } => evaluator::run(book, work, limit),
@@ -52,7 +52,7 @@ impl Engine for Library {
         "engine".to_string()
     }
 
-    fn call(&self, call: Call, book: &[u8], work: &mut [u8]) -> Said {
+    fn call(&self, call: Call, book: &[u8], work: &mut [u8]) -> Reply {
         let answer = match call {
             Call::Check => cerealbank::check(book, work),
             Call::Run { limit } => cerealbank::run(book, work, limit),

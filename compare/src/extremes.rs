@@ -1,9 +1,9 @@
 //! The deepest and the widest books.
 
-use crate::cells::{lay, Cell, Cells, Sharing};
+use crate::cells::{encode, zeroed, Cells, Sharing};
 use crate::random::Random;
 use crate::samples::{doubled, own_fixpoint};
-use evaluator::{Term, Type};
+use evaluator::{kind, Cell, Term, Type};
 
 fn int() -> Type {
     Type::int()
@@ -48,7 +48,7 @@ pub fn extremes() -> Vec<Vec<u8>> {
     let mut books: Vec<Vec<u8>> = Vec::new();
     for term in &terms {
         for sharing in [Sharing::Never, Sharing::Always] {
-            books.push(lay(term, sharing, &mut random).bytes());
+            books.push(encode(term, sharing, &mut random).bytes());
         }
     }
     books.extend(sizes_by_sharing());
@@ -61,8 +61,8 @@ fn deep_terms() -> Vec<Term> {
     let mut terms = Vec::new();
     for n in [4_093, 4_094] {
         terms.push(times(n, number(5), |e| Term::record(8, e)));
-        terms.push(times(n, Term::top(), |e| Term::read(8, e)));
-        terms.push(times(n, number(5), |e| Term::read(8, e)));
+        terms.push(times(n, Term::top(), |e| Term::projection(8, e)));
+        terms.push(times(n, number(5), |e| Term::projection(8, e)));
     }
     for n in [2_046, 2_047, 2_048] {
         terms.push(times(n, number(5), |e| Term::annotation(e, int())));
@@ -116,7 +116,7 @@ fn wide_types() -> Vec<Term> {
     terms
 }
 
-/// Every label merged, read under the reverse order, then each through an annotation; and types found under a binder that are far
+/// Every label merged, cast to the reverse order, then each through an annotation; and types inferred under a binder that are far
 /// larger than the book.
 fn every_label() -> Vec<Term> {
     let merged = |field: &dyn Fn(u8) -> Term| (0..=255).map(field).reduce(Term::merge).expect("256 fields");
@@ -124,7 +124,7 @@ fn every_label() -> Vec<Term> {
     let reversed = (0..=255).rev().map(|label| Type::record(label, int())).reduce(Type::intersection).expect("256 fields");
     let mut terms = vec![Term::annotation(merge.clone(), reversed)];
     for label in [0, 128, 255] {
-        terms.push(Term::read(label, Term::annotation(merge.clone(), Type::record(label, int()))));
+        terms.push(Term::projection(label, Term::annotation(merge.clone(), Type::record(label, int()))));
     }
     terms.push(Term::merge(merge.clone(), Term::record(200, number(200))));
     terms.push(Term::merge(merge, Term::record(200, number(201))));
@@ -168,11 +168,11 @@ fn sizes_by_sharing() -> Vec<Vec<u8>> {
     let mut books = Vec::new();
     for times in [9, 10, 11, 12, 13, 31, 32, 63, 64, 65, 4_093, 4_094] {
         books.push(doubled(Cell::number(1), times));
-        books.push(doubled(Cell::new(18, 0, [0; 3]), times));
-        let types = chain(Cell::new(2, 0, [0; 3]), usize::from(times), |n| Cell::new(4, 0, [n, n, 0]));
+        books.push(doubled(zeroed(kind::TOP_VALUE), times));
+        let types = chain(zeroed(kind::TOP), usize::from(times), |n| Cell::new(kind::INTERSECTION, 0, [n, n, 0]));
         let mut book = Cells { root: types.len() as u16 + 1, cells: types };
         book.cells.push(Cell::number(1));
-        book.cells.push(Cell::new(19, 0, [book.root - 1, book.root - 2, 0]));
+        book.cells.push(Cell::new(kind::ANNOTATION, 0, [book.root - 1, book.root - 2, 0]));
         books.push(book.bytes());
         // The same cells, not reached.
         books.push(Cells { root: book.root - 1, ..book }.bytes());
@@ -185,9 +185,9 @@ fn full_books() -> Vec<Vec<u8>> {
     let mut books = Vec::new();
     for count in [4_094, 4_095, 4_096] {
         for root in [0, count as u16 - 1] {
-            let cells = chain(Cell::number(7), count, |n| Cell::new(24, 1, [n, 0, 0]));
+            let cells = chain(Cell::number(7), count, |n| Cell::new(kind::RECORD, 1, [n, 0, 0]));
             books.push(Cells { cells, root }.bytes());
-            let cells = vec![Cell::new(18, 0, [0; 3]); count];
+            let cells = vec![zeroed(kind::TOP_VALUE); count];
             books.push(Cells { cells, root }.bytes());
         }
     }

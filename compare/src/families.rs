@@ -1,14 +1,14 @@
 //! The books that are compared, in families.
 
-use crate::cells::{lay, Cell, Cells, Sharing, Sort, KINDS};
+use crate::cells::{alike, encode, is_labelled, unknown_kinds, zeroed, Cells, Sharing};
 use crate::contexts;
 use crate::deepest::deepest;
 use crate::extremes::extremes;
-use crate::maker::{Maker, Taste, EVEN, LABELS};
+use crate::maker::{Maker, Weights, EVEN, LABELS};
 use crate::random::Random;
 use crate::refusals::refusals;
-use crate::samples::{desk_example, hidden_field, identity, kept_books, samples};
-use evaluator::{Term, TermShape, Type};
+use crate::samples::{desk_example, hidden_field, identity, sample_books, samples};
+use evaluator::{kind, Cell, Sort, Term, TermShape, Type, TABLE};
 
 /// A family: its name, how many of the random books fall to it, and its books.
 pub struct Family {
@@ -41,19 +41,21 @@ pub fn families() -> Vec<Family> {
     let whole = |name, make| Family { name, share: 0, make: Make::Whole(make) };
     let random = |name, share, make| Family { name, share, make: Make::Random(make) };
     vec![
-        whole("samples", || samples().into_iter().map(|sample| sample.book).chain(kept_books().into_values()).collect()),
+        whole("samples", || samples().into_iter().map(|sample| sample.book).chain(sample_books().into_values()).collect()),
         whole("extremes", extremes),
         whole("deepest", || deepest().into_iter().map(|deep| deep.book).collect()),
         whole("every byte", every_byte),
         whole("cut short", cut_short),
         whole("refusals", refusals),
-        random("merges", 12, |r| typed(r, Taste { merge: 8, intersection: 6, ..EVEN }, 30)),
+        random("merges", 12, |r| typed(r, Weights { merge: 8, ..EVEN }.of_type(kind::INTERSECTION, 6), 30)),
         random("hidden fields", 6, hidden_fields),
-        random("duplicates", 8, |r| typed(r, Taste { duplicate: 6, intersection: 5, annotation: 4, ..EVEN }, 25)),
+        random("duplicates", 8, |r| typed(r, Weights { duplicate: 6, annotation: 4, ..EVEN }.of_type(kind::INTERSECTION, 5), 25)),
         random("several outputs", 6, several_outputs),
-        random("top-like functions", 8, |r| typed(r, Taste { top: 6, function: 6, annotation: 4, application: 4, ..EVEN }, 25)),
-        random("nested records", 8, |r| typed(r, Taste { record: 12, read: 6, merge: 4, ..EVEN }, 30)),
-        random("fixpoints", 6, |r| typed(r, Taste { fixpoint: 6, application: 5, function: 4, ..EVEN }, 20)),
+        random("top-like functions", 8, |r| {
+            typed(r, Weights { annotation: 4, application: 4, ..EVEN }.of_type(kind::TOP, 6).of_type(kind::FUNCTION_TYPE, 6), 25)
+        }),
+        random("nested records", 8, |r| typed(r, Weights { projection: 6, merge: 4, ..EVEN }.of_type(kind::RECORD_TYPE, 12), 30)),
+        random("fixpoints", 6, |r| typed(r, Weights { fixpoint: 6, application: 5, ..EVEN }.of_type(kind::FUNCTION_TYPE, 4), 20)),
         random("growing", 2, growing),
         random("ignored arguments", 4, ignored_arguments),
         random("contexts", 12, contexts::contexts),
@@ -63,43 +65,43 @@ pub fn families() -> Vec<Family> {
         random("room within", 1, contexts::room_within),
         random("large", 4, |r| typed(r, EVEN, 150)),
         random("near misses", 16, near_misses),
-        random("shared and opened", 6, shared_and_opened),
+        random("shared and opened", 6, shared_and_unshared),
         random("unreachable cells", 6, unreachable_cells),
         random("bits flipped", 10, bits_flipped),
         random("loose cells", 6, loose_cells),
     ]
 }
 
-/// Terms above this are not laid down.
-const LAID: u64 = 8_000;
+/// Terms above this are not encoded.
+const ENCODED: u64 = 8_000;
 
-fn laid(term: &Term, sharing: Sharing, random: &mut Random) -> Cells {
-    let term = if term.size() > LAID { Term::number(0) } else { term.clone() };
-    lay(&term, sharing, random)
+fn encoded(term: &Term, sharing: Sharing, random: &mut Random) -> Cells {
+    let term = if term.size() > ENCODED { Term::number(0) } else { term.clone() };
+    encode(&term, sharing, random)
 }
 
 /// The term as a book, shared somehow.
 fn one_book(term: &Term, random: &mut Random) -> Vec<Vec<u8>> {
     let sharing = Sharing::any(random);
-    vec![laid(term, sharing, random).bytes()]
+    vec![encoded(term, sharing, random).bytes()]
 }
 
 /// A term typed at random, of at most so many choices; seldom one of very few cells.
-fn typed_term(random: &mut Random, taste: Taste, fuel: usize) -> Term {
+fn typed_term(random: &mut Random, weights: Weights, fuel: usize) -> Term {
     for _ in 0..3 {
         let (fuel, depth) = (random.between(2, fuel), random.lower(4));
-        let mut maker = Maker::new(random, taste, fuel);
+        let mut maker = Maker::new(random, weights, fuel);
         let wanted = maker.a_type(depth);
         let term = maker.term(&wanted);
         if term.size() > 5 {
             return term;
         }
     }
-    Maker::new(random, taste, 2).term(&Type::int())
+    Maker::new(random, weights, 2).term(&Type::int())
 }
 
-fn typed(random: &mut Random, taste: Taste, fuel: usize) -> Vec<Vec<u8>> {
-    let term = typed_term(random, taste, fuel);
+fn typed(random: &mut Random, weights: Weights, fuel: usize) -> Vec<Vec<u8>> {
+    let term = typed_term(random, weights, fuel);
     one_book(&term, random)
 }
 
@@ -108,11 +110,11 @@ fn typed_any(random: &mut Random) -> Cells {
     let term = match random.lower(4) {
         0 => hidden_fields_term(random),
         1 => several_outputs_term(random),
-        2 => typed_term(random, Taste { merge: 5, duplicate: 3, ..EVEN }, 20),
+        2 => typed_term(random, Weights { merge: 5, duplicate: 3, ..EVEN }, 20),
         _ => typed_term(random, EVEN, 20),
     };
     let sharing = Sharing::any(random);
-    laid(&term, sharing, random)
+    encoded(&term, sharing, random)
 }
 
 fn merged(parts: Vec<Term>, random: &mut Random) -> Term {
@@ -152,7 +154,7 @@ fn hidden_fields_term(random: &mut Random) -> Term {
     let from = if random.once_in(4) { shown } else { hidden };
     let label = *random.pick(from);
     let body = Term::annotation(merged(own, random), Type::record(label, content.clone()));
-    let function = Term::function(Term::read(label, body), input.clone(), content);
+    let function = Term::function(Term::projection(label, body), input.clone(), content);
     // At times the fields are hidden by an annotation first, or the function is applied within another.
     match random.lower(4) {
         0 => Term::application(function, Term::annotation(argument, input)),
@@ -172,16 +174,17 @@ fn hidden_fields(random: &mut Random) -> Vec<Vec<u8>> {
 /// Functions with the same body and input and other outputs, merged: consistent whatever the outputs. At times one body or input is
 /// another, which may or may not be consistent.
 fn several_outputs_term(random: &mut Random) -> Term {
-    let mut maker = Maker::new(random, Taste { intersection: 6, record: 6, merge: 4, ..EVEN }, 8);
+    let mut maker =
+        Maker::new(random, Weights { merge: 4, ..EVEN }.of_type(kind::INTERSECTION, 6).of_type(kind::RECORD_TYPE, 6), 8);
     let input = maker.a_type(1);
     let wanted = maker.a_type(2);
     let first = maker.closed_value(&Type::function(input.clone(), wanted));
     let TermShape::Function(body, input, output) = first.shape() else { return first };
     let mut functions = vec![first.clone()];
     for _ in 0..maker.random.between(1, 3) {
-        let output = maker.above(output);
+        let output = maker.supertype(output);
         functions.push(match maker.random.lower(12) {
-            0 => Term::function(body.clone(), maker.above(input), output),
+            0 => Term::function(body.clone(), maker.supertype(input), output),
             1 => {
                 let term = maker.closed_value(&output);
                 Term::function(term, input.clone(), output)
@@ -189,7 +192,7 @@ fn several_outputs_term(random: &mut Random) -> Term {
             _ => Term::function(body.clone(), input.clone(), output),
         });
     }
-    let as_one = Type::function(maker.under(input), maker.above(output));
+    let as_one = Type::function(maker.subtype(input), maker.supertype(output));
     let argument = maker.closed_value(input);
     let merge = merged(functions, random);
     match random.lower(4) {
@@ -211,7 +214,7 @@ fn wrapped(term: Term, of: &Type, random: &mut Random) -> Term {
         1 => Term::application(Term::function(Term::variable(0), of.clone(), of.clone()), term),
         2 => {
             let label = *random.pick(&LABELS);
-            Term::read(label, Term::record(label, term))
+            Term::projection(label, Term::record(label, term))
         }
         3 => Term::annotation(Term::merge(Term::annotation(Term::number(4), Type::top()), term), of.clone()),
         _ => Term::annotation(Term::merge(term, Term::top()), of.clone()),
@@ -252,17 +255,17 @@ fn growing(random: &mut Random) -> Vec<Vec<u8>> {
     one_book(&term, random)
 }
 
-/// Functions that do not use their argument, whose reading may have thousands of cells; and the same with one that does.
+/// Functions that do not use their argument, whose cast may have thousands of cells; and the same with one that does.
 fn ignored_arguments(random: &mut Random) -> Vec<Vec<u8>> {
     let (parts, large) = (random.between(1, 40), random.between(0, 300));
     let mut maker = Maker::new(random, EVEN, 6);
     let output = maker.a_type(1);
     let as_function = Type::function(Type::int(), Type::int());
-    let part = if maker.random.once_in(3) { maker.above(&as_function) } else { as_function };
+    let part = if maker.random.once_in(3) { maker.supertype(&as_function) } else { as_function };
     let input = (1..parts).fold(part.clone(), |t, _| Type::intersection(t, part.clone()));
     let result = maker.closed_value(&output);
     // A body that is only large: fields read of the top value, beside a number.
-    let long = (0..large).fold(Term::top(), |of, _| Term::read(3, of));
+    let long = (0..large).fold(Term::top(), |of, _| Term::projection(3, of));
     let argument = Term::function(Term::merge(Term::number(6), long), Type::int(), Type::int());
     let function =
         if random.once_in(4) { Term::function(Term::variable(0), input, part) } else { Term::function(result, input, output) };
@@ -277,14 +280,11 @@ fn changed(book: &mut Cells, random: &mut Random) {
     match random.lower(4) {
         // Another kind with the same fields.
         0 => {
-            const ALIKE: [[u8; 2]; 5] = [[1, 2], [3, 4], [19, 23], [20, 22], [24, 25]];
-            if let Some([one, other]) = ALIKE.into_iter().find(|pair| pair.contains(&cell.kind)) {
-                new.kind = one + other - cell.kind;
-            }
+            new.kind = alike(cell.kind);
         }
-        1 if cell.labelled() => new.label = *random.pick(&LABELS),
-        1 if cell.kind == 16 => new.fields[0] = random.lower(4) as u16,
-        1 if cell.kind == 17 => new = Cell::number(random.lower(6) as i32 - 1),
+        1 if is_labelled(cell.kind) => new.label = *random.pick(&LABELS),
+        1 if cell.kind == kind::VARIABLE => new.fields[0] = random.lower(4) as u16,
+        1 if cell.kind == kind::NUMBER => new = Cell::number(random.lower(6) as i32 - 1),
         2 => {
             let [a, b, c] = cell.references();
             if a.is_some() && a == b {
@@ -324,25 +324,26 @@ fn near_misses(random: &mut Random) -> Vec<Vec<u8>> {
 }
 
 /// The same term with no cell shared, with some, and with all that can be.
-fn shared_and_opened(random: &mut Random) -> Vec<Vec<u8>> {
+fn shared_and_unshared(random: &mut Random) -> Vec<Vec<u8>> {
     let term = match random.lower(3) {
         0 => several_outputs_term(random),
-        1 => typed_term(random, Taste { duplicate: 5, merge: 5, ..EVEN }, 25),
+        1 => typed_term(random, Weights { duplicate: 5, merge: 5, ..EVEN }, 25),
         _ => typed_term(random, EVEN, 40),
     };
-    [Sharing::Never, Sharing::Sometimes, Sharing::Always].map(|sharing| laid(&term, sharing, random).bytes()).to_vec()
+    [Sharing::Never, Sharing::Sometimes, Sharing::Always].map(|sharing| encoded(&term, sharing, random).bytes()).to_vec()
 }
 
 /// A cell that passes the rows 5 to 8 at this place.
 fn loose_cell(book: &Cells, at: usize, random: &mut Random) -> Cell {
     loop {
-        let mut cell = Cell::new(*random.pick(&KINDS), 0, [0; 3]);
-        if cell.labelled() {
+        let row = random.pick(TABLE);
+        let mut cell = zeroed(row.kind);
+        if row.labelled {
             cell.label = *random.pick(&LABELS);
         }
         match cell.kind {
-            16 => cell.fields[0] = random.lower(3) as u16,
-            17 => cell = Cell::number(random.lower(4) as i32),
+            kind::VARIABLE => cell.fields[0] = random.lower(3) as u16,
+            kind::NUMBER => cell = Cell::number(random.lower(4) as i32),
             _ => {}
         }
         let mut possible = true;
@@ -367,14 +368,14 @@ fn unreachable_cells(random: &mut Random) -> Vec<Vec<u8>> {
         let mut cell = loose_cell(&book, at, random);
         if random.once_in(8) {
             match random.lower(4) {
-                0 => cell.kind = *random.pick(&[0, 6, 15, 26, 240]),
-                1 if !cell.labelled() => cell.label = 1,
+                0 => cell.kind = *random.pick(&unknown_kinds()),
+                1 if !is_labelled(cell.kind) => cell.label = 1,
                 1 => cell.fields[2] = 1,
-                2 => cell = Cell::new(24, 1, [at as u16, 0, 0]),
+                2 => cell = Cell::new(kind::RECORD, 1, [at as u16, 0, 0]),
                 _ => {
                     let types = book.of_sort(Sort::Type, at);
                     if !types.is_empty() {
-                        cell = Cell::new(25, 1, [*random.pick(&types), 0, 0]);
+                        cell = Cell::new(kind::PROJECTION, 1, [*random.pick(&types), 0, 0]);
                     }
                 }
             }
@@ -418,8 +419,8 @@ fn loose_cells(random: &mut Random) -> Vec<Vec<u8>> {
 fn small_books() -> Vec<Vec<u8>> {
     let mut random = Random::of(0, "", 0);
     let applied = Term::application(identity(), Term::number(1));
-    let read = Term::read(3, Term::record(3, Term::fixpoint(Term::variable(0), Type::int())));
-    let shared = [applied, read].map(|term| lay(&term, Sharing::Always, &mut random).bytes());
+    let read = Term::projection(3, Term::record(3, Term::fixpoint(Term::variable(0), Type::int())));
+    let shared = [applied, read].map(|term| encode(&term, Sharing::Always, &mut random).bytes());
     [desk_example()].into_iter().chain(shared).collect()
 }
 
@@ -442,7 +443,7 @@ fn every_byte() -> Vec<Vec<u8>> {
 fn cut_short() -> Vec<Vec<u8>> {
     let mut random = Random::of(0, "", 0);
     let larger = [hidden_field(), hidden_fields_term(&mut random), several_outputs_term(&mut random)];
-    let larger = larger.map(|term| lay(&term, Sharing::Sometimes, &mut random).bytes());
+    let larger = larger.map(|term| encode(&term, Sharing::Sometimes, &mut random).bytes());
     let mut books = Vec::new();
     for book in small_books().into_iter().chain(larger) {
         for length in 0..book.len() + 24 {

@@ -4,7 +4,7 @@
 //!
 //! Built with the feature `engine`, the engine of the static library is compared; without it, the evaluator with itself. With
 //! `--self-test`, the evaluator is compared with faulty copies of itself, and each fault must be found. The exit status is 0, and the
-//! last line begins with what passed - families, or faults found - only if nothing failed.
+//! last line starts with what passed - families, or faults found - only if nothing failed.
 
 use compare::comparing::{Comparison, Question};
 use compare::engines::{Engine, Evaluator};
@@ -12,7 +12,7 @@ use compare::families::{families, Family};
 use compare::random::Random;
 use compare::reporting::{described, Figures};
 use compare::{samples, shrinking};
-use evaluator::{lay_term, on_large_stack, Fault, WORK};
+use evaluator::{encode_term, on_large_stack, Fault, WORK};
 use std::fmt::Write;
 use std::process::ExitCode;
 use std::sync::atomic::{AtomicUsize, Ordering::Relaxed};
@@ -20,7 +20,7 @@ use std::sync::Mutex;
 use std::thread;
 use std::time::Instant;
 
-/// The random books of a comparison, and of each fault's search, unless told otherwise.
+/// The random books of a comparison, and of each fault's search, unless asked for otherwise.
 const COUNT: usize = 100_000;
 const SELF_TEST_COUNT: usize = 6_000;
 /// A fault is not searched in books of so many bytes, but for random ones.
@@ -161,11 +161,11 @@ fn stated_samples() -> usize {
     for sample in samples::samples() {
         for side in [&Evaluator(None) as &dyn Engine, engine().as_ref()] {
             let mut work = vec![0xA5; WORK];
-            let said = side.call(sample.call, &sample.book, &mut work);
-            let value = sample.value.as_ref().map(lay_term);
-            if said != Ok(sample.answer) || value.is_some_and(|value| work[..value.len()] != value) {
+            let reply = side.call(sample.call, &sample.book, &mut work);
+            let value = sample.value.as_ref().map(encode_term);
+            if reply != Ok(sample.answer) || value.is_some_and(|value| work[..value.len()] != value) {
                 failed += 1;
-                println!("FAILED: {}: {} says {said:?}, document 01 says {:?}", sample.name, side.name(), sample.answer);
+                println!("FAILED: {}: {} says {reply:?}, document 01 says {:?}", sample.name, side.name(), sample.answer);
             }
         }
     }

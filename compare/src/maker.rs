@@ -1,51 +1,70 @@
 //! Types and typed terms made at random.
 
 use crate::random::Random;
-use evaluator::{below, disjoint, find, readings, top_like, Term, Type, TypeShape};
+use evaluator::{casts, disjoint, infer, kind, subtype, top_like, Field, Node, Part, Sort, Term, Type, TypeShape, TABLE};
 
 /// How often each choice is taken.
 #[derive(Clone, Copy)]
-pub struct Taste {
-    // Types.
-    pub int: u32,
-    pub top: u32,
-    pub function: u32,
-    pub intersection: u32,
-    pub record: u32,
+pub struct Weights {
+    /// Types: a weight for each row of the table, 0 for those of terms.
+    pub types: [u32; TABLE.len()],
     // Terms: the form that the type itself suggests, then the ways round it.
     pub plain: u32,
     pub variable: u32,
     pub annotation: u32,
     pub application: u32,
-    pub read: u32,
+    pub projection: u32,
     pub merge: u32,
     pub fixpoint: u32,
     pub duplicate: u32,
 }
 
+impl Weights {
+    /// With this weight for a kind of types.
+    pub const fn of_type(mut self, kind: u8, weight: u32) -> Weights {
+        let mut place = 0;
+        while TABLE[place].kind != kind {
+            place += 1;
+        }
+        self.types[place] = weight;
+        self
+    }
+}
+
 /// A bit of everything.
-pub const EVEN: Taste = Taste {
-    int: 6,
-    top: 1,
-    function: 2,
-    intersection: 3,
-    record: 3,
+pub const EVEN: Weights = Weights {
+    types: each_type(),
     plain: 4,
     variable: 4,
     annotation: 2,
     application: 3,
-    read: 2,
+    projection: 2,
     merge: 2,
     fixpoint: 1,
     duplicate: 1,
-};
+}
+.of_type(kind::INT, 6)
+.of_type(kind::FUNCTION_TYPE, 2)
+.of_type(kind::INTERSECTION, 3)
+.of_type(kind::RECORD_TYPE, 3);
+
+/// Every kind of types alike.
+const fn each_type() -> [u32; TABLE.len()] {
+    let mut types = [0; TABLE.len()];
+    let mut place = 0;
+    while place < TABLE.len() {
+        types[place] = matches!(TABLE[place].sort, Sort::Type) as u32;
+        place += 1;
+    }
+    types
+}
 
 /// Few labels, so that they meet.
 pub const LABELS: [u8; 5] = [1, 2, 3, 7, 255];
 
 pub struct Maker<'a> {
     pub random: &'a mut Random,
-    pub taste: Taste,
+    pub weights: Weights,
     /// The types of the binders around the term being made, outermost first.
     binders: Vec<Type>,
     /// How many more choices may be taken; then the shortest form is.
@@ -53,8 +72,8 @@ pub struct Maker<'a> {
 }
 
 impl<'a> Maker<'a> {
-    pub fn new(random: &'a mut Random, taste: Taste, fuel: usize) -> Maker<'a> {
-        Maker { random, taste, binders: Vec::new(), fuel }
+    pub fn new(random: &'a mut Random, weights: Weights, fuel: usize) -> Maker<'a> {
+        Maker { random, weights, binders: Vec::new(), fuel }
     }
 
     pub fn label(&mut self) -> u8 {
@@ -68,19 +87,17 @@ impl<'a> Maker<'a> {
 
     /// A type nested at most so deep.
     pub fn a_type(&mut self, depth: usize) -> Type {
-        let Taste { int, top, function, intersection, record, .. } = self.taste;
-        let nested = if depth == 0 { [int, top.max(1), 0, 0, 0] } else { [int, top, function, intersection, record] };
-        match self.random.weighed(&nested) {
-            0 => Type::int(),
-            1 => Type::top(),
-            2 => Type::function(self.a_type(depth - 1), self.a_type(depth - 1)),
-            3 => Type::intersection(self.a_type(depth - 1), self.a_type(depth - 1)),
-            _ => Type::record(self.label(), self.a_type(depth - 1)),
-        }
+        let weighed = TABLE.iter().zip(self.weights.types);
+        let weights: Vec<u32> = weighed.map(|(row, weight)| if depth > 0 || row.is_leaf() { weight } else { 0 }).collect();
+        let row = &TABLE[self.random.weighed(&weights)];
+        let label = if row.labelled { self.label() } else { 0 };
+        let parts = row.fields.map(|field| matches!(field, Field::Reference(_)).then(|| self.a_type(depth - 1)));
+        let fields = parts.each_ref().map(|part| part.as_ref().map_or(Part::None, Part::Type));
+        Type::of(Node { row, label, fields })
     }
 
     /// A type above this one.
-    pub fn above(&mut self, t: &Type) -> Type {
+    pub fn supertype(&mut self, t: &Type) -> Type {
         match (self.random.lower(8), t.shape()) {
             (0, _) => Type::top(),
             (1, _) => {
@@ -91,38 +108,38 @@ impl<'a> Maker<'a> {
                     Type::record(label, Type::top())
                 }
             }
-            (2, _) => Type::intersection(self.above(t), self.above(t)),
+            (2, _) => Type::intersection(self.supertype(t), self.supertype(t)),
             (3..=6, TypeShape::Intersection(a, b)) => match self.random.lower(3) {
-                0 => self.above(a),
-                1 => self.above(b),
-                _ => Type::intersection(self.above(a), self.above(b)),
+                0 => self.supertype(a),
+                1 => self.supertype(b),
+                _ => Type::intersection(self.supertype(a), self.supertype(b)),
             },
-            (3..=6, TypeShape::Function(i, o)) => Type::function(self.under(i), self.above(o)),
-            (3..=6, TypeShape::Record(l, c)) => Type::record(*l, self.above(c)),
+            (3..=6, TypeShape::Function(i, o)) => Type::function(self.subtype(i), self.supertype(o)),
+            (3..=6, TypeShape::Record(l, c)) => Type::record(*l, self.supertype(c)),
             _ => t.clone(),
         }
     }
 
     /// A type below this one.
-    pub fn under(&mut self, t: &Type) -> Type {
+    pub fn subtype(&mut self, t: &Type) -> Type {
         match (self.random.lower(8), t.shape()) {
             (0, _) => Type::intersection(t.clone(), self.a_type(1)),
             (1, _) => Type::intersection(self.a_type(1), t.clone()),
-            (2..=5, TypeShape::Intersection(a, b)) => Type::intersection(self.under(a), self.under(b)),
-            (2..=5, TypeShape::Function(i, o)) => Type::function(self.above(i), self.under(o)),
-            (2..=5, TypeShape::Record(l, c)) => Type::record(*l, self.under(c)),
+            (2..=5, TypeShape::Intersection(a, b)) => Type::intersection(self.subtype(a), self.subtype(b)),
+            (2..=5, TypeShape::Function(i, o)) => Type::function(self.supertype(i), self.subtype(o)),
+            (2..=5, TypeShape::Record(l, c)) => Type::record(*l, self.subtype(c)),
             (2..=4, TypeShape::Top) => self.a_type(2),
             _ => t.clone(),
         }
     }
 
     /// The type that the term has here, if it is typed.
-    pub fn found(&mut self, e: &Term) -> Option<Type> {
-        find(&mut self.binders, e).ok()
+    pub fn inferred(&mut self, e: &Term) -> Option<Type> {
+        infer(&mut self.binders, e).ok()
     }
 
     fn fits(&mut self, e: &Term, wanted: &Type) -> bool {
-        self.found(e).is_some_and(|found| below(&found, wanted))
+        self.inferred(e).is_some_and(|inferred| subtype(&inferred, wanted))
     }
 
     fn within<R>(&mut self, binder: &Type, make: impl FnOnce(&mut Self) -> R) -> R {
@@ -138,16 +155,16 @@ impl<'a> Maker<'a> {
             return self.variable(wanted).unwrap_or_else(|| self.plain(wanted));
         }
         self.fuel -= 1;
-        let Taste { plain, variable, annotation, application, read, merge, fixpoint, duplicate, .. } = self.taste;
-        match self.random.weighed(&[plain, variable, annotation, application, read, merge, fixpoint, duplicate]) {
+        let Weights { plain, variable, annotation, application, projection, merge, fixpoint, duplicate, .. } = self.weights;
+        match self.random.weighed(&[plain, variable, annotation, application, projection, merge, fixpoint, duplicate]) {
             0 => self.plain(wanted),
             1 => self.variable(wanted).unwrap_or_else(|| self.plain(wanted)),
             2 => {
-                let by = if self.random.once_in(2) { self.under(wanted) } else { wanted.clone() };
+                let by = if self.random.once_in(2) { self.subtype(wanted) } else { wanted.clone() };
                 Term::annotation(self.term(&by), by)
             }
             3 => self.application(wanted),
-            4 => self.read(wanted),
+            4 => self.projection(wanted),
             5 => self.merge(wanted),
             6 => Term::fixpoint(self.within(wanted, |maker| maker.term(wanted)), wanted.clone()),
             _ => self.duplicate(wanted),
@@ -156,7 +173,7 @@ impl<'a> Maker<'a> {
 
     /// A binder's variable, if one fits.
     fn variable(&mut self, wanted: &Type) -> Option<Term> {
-        let skipped = |(skipped, binder): (usize, &Type)| below(binder, wanted).then_some(skipped as u16);
+        let skipped = |(skipped, binder): (usize, &Type)| subtype(binder, wanted).then_some(skipped as u16);
         let fitting: Vec<u16> = self.binders.iter().rev().enumerate().filter_map(skipped).collect();
         (!fitting.is_empty()).then(|| Term::variable(*self.random.pick(&fitting)))
     }
@@ -173,15 +190,15 @@ impl<'a> Maker<'a> {
             }
             _ if top_like(wanted) && self.random.once_in(3) => Term::top(),
             TypeShape::Function(i, o) => {
-                let input = if short || self.random.once_in(2) { i.clone() } else { self.above(i) };
-                let output = if short || self.random.once_in(2) { o.clone() } else { self.under(o) };
+                let input = if short || self.random.once_in(2) { i.clone() } else { self.supertype(i) };
+                let output = if short || self.random.once_in(2) { o.clone() } else { self.subtype(o) };
                 Term::function(self.within(&input, |maker| maker.term(&output)), input, output)
             }
             TypeShape::Record(l, c) => Term::record(*l, self.term(c)),
             TypeShape::Intersection(a, b) => {
                 let (left, right) = (self.term(a), self.term(b));
                 let both = Term::merge(left.clone(), right.clone());
-                if self.found(&both).is_some() {
+                if self.inferred(&both).is_some() {
                     both
                 } else if self.fits(&left, wanted) {
                     left
@@ -198,12 +215,12 @@ impl<'a> Maker<'a> {
     /// Something applied.
     fn application(&mut self, wanted: &Type) -> Term {
         let depth = self.random.between(0, 2);
-        let (input, output) = (self.a_type(depth), if self.random.once_in(3) { self.under(wanted) } else { wanted.clone() });
+        let (input, output) = (self.a_type(depth), if self.random.once_in(3) { self.subtype(wanted) } else { wanted.clone() });
         let as_function = Type::function(input, output);
         let left = self.term(&as_function);
-        let found = self.found(&left);
-        let (left, input) = match found.as_ref().map(|found| found.shape()) {
-            Some(TypeShape::Function(i, o)) if below(o, wanted) => (left, i.clone()),
+        let inferred = self.inferred(&left);
+        let (left, input) = match inferred.as_ref().map(|inferred| inferred.shape()) {
+            Some(TypeShape::Function(i, o)) if subtype(o, wanted) => (left, i.clone()),
             Some(TypeShape::Top) if top_like(wanted) => (left, Type::top()),
             _ => {
                 let TypeShape::Function(input, _) = as_function.shape() else { unreachable!() };
@@ -211,34 +228,34 @@ impl<'a> Maker<'a> {
                 (Term::annotation(left, as_function), input)
             }
         };
-        let argument = if self.random.once_in(2) { self.under(&input) } else { input };
+        let argument = if self.random.once_in(2) { self.subtype(&input) } else { input };
         Term::application(left, self.term(&argument))
     }
 
     /// A field read.
-    fn read(&mut self, wanted: &Type) -> Term {
+    fn projection(&mut self, wanted: &Type) -> Term {
         let label = self.label();
-        let as_record = Type::record(label, if self.random.once_in(3) { self.under(wanted) } else { wanted.clone() });
+        let as_record = Type::record(label, if self.random.once_in(3) { self.subtype(wanted) } else { wanted.clone() });
         let of = self.term(&as_record);
-        match self.found(&of).as_ref().map(|found| found.shape()) {
-            Some(TypeShape::Record(l, c)) if *l == label && below(c, wanted) => Term::read(label, of),
-            Some(TypeShape::Top) if top_like(wanted) => Term::read(label, of),
-            _ => Term::read(label, Term::annotation(of, as_record)),
+        match self.inferred(&of).as_ref().map(|inferred| inferred.shape()) {
+            Some(TypeShape::Record(l, c)) if *l == label && subtype(c, wanted) => Term::projection(label, of),
+            Some(TypeShape::Top) if top_like(wanted) => Term::projection(label, of),
+            _ => Term::projection(label, Term::annotation(of, as_record)),
         }
     }
 
     /// Merged with something that the wanted type does not ask for.
     fn merge(&mut self, wanted: &Type) -> Term {
         let one = self.term(wanted);
-        let Some(found) = self.found(&one) else { return one };
+        let Some(inferred) = self.inferred(&one) else { return one };
         for _ in 0..3 {
             let beside = self.a_type(2);
-            if !disjoint(&found, &beside) {
+            if !disjoint(&inferred, &beside) {
                 continue;
             }
             let other = self.term(&beside);
             let both = self.either_way(one.clone(), other);
-            if self.found(&both).is_some() {
+            if self.inferred(&both).is_some() {
                 return both;
             }
         }
@@ -255,15 +272,15 @@ impl<'a> Maker<'a> {
         }
     }
 
-    /// A closed value merged with a reading of itself: consistent, and seldom disjoint.
+    /// A closed value merged with a cast of itself: consistent, and seldom disjoint.
     pub fn duplicate(&mut self, wanted: &Type) -> Term {
         let value = self.closed_value(wanted);
-        let Some(found) = self.found(&value) else { return value };
+        let Some(inferred) = self.inferred(&value) else { return value };
         let other = if self.random.once_in(3) {
             value.clone()
         } else {
-            let above = self.above(&found);
-            readings(&value, &above).pop().unwrap_or_else(|| value.clone())
+            let above = self.supertype(&inferred);
+            casts(&value, &above).pop().unwrap_or_else(|| value.clone())
         };
         self.either_way(value, other)
     }
@@ -286,7 +303,7 @@ impl<'a> Maker<'a> {
                 self.value(&any)
             }
             TypeShape::Function(i, o) => {
-                let (input, output) = (self.above(i), self.under(o));
+                let (input, output) = (self.supertype(i), self.subtype(o));
                 Term::function(self.within(&input, |maker| maker.term(&output)), input, output)
             }
             TypeShape::Record(l, c) => Term::record(*l, self.value(c)),

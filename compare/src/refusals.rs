@@ -1,9 +1,9 @@
-//! Books that meet one row of "Where a book is turned back", and books that meet two: the first finding decides the number and the cell.
+//! Books that meet one row of document 01's table of refusals, and books that meet two: the first finding decides the number and the cell.
 
-use crate::cells::{lay, Cell, Cells, Sharing, Sort, KINDS};
+use crate::cells::{encode, unknown_kinds, zeroed, Cells, Sharing};
 use crate::random::Random;
 use crate::samples::{identity, refused_books};
-use evaluator::{Term, Type};
+use evaluator::{kind, Cell, Field, Row, Sort, Term, Type, CELL, TABLE};
 
 /// The parts of the family by turns, so that the first books are some of each.
 pub fn refusals() -> Vec<Vec<u8>> {
@@ -13,23 +13,23 @@ pub fn refusals() -> Vec<Vec<u8>> {
     (0..longest).flat_map(|n| parts.iter().filter_map(move |part| part.get(n).cloned())).collect()
 }
 
-/// Most books here begin with a type and a term.
+/// The first cells of most books here: a type and a term.
 const FIRST: [Cell; 2] = [INT, ONE];
-const INT: Cell = Cell { kind: 1, label: 0, fields: [0; 3] };
-const ONE: Cell = Cell { kind: 17, label: 0, fields: [0, 1, 0] };
+const INT: Cell = zeroed(kind::INT);
+const ONE: Cell = Cell::new(kind::NUMBER, 0, [0, 1, 0]);
 const A_TYPE: u16 = 0;
 const A_TERM: u16 = 1;
 
-const TOP: Cell = Cell { kind: 2, label: 0, fields: [0; 3] };
-const TOP_VALUE: Cell = Cell { kind: 18, label: 0, fields: [0; 3] };
+const TOP: Cell = zeroed(kind::TOP);
+const TOP_VALUE: Cell = zeroed(kind::TOP_VALUE);
 
 /// What a field holds by turns, the right thing first: a reference also its own cell and one of the other sort, an unnamed field also 1.
-fn contents(cell: Cell, field: usize, at: u16) -> Vec<u16> {
-    match (cell.references()[field], cell.kind, field) {
-        (Some(Sort::Type), ..) => vec![A_TYPE, at, A_TERM],
-        (Some(Sort::Term), ..) => vec![A_TERM, at, A_TYPE],
-        (None, 16, 0) | (None, 17, 1 | 2) => vec![0],
-        _ => vec![0, 1],
+fn contents(field: Field, at: u16) -> Vec<u16> {
+    match field {
+        Field::Reference(Sort::Type) => vec![A_TYPE, at, A_TERM],
+        Field::Reference(Sort::Term) => vec![A_TERM, at, A_TYPE],
+        Field::Plain => vec![0],
+        Field::Unnamed => vec![0, 1],
     }
 }
 
@@ -37,15 +37,15 @@ fn contents(cell: Cell, field: usize, at: u16) -> Vec<u16> {
 fn one_cell() -> Vec<Vec<u8>> {
     let at = FIRST.len() as u16;
     let mut cells = Vec::new();
-    for kind in KINDS {
-        let of = |field| contents(Cell::new(kind, 0, [0; 3]), field, at);
-        for (a, b) in of(0).into_iter().flat_map(|a| of(1).into_iter().map(move |b| (a, b))) {
-            for c in of(2) {
-                cells.extend([0, 1].map(|label| Cell::new(kind, label, [a, b, c])));
+    for Row { kind, fields, .. } in TABLE {
+        let [a, b, c] = fields.map(|field| contents(field, at));
+        for (&a, &b) in a.iter().flat_map(|a| b.iter().map(move |b| (a, b))) {
+            for &c in &c {
+                cells.extend([0, 1].map(|label| Cell::new(*kind, label, [a, b, c])));
             }
         }
     }
-    for kind in [0, 6, 15, 26, 240, 255] {
+    for kind in unknown_kinds().into_iter().chain([u8::MAX]) {
         cells.extend([0, 1, u16::MAX].map(|field| Cell::new(kind, field as u8, [field; 3])));
     }
     let book = |cell| Cells { cells: [&FIRST[..], &[cell, TOP_VALUE]].concat(), root: at };
@@ -55,14 +55,14 @@ fn one_cell() -> Vec<Vec<u8>> {
 /// Two cells for each of the rows 5 to 8 that meet it at this place.
 fn ill_formed(at: u16) -> [Cell; 8] {
     [
-        Cell::new(0, 0, [0; 3]),
-        Cell::new(26, 1, [at; 3]),
-        Cell::new(17, 1, [0; 3]),
-        Cell::new(24, 1, [A_TERM, 0, 1]),
-        Cell::new(22, 0, [A_TERM, at, 0]),
-        Cell::new(3, 0, [at + 1, A_TYPE, 0]),
-        Cell::new(19, 0, [A_TYPE, A_TYPE, 0]),
-        Cell::new(4, 0, [A_TYPE, A_TERM, 0]),
+        zeroed(TABLE[0].kind - 1),
+        Cell::new(TABLE[TABLE.len() - 1].kind + 1, 1, [at; 3]),
+        Cell::new(kind::NUMBER, 1, [0; 3]),
+        Cell::new(kind::RECORD, 1, [A_TERM, 0, 1]),
+        Cell::new(kind::MERGE, 0, [A_TERM, at, 0]),
+        Cell::new(kind::FUNCTION_TYPE, 0, [at + 1, A_TYPE, 0]),
+        Cell::new(kind::ANNOTATION, 0, [A_TYPE, A_TYPE, 0]),
+        Cell::new(kind::INTERSECTION, 0, [A_TYPE, A_TERM, 0]),
     ]
 }
 
@@ -74,19 +74,19 @@ fn too_large(at: u16, kind: u8, leaf: Cell) -> Vec<Cell> {
 
 /// Cells from this place on, of which the last is a root that passes, or meets 9, 10, both, one of 11 to 15, or 10 and one of these.
 fn roots(at: u16) -> Vec<Vec<Cell>> {
-    let mut roots = vec![vec![ONE], vec![TOP], too_large(at, 22, TOP_VALUE), too_large(at, 4, TOP)];
+    let mut roots = vec![vec![ONE], vec![TOP], too_large(at, kind::MERGE, TOP_VALUE), too_large(at, kind::INTERSECTION, TOP)];
     let ill_typed = [
-        (TOP_VALUE, Cell::new(16, 0, [1, 0, 0])),
-        (TOP_VALUE, Cell::new(20, 0, [A_TERM, at, 0])),
-        (ONE, Cell::new(25, 1, [at, 0, 0])),
-        (Cell::number(2), Cell::new(22, 0, [A_TERM, at, 0])),
-        (TOP_VALUE, Cell::new(23, 0, [at, A_TYPE, 0])),
+        (TOP_VALUE, Cell::new(kind::VARIABLE, 0, [1, 0, 0])),
+        (TOP_VALUE, Cell::new(kind::APPLICATION, 0, [A_TERM, at, 0])),
+        (ONE, Cell::new(kind::PROJECTION, 1, [at, 0, 0])),
+        (Cell::number(2), Cell::new(kind::MERGE, 0, [A_TERM, at, 0])),
+        (TOP_VALUE, Cell::new(kind::FIXPOINT, 0, [at, A_TYPE, 0])),
     ];
     for (part, whole) in ill_typed {
         roots.push(vec![part, whole]);
-        let mut large = too_large(at, 22, part);
+        let mut large = too_large(at, kind::MERGE, part);
         let place = at + large.len() as u16;
-        large.extend([whole, Cell::new(22, 0, [place - 1, place, 0])]);
+        large.extend([whole, Cell::new(kind::MERGE, 0, [place - 1, place, 0])]);
         roots.push(large);
     }
     roots
@@ -142,7 +142,7 @@ fn wrong_trailers(count: u16) -> Vec<Vec<(usize, u8)>> {
 /// The book with these bytes in its trailer.
 fn with_trailer(book: &Cells, wrong: &[(usize, u8)]) -> Vec<u8> {
     let mut bytes = book.bytes();
-    let trailer = bytes.len() - 8;
+    let trailer = bytes.len() - CELL;
     wrong.iter().for_each(|&(place, byte)| bytes[trailer + place] = byte);
     bytes
 }
@@ -170,7 +170,7 @@ fn lengths() -> Vec<Vec<u8>> {
         for wrong in [vec![], vec![(0, 0)], vec![(3, 255)]] {
             let bytes = with_trailer(&book, &wrong);
             let end = bytes.len();
-            books.extend([&bytes[..0], &bytes[end - 8..], &bytes[1..], &bytes[..end - 1]].map(<[u8]>::to_vec));
+            books.extend([&bytes[..0], &bytes[end - CELL..], &bytes[1..], &bytes[..end - 1]].map(<[u8]>::to_vec));
             books.push([&bytes[..], &[0]].concat());
             books.push(with_trailer(&long, &wrong));
         }
@@ -197,7 +197,7 @@ fn ill_typed() -> Vec<Term> {
     vec![
         Term::variable(1),
         Term::application(number(4), number(5)),
-        Term::read(1, Term::record(2, number(6))),
+        Term::projection(1, Term::record(2, number(6))),
         Term::merge(number(7), number(8)),
         Term::annotation(Term::top(), int()),
         Term::application(identity(), Term::top()),
@@ -219,7 +219,7 @@ const PLACES: [fn(Term) -> Term; 17] = [
     |e| Term::annotation(e, int()),
     |e| Term::annotation(e, Type::top()),
     |e| Term::record(1, e),
-    |e| Term::read(1, e),
+    |e| Term::projection(1, e),
     |e| Term::application(number(1), e),
     |e| Term::application(e, Term::variable(7)),
     |e| Term::application(Term::variable(7), e),
@@ -227,8 +227,8 @@ const PLACES: [fn(Term) -> Term; 17] = [
     |e| Term::merge(Term::variable(7), e),
 ];
 
-/// The same term with the parts of each cell laid down last first, so that the walk meets higher cells before lower ones.
-fn turned(book: &Cells) -> Cells {
+/// The same term with the parts of each cell encoded last first, so that the walk meets higher cells before lower ones.
+fn reversed(book: &Cells) -> Cells {
     fn part(book: &Cells, n: u16, cells: &mut Vec<Cell>) -> u16 {
         let mut cell = book.cells[usize::from(n)];
         let references = cell.references();
@@ -243,7 +243,7 @@ fn turned(book: &Cells) -> Cells {
     Cells { cells, root }
 }
 
-/// Any two terms in an application and in a merge, and each in every place: laid down in order, turned, and shared.
+/// Any two terms in an application and in a merge, and each in every place: in order, reversed, and shared.
 fn two_parts() -> Vec<Vec<u8>> {
     let parts = [ill_typed(), typed()].concat();
     let mut terms = Vec::new();
@@ -256,21 +256,21 @@ fn two_parts() -> Vec<Vec<u8>> {
     let mut random = Random::of(0, "", 0);
     let mut books = Vec::new();
     for term in &terms {
-        let opened = lay(term, Sharing::Never, &mut random);
-        books.extend([turned(&opened), opened, lay(term, Sharing::Always, &mut random)]);
+        let unshared = encode(term, Sharing::Never, &mut random);
+        books.extend([reversed(&unshared), unshared, encode(term, Sharing::Always, &mut random)]);
     }
     books.iter().map(Cells::bytes).collect()
 }
 
-/// Places within places, round a term for each of 11 to 15: turned and shared by turns.
+/// Places within places, round a term for each of 11 to 15: reversed and shared by turns.
 fn nested() -> Vec<Vec<u8>> {
     let mut random = Random::of(0, "", 1);
     let mut books = Vec::new();
     for part in ill_typed().iter().take(5) {
         for outer in PLACES {
             for (n, inner) in PLACES.iter().enumerate() {
-                let book = lay(&outer(inner(part.clone())), Sharing::Sometimes, &mut random);
-                books.push(if n % 2 == 0 { turned(&book) } else { book }.bytes());
+                let book = encode(&outer(inner(part.clone())), Sharing::Sometimes, &mut random);
+                books.push(if n % 2 == 0 { reversed(&book) } else { book }.bytes());
             }
         }
     }

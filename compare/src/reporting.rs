@@ -2,7 +2,7 @@
 
 use crate::comparing::{Difference, Question, Seen};
 use crate::engines::{Call, Engine};
-use evaluator::{Answer, WORK};
+use evaluator::{Answer, CELL, WORK};
 use std::fmt::Write;
 
 /// What a family's books came to.
@@ -47,9 +47,9 @@ fn hex(bytes: &[u8]) -> String {
 /// A difference in full: the book in hexadecimal, its root, and both outcomes.
 pub fn described(book: &[u8], question: Question, difference: &Difference, engine: &dyn Engine) -> String {
     let mut text = String::new();
-    let cells: Vec<String> = book.chunks(8).map(hex).collect();
+    let cells: Vec<String> = book.chunks(CELL).map(hex).collect();
     let _ = writeln!(text, "  book ({} bytes): {}", book.len(), cells.join(" "));
-    if let Ok(root) = evaluator::read(book) {
+    if let Ok(root) = evaluator::decode(book) {
         let _ = writeln!(text, "  root: {root}");
     }
     let asked = match question {
@@ -64,12 +64,12 @@ pub fn described(book: &[u8], question: Question, difference: &Difference, engin
             let _ = writeln!(text, "  {words}");
         }
         Difference::Outcomes(one, other) => {
-            let _ = writeln!(text, "  evaluator: {:?}", one.said);
-            let _ = writeln!(text, "  {}: {:?}", engine.name(), other.said);
+            let _ = writeln!(text, "  evaluator: {:?}", one.reply);
+            let _ = writeln!(text, "  {}: {:?}", engine.name(), other.reply);
             if let Some(at) = (0..one.work.len()).find(|&at| one.work[at] != other.work[at]) {
-                let cell = |work: &[u8]| hex(work.chunks(8).nth(at / 8).unwrap_or_default());
+                let cell = |work: &[u8]| hex(work.chunks(CELL).nth(at / CELL).unwrap_or_default());
                 let (one, other) = (cell(&one.work), cell(&other.work));
-                let _ = writeln!(text, "  first differing byte {at}, cell {}: {one} and {other}", at / 8);
+                let _ = writeln!(text, "  first differing byte {at}, cell {}: {one} and {other}", at / CELL);
             }
         }
     }

@@ -1,9 +1,9 @@
 //! The sample books of document 01 with the answers that it states.
 
-use crate::cells::{lay, Cell, Cells, Sharing};
+use crate::cells::{encode, zeroed, Cells, Sharing};
 use crate::engines::Call;
 use crate::random::Random;
-use evaluator::{Answer, Term, Type};
+use evaluator::{kind, Answer, Cell, Term, Type};
 use std::collections::BTreeMap;
 use std::fs;
 use std::path::Path;
@@ -32,7 +32,7 @@ pub fn identity() -> Term {
 
 pub fn hidden_field() -> Term {
     let merge = Term::merge(Term::record(1, number(2)), Term::variable(0));
-    let body = Term::read(1, Term::annotation(merge, Type::record(1, int())));
+    let body = Term::projection(1, Term::annotation(merge, Type::record(1, int())));
     let function = Term::function(body, Type::record(2, int()), int());
     Term::application(function, Term::merge(Term::record(1, number(1)), Term::record(2, number(9))))
 }
@@ -43,25 +43,25 @@ pub fn own_fixpoint() -> Term {
 
 /// Something merged with itself so many times over by sharing.
 pub fn doubled(leaf: Cell, times: u16) -> Vec<u8> {
-    let merges = (0..times).map(|n| Cell::new(22, 0, [n, n, 0]));
+    let merges = (0..times).map(|n| Cell::new(kind::MERGE, 0, [n, n, 0]));
     Cells { cells: [leaf].into_iter().chain(merges).collect(), root: times }.bytes()
 }
 
 /// The book of the desk program's example.
 pub fn desk_example() -> Vec<u8> {
     let cells = vec![
-        Cell::new(1, 0, [0, 0, 0]),
+        zeroed(kind::INT),
         Cell::number(1),
         Cell::number(5),
-        Cell::new(24, 7, [2, 0, 0]),
-        Cell::new(22, 0, [1, 3, 0]),
-        Cell::new(19, 0, [4, 0, 0]),
+        Cell::new(kind::RECORD, 7, [2, 0, 0]),
+        Cell::new(kind::MERGE, 0, [1, 3, 0]),
+        Cell::new(kind::ANNOTATION, 0, [4, 0, 0]),
     ];
     Cells { cells, root: 5 }.bytes()
 }
 
 /// The books of the repository's folder books/, by name.
-pub fn kept_books() -> BTreeMap<String, Vec<u8>> {
+pub fn sample_books() -> BTreeMap<String, Vec<u8>> {
     books_of("../books")
 }
 
@@ -91,8 +91,8 @@ pub fn samples() -> Vec<Sample> {
     all
 }
 
-fn opened(term: &Term) -> Vec<u8> {
-    lay(term, Sharing::Never, &mut Random::of(0, "", 0)).bytes()
+fn unshared(term: &Term) -> Vec<u8> {
+    encode(term, Sharing::Never, &mut Random::of(0, "", 0)).bytes()
 }
 
 /// Samples of which document 01 states the answer alone.
@@ -102,19 +102,19 @@ fn samples_by_answer() -> Vec<Sample> {
     let mut list = Vec::new();
     let mut add = |name, book: Vec<u8>, call, answer| list.push(Sample { name, book, call, answer, value: None });
 
-    add("1 merged with 1, checked", opened(&Term::merge(number(1), number(1))), Call::Check, Answer::Accepted { size: 3 });
-    add("1 merged with 2", opened(&Term::merge(number(1), number(2))), Call::Check, refused(14, 2));
+    add("1 merged with 1, checked", unshared(&Term::merge(number(1), number(1))), Call::Check, Answer::Accepted { size: 3 });
+    add("1 merged with 2", unshared(&Term::merge(number(1), number(2))), Call::Check, refused(14, 2));
     let variables = Term::merge(Term::variable(0), Term::variable(0));
-    add("a variable merged with itself", opened(&Term::function(variables, int(), int())), Call::Check, refused(14, 2));
-    add("3 applied to 4", opened(&Term::application(number(3), number(4))), Call::Check, refused(12, 2));
-    add("the fixpoint, limit 0", opened(&own_fixpoint()), run(0), Answer::Spent { steps: 0 });
-    add("the fixpoint, limit 2,046", opened(&own_fixpoint()), run(2_046), Answer::Spent { steps: 2_046 });
-    add("the fixpoint, limit 2,047", opened(&own_fixpoint()), run(2_047), Answer::Room { steps: 2_046 });
-    let top = Cell::new(18, 0, [0; 3]);
+    add("a variable merged with itself", unshared(&Term::function(variables, int(), int())), Call::Check, refused(14, 2));
+    add("3 applied to 4", unshared(&Term::application(number(3), number(4))), Call::Check, refused(12, 2));
+    add("the fixpoint, limit 0", unshared(&own_fixpoint()), run(0), Answer::Spent { steps: 0 });
+    add("the fixpoint, limit 2,046", unshared(&own_fixpoint()), run(2_046), Answer::Spent { steps: 2_046 });
+    add("the fixpoint, limit 2,047", unshared(&own_fixpoint()), run(2_047), Answer::Room { steps: 2_046 });
+    let top = zeroed(kind::TOP_VALUE);
     add("the top value merged 11 times", doubled(top, 11), Call::Check, Answer::Accepted { size: 4_095 });
     add("the top value merged 12 times", doubled(top, 12), Call::Check, refused(10, 12));
     let nested = (0..4_094).fold(number(5), |content, label| Term::record(label as u8, content));
-    add("4,094 records round a number", opened(&nested), Call::Check, Answer::Accepted { size: 4_095 });
+    add("4,094 records round a number", unshared(&nested), Call::Check, Answer::Accepted { size: 4_095 });
     list
 }
 
@@ -123,7 +123,7 @@ fn samples_by_value() -> Vec<Sample> {
     let mut list = Vec::new();
     let mut add = |name, term: Term, value: Term, steps| {
         let (call, answer) = (Call::Run { limit: 10_000 }, Answer::Value { steps });
-        list.push(Sample { name, book: opened(&term), call, answer, value: Some(value) });
+        list.push(Sample { name, book: unshared(&term), call, answer, value: Some(value) });
     };
     let ones = Term::merge(number(1), number(1));
     add("1 merged with 1", ones.clone(), ones, 0);

@@ -1,8 +1,9 @@
 //! Smaller books on which the two sides still differ.
 
-use crate::cells::{Cell, Cells, Sort};
+use crate::cells::{is_labelled, sort_of, zeroed, Cells};
 use crate::comparing::{Comparison, Question};
 use crate::engines::Call;
+use evaluator::{kind, Cell, Sort, TABLE};
 
 /// How many smaller books are tried at most.
 const TRIES: usize = 20_000;
@@ -46,15 +47,16 @@ fn smaller(book: &[u8]) -> Vec<Vec<u8>> {
     let mut books: Vec<Cells> = Vec::new();
     // A lower root, and nothing past it.
     let root = usize::from(cells.root).min(count - 1);
-    for lower in (0..root).filter(|&n| cells.cells[n].sort() == Sort::Term) {
+    for lower in (0..root).filter(|&n| sort_of(cells.cells[n].kind) == Sort::Term) {
         books.push(Cells { cells: cells.cells[..=lower].to_vec(), root: lower as u16 });
     }
     for at in (0..count).rev() {
         // Without a cell: each of its parts, or any lower one of its sort, takes its place.
         let cell = cells.cells[at];
+        let sort = sort_of(cell.kind);
         let parts = cell.fields.into_iter().zip(cell.references());
-        let parts = parts.filter_map(|(field, sort)| (sort == Some(cell.sort())).then_some(field));
-        let lower = cells.of_sort(cell.sort(), at);
+        let parts = parts.filter_map(|(field, to)| (to == Some(sort)).then_some(field));
+        let lower = cells.of_sort(sort, at);
         let any = lower.first().copied().into_iter().chain(lower.last().copied());
         for instead in parts.chain(any).chain([0]) {
             if count > 1 && usize::from(instead) < at || at == 0 && usize::from(cells.root) != at {
@@ -72,16 +74,18 @@ fn smaller(book: &[u8]) -> Vec<Vec<u8>> {
     books.into_iter().map(|less| less.bytes()).filter(|less| weight(less) < weight(book)).collect()
 }
 
+/// Cells to take its place: those of its sort that refer to nothing, and simpler ones of its own kind.
 fn simpler_cells(cell: Cell) -> Vec<Cell> {
-    let leaf = |kind| Cell::new(kind, 0, [0; 3]);
-    let mut simpler = match cell.sort() {
-        Sort::Type => vec![leaf(1), leaf(2)],
-        Sort::Term => vec![leaf(16), leaf(17), leaf(18), Cell::number(1)],
-    };
-    if cell.labelled() {
+    let sort = sort_of(cell.kind);
+    let leaves = TABLE.iter().filter(|row| row.sort == sort && row.is_leaf());
+    let mut simpler: Vec<Cell> = leaves.map(|row| zeroed(row.kind)).collect();
+    if sort == Sort::Term {
+        simpler.push(Cell::number(1));
+    }
+    if is_labelled(cell.kind) {
         simpler.extend([0, 1].map(|label| Cell { label, ..cell }));
     }
-    if cell.kind == 17 {
+    if cell.kind == kind::NUMBER {
         simpler.extend([0, 1, 2].map(Cell::number));
     }
     simpler

@@ -1,10 +1,12 @@
 //! What the calculus promises of an accepted book: each term reached is a value without a successor or has exactly one, is typed below
-//! the first type and is accepted when laid down; and any two limits agree. Successors and types are the evaluator's, with both halves
+//! the first type and is accepted as a book; and any two limits agree. Successors and types are the evaluator's, with both halves
 //! of every merge open; the calls are those of the side that is compared.
 
 use crate::engines::{Call, Engine};
 use crate::random::Random;
-use evaluator::{below, find, lay_term, lay_type, read, successors, Answer, Term, Type, SIZE_LIMIT, WORK};
+use evaluator::{
+    decode, encode_term, encode_type, infer, subtype, successors, Answer, Term, Type, CELL, SIZE_LIMIT, TRAILER, WORK,
+};
 
 /// Terms above this size are not followed, nor more steps than this.
 const SMALL: u64 = 200;
@@ -16,29 +18,29 @@ fn call(side: &dyn Engine, call: Call, book: &[u8]) -> Result<(Answer, Vec<u8>),
     Ok((answer, work))
 }
 
-/// The book that is laid down at the start of the work buffer.
-fn laid(work: &[u8]) -> &[u8] {
-    let cells = work.chunks(8).take_while(|cell| cell[0] != 0xF0).count();
-    &work[..work.len().min(cells * 8 + 8)]
+/// The book at the start of the work buffer.
+fn encoded(work: &[u8]) -> &[u8] {
+    let cells = work.chunks(CELL).take_while(|cell| cell[0] != TRAILER).count();
+    &work[..work.len().min((cells + 1) * CELL)]
 }
 
-/// The call says this and lays this down.
-fn says(side: &dyn Engine, asked: Call, book: &[u8], answer: Answer, left: &[u8]) -> Result<(), String> {
-    let (said, work) = call(side, asked, book)?;
-    if said == answer && laid(&work) == left {
+/// The call returns this and leaves this.
+fn expect(side: &dyn Engine, asked: Call, book: &[u8], answer: Answer, left: &[u8]) -> Result<(), String> {
+    let (reply, work) = call(side, asked, book)?;
+    if reply == answer && encoded(&work) == left {
         Ok(())
     } else {
-        Err(format!("{asked:?} of a term reached says {said:?}, not {answer:?}, or leaves something else"))
+        Err(format!("{asked:?} of a term reached says {reply:?}, not {answer:?}, or leaves something else"))
     }
 }
 
 /// Nothing to say of a book that is refused or not small.
 pub fn holds(side: &dyn Engine, book: &[u8]) -> Result<(), String> {
-    let Ok(root) = read(book) else { return Ok(()) };
+    let Ok(root) = decode(book) else { return Ok(()) };
     if root.size() > SMALL {
         return Ok(());
     }
-    let Ok(first) = find(&mut Vec::new(), &root) else { return Ok(()) };
+    let Ok(first) = infer(&mut Vec::new(), &root) else { return Ok(()) };
     if first.size() > root.size() {
         return Err(format!("the type's size {} passes the book's {}", first.size(), root.size()));
     }
@@ -49,7 +51,7 @@ pub fn holds(side: &dyn Engine, book: &[u8]) -> Result<(), String> {
         (term, steps) = (next, steps + 1);
     }
     let reached = if term.is_value() { Answer::Value { steps } } else { Answer::Spent { steps } };
-    says(side, Call::Run { limit: steps }, book, reached, &lay_term(&term))?;
+    expect(side, Call::Run { limit: steps }, book, reached, &encode_term(&term))?;
     let mut random = Random::of(u64::from(steps), "limits", book.len() as u64);
     let one = random.lower(steps as usize + 3) as u32;
     two_limits(side, book, one, one + random.lower(steps as usize + 3) as u32)
@@ -61,21 +63,21 @@ fn follow(side: &dyn Engine, term: &Term, first: &Type) -> Result<Option<Term>, 
     if next.len() != if term.is_value() { 0 } else { 1 } {
         return Err(format!("{} successors", next.len()));
     }
-    let found = find(&mut Vec::new(), term).map_err(|refusal| format!("{refusal:?}"))?;
-    if !below(&found, first) {
-        return Err(format!("the type {found} is not below {first}"));
+    let inferred = infer(&mut Vec::new(), term).map_err(|refusal| format!("{refusal:?}"))?;
+    if !subtype(&inferred, first) {
+        return Err(format!("the type {inferred} is not below {first}"));
     }
-    let alone = lay_term(term);
-    says(side, Call::Check, &alone, Answer::Accepted { size: found.size() as usize }, &lay_type(&found))?;
+    let alone = encode_term(term);
+    expect(side, Call::Check, &alone, Answer::Accepted { size: inferred.size() as usize }, &encode_type(&inferred))?;
     let one_step = Call::Run { limit: 1 };
     let Some(next) = next.pop() else {
-        return says(side, one_step, &alone, Answer::Value { steps: 0 }, &alone).map(|()| None);
+        return expect(side, one_step, &alone, Answer::Value { steps: 0 }, &alone).map(|()| None);
     };
     if next.size() > SIZE_LIMIT {
-        return says(side, one_step, &alone, Answer::Room { steps: 0 }, &alone).map(|()| None);
+        return expect(side, one_step, &alone, Answer::Room { steps: 0 }, &alone).map(|()| None);
     }
     let after = if next.is_value() { Answer::Value { steps: 1 } } else { Answer::Spent { steps: 1 } };
-    says(side, one_step, &alone, after, &lay_term(&next)).map(|()| Some(next))
+    expect(side, one_step, &alone, after, &encode_term(&next)).map(|()| Some(next))
 }
 
 /// The run with the lower limit either ended, and the other says the same; or it was spent, and its term, run for the steps
@@ -87,7 +89,7 @@ fn two_limits(side: &dyn Engine, book: &[u8], lower: u32, higher: u32) -> Result
         let same = one == other && one_work == other_work;
         return if same { Ok(()) } else { Err(format!("limit {lower}: {one:?}, limit {higher}: {other:?}")) };
     };
-    let (rest, rest_work) = call(side, Call::Run { limit: higher - lower }, laid(&one_work))?;
+    let (rest, rest_work) = call(side, Call::Run { limit: higher - lower }, encoded(&one_work))?;
     let whole = match rest {
         Answer::Value { steps } => Answer::Value { steps: steps + lower },
         Answer::Spent { steps } => Answer::Spent { steps: steps + lower },

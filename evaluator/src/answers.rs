@@ -1,11 +1,11 @@
 //! The calls: check, run and the desk program's lines.
 
-use crate::book::{lay_term, lay_type, read, Refusal, CELL, SIZE_LIMIT};
+use crate::book::{decode, encode_term, encode_type, Cell, Refusal, CELL, SIZE_LIMIT, TRAILER};
 use crate::faults::{planted, Fault};
-use crate::running::Journey;
+use crate::running::Machine;
 use crate::stack::on_large_stack;
 use crate::terms::{Term, Type};
-use crate::typing::find;
+use crate::typing::infer;
 use std::fmt::Write;
 
 /// "Work buffer: not 65,536 bytes" is refusal 1.
@@ -30,9 +30,9 @@ pub enum Answer {
 
 /// The root and its type, or the first refusal of 2 to 15.
 fn accept(book: &[u8]) -> Result<(Term, Type), Refusal> {
-    let root = read(book)?;
-    let found = find(&mut Vec::new(), &root)?;
-    Ok((root, found))
+    let root = decode(book)?;
+    let inferred = infer(&mut Vec::new(), &root)?;
+    Ok((root, inferred))
 }
 
 /// Where a run stops, and the term reached: "A run says value when the term is one; else spent when exactly the limit has been
@@ -43,34 +43,34 @@ fn evaluate(root: Term, limit: u32) -> (Answer, Term) {
         () if planted(Fault::RoomOneLate) => SIZE_LIMIT + 1,
         () => SIZE_LIMIT,
     };
-    let mut journey = Journey::from(root);
+    let mut machine = Machine::from(root);
     let mut steps = 0;
     let stop = loop {
-        if journey.is_value() && !(planted(Fault::SpentBeforeValue) && steps == limit) {
+        if machine.is_value() && !(planted(Fault::SpentBeforeValue) && steps == limit) {
             break Answer::Value { steps };
         }
         if steps == limit && !planted(Fault::SpentAfterStep) && !planted(Fault::RoomBeforeSpent) {
             break Answer::Spent { steps };
         }
-        let mut next = journey.next();
+        let mut next = machine.next();
         if next.len() != 1 {
-            panic!("an accepted book reached a term with {} successors: {}", next.len(), journey.whole());
+            panic!("an accepted book reached a term with {} successors: {}", next.len(), machine.term());
         }
         let next = next.remove(0);
-        if journey.asked(&next) > room {
+        if machine.size_with(&next) > room {
             break Answer::Room { steps };
         }
         if steps == limit && planted(Fault::RoomBeforeSpent) {
             break Answer::Spent { steps };
         }
-        let depth = journey.depth();
-        journey.go(next);
-        steps += if planted(Fault::DescentCounted) && journey.depth() > depth { 2 } else { 1 };
+        let depth = machine.depth();
+        machine.step(next);
+        steps += if planted(Fault::DescentCounted) && machine.depth() > depth { 2 } else { 1 };
         if steps >= limit && planted(Fault::SpentAfterStep) {
             break Answer::Spent { steps };
         }
     };
-    (stop, journey.whole())
+    (stop, machine.term())
 }
 
 /// Leaves the outcome in the work buffer: "Refusal 1 touches nothing; all others zero the work buffer. After an acceptance or a
@@ -82,39 +82,39 @@ fn answer(work: &mut [u8], outcome: impl FnOnce() -> Result<(Answer, Vec<u8>), R
         }
         return Answer::Refused { number: 1, cell: 0 };
     }
-    let (answer, laid) = match on_large_stack(outcome) {
+    let (answer, encoded) = match on_large_stack(outcome) {
         Ok(accepted) => accepted,
         Err(Refusal { number, cell }) => (Answer::Refused { number, cell }, Vec::new()),
     };
     work.fill(0);
-    work[..laid.len()].copy_from_slice(&laid);
+    work[..encoded.len()].copy_from_slice(&encoded);
     answer
 }
 
-/// "A library checks a book": its type laid down, with the type's size.
+/// "A library checks a book": its type encoded, with the type's size.
 pub fn check(book: &[u8], work: &mut [u8]) -> Answer {
     answer(work, || {
-        let (_, found) = accept(book)?;
-        Ok((Answer::Accepted { size: found.size() as usize }, lay_type(&found)))
+        let (_, inferred) = accept(book)?;
+        Ok((Answer::Accepted { size: inferred.size() as usize }, encode_type(&inferred)))
     })
 }
 
-/// "Runs it for at most a given number of steps": the term reached laid down, with the steps taken. "The step limit is any unsigned
+/// "Runs it for at most a given number of steps": the term reached encoded, with the steps taken. "The step limit is any unsigned
 /// 32-bit number."
 pub fn run(book: &[u8], work: &mut [u8], limit: u32) -> Answer {
     answer(work, || {
         let (root, _) = accept(book)?;
         let (stop, reached) = evaluate(root, limit);
-        Ok((stop, lay_reached(&reached)))
+        Ok((stop, encode_reached(&reached)))
     })
 }
 
-/// The term reached, laid down. Only a planted fault reaches one above the limit; then there is nothing to lay.
-fn lay_reached(reached: &Term) -> Vec<u8> {
+/// The term reached as a book. Only a planted fault reaches one above the limit; then there is none.
+fn encode_reached(reached: &Term) -> Vec<u8> {
     if reached.size() > SIZE_LIMIT {
         return Vec::new();
     }
-    lay_term(reached)
+    encode_term(reached)
 }
 
 /// What the desk program prints. "Line 1: type size. Line 2: value, spent or room, and steps. Then a line a cell: number, kind,
@@ -134,10 +134,9 @@ pub fn desk(input: &[u8]) -> String {
         other => unreachable!("no answer of a run on an accepted book: {other:?}"),
     };
     let _ = writeln!(lines, "accepted {size}\n{word} {steps}");
-    // A cell's kind is never that of a trailer.
-    for (number, cell) in work.chunks(CELL).take_while(|cell| cell[0] != 0xF0).enumerate() {
-        let [a, b, c] = [2, 4, 6].map(|at| u16::from_le_bytes([cell[at], cell[at + 1]]));
-        let _ = writeln!(lines, "{number} {} {} {a} {b} {c}", cell[0], cell[1]);
+    let cells = work.chunks(CELL).map(Cell::of).take_while(|cell| cell.kind != TRAILER);
+    for (number, Cell { kind, label, fields: [a, b, c] }) in cells.enumerate() {
+        let _ = writeln!(lines, "{number} {kind} {label} {a} {b} {c}");
     }
     lines
 }

@@ -6,8 +6,8 @@
 pub enum Fault {
     /// Function inputs compared in the same direction as outputs.
     CovariantInputs,
-    /// A function's argument put in unread.
-    ArgumentUnread,
+    /// A function's argument substituted as it is, not cast to the input type.
+    ArgumentUncast,
     /// No room already at size 4,095.
     RoomOneEarly,
     /// Room still at size 4,096.
@@ -20,17 +20,17 @@ pub enum Fault {
     DisjointByInputs,
     /// A top-like function type answered with a function.
     TopLikeFunctionKept,
-    /// A function read under a function type keeps its own output type.
+    /// A function cast to a function type keeps its own output type.
     OutputKept,
-    /// A function read under a function type takes its input type too.
+    /// A function cast to a function type takes its input type too.
     InputTaken,
     /// A term annotated with a top-like type becomes the top value before its inside is a value.
-    TopLikeUnread,
+    TopLikeUncast,
     /// The top value applied becomes the top value before the argument is a value.
     TopAppliedEarly,
     /// The right of an application or merge stepped before the left is a value.
     RightPartFirst,
-    /// A fixpoint's body, itself put in, not annotated.
+    /// A fixpoint unfolded to its body alone, not annotated.
     FixpointBare,
     /// Going into a part that was made by a step counted as a step.
     DescentCounted,
@@ -50,7 +50,7 @@ pub enum Fault {
     RoomWithNearestLeft,
     /// Room still at size 4,096 where there is something left of the part that steps and something right of it.
     RoomOneLateBetween,
-    /// Room asked for an argument's reading also where the body does not use it.
+    /// Room asked for an argument's cast also where the body does not use it.
     RoomForUnused,
     /// Refusal 1 zeroes the work buffer.
     WrongLengthZeroed,
@@ -75,7 +75,7 @@ pub enum Fault {
 impl Fault {
     pub const ALL: [Fault; 33] = [
         Fault::CovariantInputs,
-        Fault::ArgumentUnread,
+        Fault::ArgumentUncast,
         Fault::RoomOneEarly,
         Fault::RoomOneLate,
         Fault::MergeByLeftHalf,
@@ -84,7 +84,7 @@ impl Fault {
         Fault::TopLikeFunctionKept,
         Fault::OutputKept,
         Fault::InputTaken,
-        Fault::TopLikeUnread,
+        Fault::TopLikeUncast,
         Fault::TopAppliedEarly,
         Fault::RightPartFirst,
         Fault::FixpointBare,
@@ -123,15 +123,15 @@ mod planted {
         PLANTED.get()
     }
 
-    /// Does `work` with this fault planted, or none, and puts back what was planted before, also if `work` panics.
+    /// Does `work` with this fault planted, or none, and restores what was planted before, also if `work` panics.
     pub fn with_fault<R>(fault: Option<Fault>, work: impl FnOnce() -> R) -> R {
-        struct PutBack(Option<Fault>);
-        impl Drop for PutBack {
+        struct Restore(Option<Fault>);
+        impl Drop for Restore {
             fn drop(&mut self) {
                 PLANTED.set(self.0);
             }
         }
-        let _put_back = PutBack(PLANTED.replace(fault));
+        let _restore = Restore(PLANTED.replace(fault));
         work()
     }
 }

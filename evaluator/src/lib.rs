@@ -4,21 +4,23 @@
 //! with the engine, so that the two can be compared. Quoted words in the comments are document 01's.
 //!
 //! So that many books can be compared, parts of trees are shared and not copied; each node keeps its size, whether it is a value and how
-//! many binders its variables need; and a run keeps its place in the term from step to step (`Journey`; `successors` takes a step on the
-//! whole tree instead). Tests on types, and readings, walk their trees each time.
+//! many binders its variables need; and a run keeps its place in the term from step to step (`Machine`; `successors` takes a step on the
+//! whole tree instead). Tests on types, and casts, walk their trees each time.
 
 mod answers;
 mod book;
 mod faults;
+mod kinds;
 mod running;
 mod stack;
 mod terms;
 mod typing;
 
 pub use answers::{check, desk, run, Answer, DESK_LIMIT, WORK};
-pub use book::{lay_term, lay_type, read, Refusal, CELL, SIZE_LIMIT};
+pub use book::{decode, encode_term, encode_type, Cell, Refusal, CELL, SIZE_LIMIT, TRAILER};
 pub use faults::{with_fault, Fault};
-pub use running::{put, readings, successors};
+pub use kinds::{kind, row, Field, Row, Sort, TABLE};
+pub use running::{casts, substitute, successors};
 pub use stack::on_large_stack;
-pub use terms::{Term, TermShape, Type, TypeShape};
-pub use typing::{below, consistent, disjoint, find, top_like};
+pub use terms::{Node, Part, Term, TermShape, Type, TypeShape};
+pub use typing::{consistent, disjoint, infer, subtype, top_like};

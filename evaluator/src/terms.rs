@@ -1,8 +1,101 @@
 //! Types and terms as trees. A part may be shared between several owners, but nothing can tell a shared part from a copied one:
-//! sizes and equality are those of the opened tree.
+//! sizes and equality are those of the tree.
 
-use std::fmt;
+use crate::kinds::{kind, rows, Row};
+use std::fmt::{self, Write};
 use std::rc::Rc;
+
+/// What a field of a node holds: nothing, a plain number, or a part.
+#[derive(Clone, Copy)]
+pub enum Part<'a> {
+    None,
+    Plain(u16),
+    Type(&'a Type),
+    Term(&'a Term),
+}
+
+impl Part<'_> {
+    fn size(&self) -> u64 {
+        match self {
+            Part::None | Part::Plain(_) => 0,
+            Part::Type(t) => t.size(),
+            Part::Term(e) => e.size(),
+        }
+    }
+
+    fn plain(self) -> u16 {
+        match self {
+            Part::Plain(value) => value,
+            _ => unreachable!("its row names a plain field"),
+        }
+    }
+
+    fn to_type(self) -> Type {
+        match self {
+            Part::Type(t) => t.clone(),
+            _ => unreachable!("its row names a type"),
+        }
+    }
+
+    fn to_term(self) -> Term {
+        match self {
+            Part::Term(e) => e.clone(),
+            _ => unreachable!("its row names a term"),
+        }
+    }
+}
+
+/// A type or term as the table of kinds sees it: its row, its label (0 where none is named), and its parts in place of references.
+#[derive(Clone, Copy)]
+pub struct Node<'a> {
+    pub row: &'static Row,
+    pub label: u8,
+    pub fields: [Part<'a>; 3],
+}
+
+impl<'a> Node<'a> {
+    fn leaf(row: &'static Row) -> Node<'a> {
+        Node { row, label: 0, fields: [Part::None; 3] }
+    }
+
+    fn new(row: &'static Row, fields: [Part<'a>; 3]) -> Node<'a> {
+        Node { row, label: 0, fields }
+    }
+
+    fn labelled(row: &'static Row, label: u8, content: Part<'a>) -> Node<'a> {
+        Node { row, label, fields: [content, Part::None, Part::None] }
+    }
+
+    /// "The size of a term or type is its count of cells with sharing opened, types included." Held at the end of 64 bits.
+    fn size(&self) -> u64 {
+        self.fields.iter().fold(1, |size: u64, part| size.saturating_add(part.size()))
+    }
+
+    /// How many binders the variables of its parts need around it: "Kinds 21 and 23 bind one variable in a."
+    fn open(&self) -> u32 {
+        self.terms().map(|(_, binders, part)| part.open().saturating_sub(binders)).max().unwrap_or(0)
+    }
+
+    /// The parts that are terms, each with its field and the binders over it.
+    pub fn terms(&self) -> impl DoubleEndedIterator<Item = (usize, u32, &'a Term)> {
+        let Node { row, fields, .. } = *self;
+        let term = move |(field, part)| match part {
+            Part::Term(e) => Some((field, row.binders_over(field), e)),
+            _ => None,
+        };
+        fields.into_iter().enumerate().filter_map(term)
+    }
+}
+
+/// "Bytes 4–7, signed 32 bits": a number as the fields b and c, little-endian.
+pub(crate) fn halves(n: i32) -> [u16; 2] {
+    let bits = n as u32;
+    [bits as u16, (bits >> 16) as u16]
+}
+
+fn number_of([low, high]: [u16; 2]) -> i32 {
+    (u32::from(high) << 16 | u32::from(low)) as i32
+}
 
 /// A type of the calculus.
 #[derive(Clone, PartialEq, Eq)]
@@ -14,7 +107,7 @@ struct TypeNode {
     shape: TypeShape,
 }
 
-/// The kinds 1 to 5 of document 01's table.
+/// The types of document 01's table.
 #[derive(PartialEq, Eq)]
 pub enum TypeShape {
     Int,
@@ -25,15 +118,37 @@ pub enum TypeShape {
     Record(u8, Type),
 }
 
+impl TypeShape {
+    fn node(&self) -> Node<'_> {
+        match self {
+            TypeShape::Int => Node::leaf(rows::INT),
+            TypeShape::Top => Node::leaf(rows::TOP),
+            TypeShape::Function(a, b) => Node::new(rows::FUNCTION_TYPE, [Part::Type(a), Part::Type(b), Part::None]),
+            TypeShape::Intersection(a, b) => Node::new(rows::INTERSECTION, [Part::Type(a), Part::Type(b), Part::None]),
+            TypeShape::Record(label, a) => Node::labelled(rows::RECORD_TYPE, *label, Part::Type(a)),
+        }
+    }
+
+    fn of(Node { row, label, fields: [a, b, _] }: Node) -> TypeShape {
+        match row.kind {
+            kind::INT => TypeShape::Int,
+            kind::TOP => TypeShape::Top,
+            kind::FUNCTION_TYPE => TypeShape::Function(a.to_type(), b.to_type()),
+            kind::INTERSECTION => TypeShape::Intersection(a.to_type(), b.to_type()),
+            kind::RECORD_TYPE => TypeShape::Record(label, a.to_type()),
+            _ => unreachable!("its row is that of a type"),
+        }
+    }
+}
+
 impl Type {
-    /// "The size of a term or type is its count of cells with sharing opened, types included." Held at the end of 64 bits.
     fn new(shape: TypeShape) -> Type {
-        let size = match &shape {
-            TypeShape::Int | TypeShape::Top => 1,
-            TypeShape::Function(a, b) | TypeShape::Intersection(a, b) => a.size().saturating_add(b.size()).saturating_add(1),
-            TypeShape::Record(_, a) => a.size().saturating_add(1),
-        };
-        Type(Rc::new(TypeNode { size, shape }))
+        Type(Rc::new(TypeNode { size: shape.node().size(), shape }))
+    }
+
+    /// The type that a node is.
+    pub fn of(node: Node) -> Type {
+        Type::new(TypeShape::of(node))
     }
 
     pub fn int() -> Type {
@@ -60,6 +175,10 @@ impl Type {
         &self.0.shape
     }
 
+    pub fn node(&self) -> Node<'_> {
+        self.0.shape.node()
+    }
+
     pub fn size(&self) -> u64 {
         self.0.size
     }
@@ -70,7 +189,7 @@ impl Type {
 pub struct Term(Rc<TermNode>);
 
 struct TermNode {
-    /// The cell it was read from; 0 for a term that a step made.
+    /// The cell it was decoded from; 0 for a term that a step made.
     cell: usize,
     size: u64,
     /// How many binders its variables need around it.
@@ -79,7 +198,7 @@ struct TermNode {
     shape: TermShape,
 }
 
-/// "As trees": where a term was read from is no part of it.
+/// "As trees": the cell that a term was decoded from is no part of it.
 impl PartialEq for TermNode {
     fn eq(&self, other: &TermNode) -> bool {
         self.size == other.size && self.shape == other.shape
@@ -88,7 +207,7 @@ impl PartialEq for TermNode {
 
 impl Eq for TermNode {}
 
-/// The kinds 16 to 25 of document 01's table.
+/// The terms of document 01's table.
 #[derive(PartialEq, Eq)]
 pub enum TermShape {
     Variable(u16),
@@ -101,27 +220,59 @@ pub enum TermShape {
     Merge(Term, Term),
     Fixpoint(Term, Type),
     Record(u8, Term),
-    Read(u8, Term),
+    Projection(u8, Term),
+}
+
+impl TermShape {
+    fn node(&self) -> Node<'_> {
+        match self {
+            TermShape::Variable(skipped) => Node::new(rows::VARIABLE, [Part::Plain(*skipped), Part::None, Part::None]),
+            TermShape::Number(n) => {
+                let [b, c] = halves(*n);
+                Node::new(rows::NUMBER, [Part::None, Part::Plain(b), Part::Plain(c)])
+            }
+            TermShape::Top => Node::leaf(rows::TOP_VALUE),
+            TermShape::Annotation(e, t) => Node::new(rows::ANNOTATION, [Part::Term(e), Part::Type(t), Part::None]),
+            TermShape::Application(l, r) => Node::new(rows::APPLICATION, [Part::Term(l), Part::Term(r), Part::None]),
+            TermShape::Function(e, i, o) => Node::new(rows::FUNCTION, [Part::Term(e), Part::Type(i), Part::Type(o)]),
+            TermShape::Merge(l, r) => Node::new(rows::MERGE, [Part::Term(l), Part::Term(r), Part::None]),
+            TermShape::Fixpoint(e, t) => Node::new(rows::FIXPOINT, [Part::Term(e), Part::Type(t), Part::None]),
+            TermShape::Record(label, e) => Node::labelled(rows::RECORD, *label, Part::Term(e)),
+            TermShape::Projection(label, e) => Node::labelled(rows::PROJECTION, *label, Part::Term(e)),
+        }
+    }
+
+    fn of(Node { row, label, fields: [a, b, c] }: Node) -> TermShape {
+        match row.kind {
+            kind::VARIABLE => TermShape::Variable(a.plain()),
+            kind::NUMBER => TermShape::Number(number_of([b.plain(), c.plain()])),
+            kind::TOP_VALUE => TermShape::Top,
+            kind::ANNOTATION => TermShape::Annotation(a.to_term(), b.to_type()),
+            kind::APPLICATION => TermShape::Application(a.to_term(), b.to_term()),
+            kind::FUNCTION => TermShape::Function(a.to_term(), b.to_type(), c.to_type()),
+            kind::MERGE => TermShape::Merge(a.to_term(), b.to_term()),
+            kind::FIXPOINT => TermShape::Fixpoint(a.to_term(), b.to_type()),
+            kind::RECORD => TermShape::Record(label, a.to_term()),
+            kind::PROJECTION => TermShape::Projection(label, a.to_term()),
+            _ => unreachable!("its row is that of a term"),
+        }
+    }
 }
 
 impl Term {
-    /// The term of this shape that stands in this cell.
-    pub fn at(cell: usize, shape: TermShape) -> Term {
-        let size = match &shape {
-            TermShape::Variable(_) | TermShape::Number(_) | TermShape::Top => 1,
-            TermShape::Annotation(e, t) | TermShape::Fixpoint(e, t) => e.size().saturating_add(t.size()).saturating_add(1),
-            TermShape::Application(a, b) | TermShape::Merge(a, b) => a.size().saturating_add(b.size()).saturating_add(1),
-            TermShape::Function(e, i, o) => e.size().saturating_add(i.size()).saturating_add(o.size()).saturating_add(1),
-            TermShape::Record(_, e) | TermShape::Read(_, e) => e.size().saturating_add(1),
-        };
-        // "Kinds 21 and 23 bind one variable in a."
-        let open = match &shape {
-            TermShape::Variable(skipped) => u32::from(*skipped) + 1,
-            TermShape::Number(_) | TermShape::Top => 0,
-            TermShape::Annotation(e, _) | TermShape::Record(_, e) | TermShape::Read(_, e) => e.open(),
-            TermShape::Application(a, b) | TermShape::Merge(a, b) => a.open().max(b.open()),
-            TermShape::Function(e, _, _) | TermShape::Fixpoint(e, _) => e.open().saturating_sub(1),
-        };
+    /// The term that a node is, in this cell.
+    pub fn at(cell: usize, node: Node) -> Term {
+        Term::in_cell(cell, TermShape::of(node))
+    }
+
+    /// The term that a node is.
+    pub fn of(node: Node) -> Term {
+        Term::at(0, node)
+    }
+
+    fn in_cell(cell: usize, shape: TermShape) -> Term {
+        let node = shape.node();
+        let open = if let TermShape::Variable(skipped) = shape { u32::from(skipped) + 1 } else { node.open() };
         // "Values: numbers, the top value, functions, merges of values, records of values."
         let value = match &shape {
             TermShape::Number(_) | TermShape::Top | TermShape::Function(..) => true,
@@ -129,11 +280,11 @@ impl Term {
             TermShape::Record(_, e) => e.is_value(),
             _ => false,
         };
-        Term(Rc::new(TermNode { cell, size, open, value, shape }))
+        Term(Rc::new(TermNode { cell, size: node.size(), open, value, shape }))
     }
 
     fn new(shape: TermShape) -> Term {
-        Term::at(0, shape)
+        Term::in_cell(0, shape)
     }
 
     pub fn variable(skipped: u16) -> Term {
@@ -172,12 +323,34 @@ impl Term {
         Term::new(TermShape::Record(label, content))
     }
 
-    pub fn read(label: u8, of: Term) -> Term {
-        Term::new(TermShape::Read(label, of))
+    pub fn projection(label: u8, of: Term) -> Term {
+        Term::new(TermShape::Projection(label, of))
     }
 
     pub fn shape(&self) -> &TermShape {
         &self.0.shape
+    }
+
+    pub fn node(&self) -> Node<'_> {
+        self.0.shape.node()
+    }
+
+    /// The same term with another part in this field.
+    pub fn with_part(&self, field: usize, part: &Term) -> Term {
+        let mut node = self.node();
+        node.fields[field] = Part::Term(part);
+        Term::of(node)
+    }
+
+    /// The same term with each part that is a term put through `to`, which is given the binders over the part.
+    pub fn map(&self, to: impl Fn(&Term, u32) -> Term) -> Term {
+        let mut node = self.node();
+        let mut parts = [None, None, None];
+        node.terms().for_each(|(field, binders, part)| parts[field] = Some(to(part, binders)));
+        for (field, part) in node.fields.iter_mut().zip(&parts) {
+            *field = part.as_ref().map_or(*field, Part::Term);
+        }
+        Term::of(node)
     }
 
     pub fn cell(&self) -> usize {
@@ -202,20 +375,44 @@ impl Term {
     }
 }
 
+impl fmt::Display for Part<'_> {
+    fn fmt(&self, f: &mut fmt::Formatter<'_>) -> fmt::Result {
+        match self {
+            Part::None => Ok(()),
+            Part::Plain(value) => write!(f, "{value}"),
+            Part::Type(t) => write!(f, "{t}"),
+            Part::Term(e) => write!(f, "{e}"),
+        }
+    }
+}
+
+/// By the notation of its row.
+impl fmt::Display for Node<'_> {
+    fn fmt(&self, f: &mut fmt::Formatter<'_>) -> fmt::Result {
+        let [a, b, c] = self.fields;
+        let mut notation = self.row.notation.chars();
+        while let Some(letter) = notation.next() {
+            match if letter == '$' { notation.next() } else { None } {
+                None => f.write_char(letter)?,
+                Some('l') => write!(f, "{}", self.label)?,
+                Some('n') => write!(f, "{}", number_of([b.plain(), c.plain()]))?,
+                Some('a') => write!(f, "{a}")?,
+                Some('b') => write!(f, "{b}")?,
+                Some(_) => write!(f, "{c}")?,
+            }
+        }
+        Ok(())
+    }
+}
+
 /// Trees above this size are shown by their size alone.
 const SHOWN: u64 = 400;
 
 impl fmt::Display for Type {
     fn fmt(&self, f: &mut fmt::Formatter<'_>) -> fmt::Result {
-        if self.size() > SHOWN {
-            return write!(f, "<type of size {}>", self.size());
-        }
-        match self.shape() {
-            TypeShape::Int => write!(f, "Int"),
-            TypeShape::Top => write!(f, "Top"),
-            TypeShape::Function(a, b) => write!(f, "({a} -> {b})"),
-            TypeShape::Intersection(a, b) => write!(f, "({a} & {b})"),
-            TypeShape::Record(l, a) => write!(f, "{{{l}: {a}}}"),
+        match self.size() {
+            ..=SHOWN => write!(f, "{}", self.node()),
+            size => write!(f, "<type of size {size}>"),
         }
     }
 }
@@ -228,20 +425,9 @@ impl fmt::Debug for Type {
 
 impl fmt::Display for Term {
     fn fmt(&self, f: &mut fmt::Formatter<'_>) -> fmt::Result {
-        if self.size() > SHOWN {
-            return write!(f, "<term of size {}>", self.size());
-        }
-        match self.shape() {
-            TermShape::Variable(i) => write!(f, "#{i}"),
-            TermShape::Number(n) => write!(f, "{n}"),
-            TermShape::Top => write!(f, "top"),
-            TermShape::Annotation(e, t) => write!(f, "({e} : {t})"),
-            TermShape::Application(a, b) => write!(f, "({a} {b})"),
-            TermShape::Function(e, i, o) => write!(f, "(fun {e} : {i} -> {o})"),
-            TermShape::Merge(a, b) => write!(f, "({a} ,, {b})"),
-            TermShape::Fixpoint(e, t) => write!(f, "(fix {e} : {t})"),
-            TermShape::Record(l, e) => write!(f, "{{{l} = {e}}}"),
-            TermShape::Read(l, e) => write!(f, "{e}.{l}"),
+        match self.size() {
+            ..=SHOWN => write!(f, "{}", self.node()),
+            size => write!(f, "<term of size {size}>"),
         }
     }
 }

@@ -21,19 +21,19 @@ pub fn top_like(t: &Type) -> bool {
 ///
 /// An intersection on the right is taken apart first. Nothing is lost: a half that is below both halves of the right is below
 /// each of them.
-pub fn below(a: &Type, b: &Type) -> bool {
+pub fn subtype(a: &Type, b: &Type) -> bool {
     if top_like(b) {
         return true;
     }
     match (a.shape(), b.shape()) {
-        (_, TypeShape::Intersection(l, r)) => below(a, l) && below(a, r),
-        (TypeShape::Intersection(l, r), _) => below(l, b) || below(r, b),
+        (_, TypeShape::Intersection(l, r)) => subtype(a, l) && subtype(a, r),
+        (TypeShape::Intersection(l, r), _) => subtype(l, b) || subtype(r, b),
         (TypeShape::Int, TypeShape::Int) => true,
         (TypeShape::Function(i, o), TypeShape::Function(wanted_i, wanted_o)) => {
-            let inputs = if planted(Fault::CovariantInputs) { below(i, wanted_i) } else { below(wanted_i, i) };
-            inputs && below(o, wanted_o)
+            let inputs = if planted(Fault::CovariantInputs) { subtype(i, wanted_i) } else { subtype(wanted_i, i) };
+            inputs && subtype(o, wanted_o)
         }
-        (TypeShape::Record(l, c), TypeShape::Record(wanted_l, wanted_c)) => l == wanted_l && below(c, wanted_c),
+        (TypeShape::Record(l, c), TypeShape::Record(wanted_l, wanted_c)) => l == wanted_l && subtype(c, wanted_c),
         _ => false,
     }
 }
@@ -55,7 +55,7 @@ pub fn disjoint(a: &Type, b: &Type) -> bool {
     }
 }
 
-/// The type that finding gives a typed value, seen from its form: its parts need not be walked again.
+/// The type that `infer` gives a typed value, seen from its form: its parts need not be walked again.
 fn type_of_value(v: &Term) -> Type {
     match v.shape() {
         TermShape::Number(_) => Type::int(),
@@ -86,7 +86,7 @@ pub fn consistent(v: &Term, w: &Term) -> bool {
 
 /// "Finding a type". The binders' types are listed outermost first. "Typing walks left before right and parts before wholes";
 /// "11 to 14 name the variable, application, field read or merge itself".
-pub fn find(binders: &mut Vec<Type>, e: &Term) -> Result<Type, Refusal> {
+pub fn infer(binders: &mut Vec<Type>, e: &Term) -> Result<Type, Refusal> {
     match e.shape() {
         // "top value Top; number Int; variable its binder's type"
         TermShape::Top => Ok(Type::top()),
@@ -97,24 +97,24 @@ pub fn find(binders: &mut Vec<Type>, e: &Term) -> Result<Type, Refusal> {
         },
         // "annotation its type, after checking"
         TermShape::Annotation(inside, by) => {
-            check_against(binders, e, inside, by)?;
+            check(binders, e, inside, by)?;
             Ok(by.clone())
         }
         // "function its annotated type, the body checked against the output"
         TermShape::Function(body, input, output) => {
-            under(binders, input, |binders| check_against(binders, e, body, output))?;
+            with_binder(binders, input, |binders| check(binders, e, body, output))?;
             Ok(Type::function(input.clone(), output.clone()))
         }
         // "fixpoint its type, the body checked against it"
         TermShape::Fixpoint(body, at) => {
-            under(binders, at, |binders| check_against(binders, e, body, at))?;
+            with_binder(binders, at, |binders| check(binders, e, body, at))?;
             Ok(at.clone())
         }
         // "record a record type"
-        TermShape::Record(label, content) => Ok(Type::record(*label, find(binders, content)?)),
-        TermShape::Application(left, right) => find_application(binders, e, left, right),
-        TermShape::Read(label, of) => find_read(binders, e, *label, of),
-        TermShape::Merge(left, right) => find_merge(binders, e, left, right),
+        TermShape::Record(label, content) => Ok(Type::record(*label, infer(binders, content)?)),
+        TermShape::Application(left, right) => infer_application(binders, e, left, right),
+        TermShape::Projection(label, of) => infer_projection(binders, e, *label, of),
+        TermShape::Merge(left, right) => infer_merge(binders, e, left, right),
     }
 }
 
@@ -124,35 +124,35 @@ fn refuse(number: u8, e: &Term) -> Result<Type, Refusal> {
 
 /// "Application: the left's type must be a function type, or Top, read as Top to Top; the right is checked against the input." "12 is
 /// tested before the right side is walked."
-fn find_application(binders: &mut Vec<Type>, e: &Term, left: &Term, right: &Term) -> Result<Type, Refusal> {
-    let found = find(binders, left)?;
-    let (input, output) = match found.shape() {
+fn infer_application(binders: &mut Vec<Type>, e: &Term, left: &Term, right: &Term) -> Result<Type, Refusal> {
+    let inferred = infer(binders, left)?;
+    let (input, output) = match inferred.shape() {
         TypeShape::Function(i, o) => (i.clone(), o.clone()),
         TypeShape::Top => (Type::top(), Type::top()),
-        _ if planted(Fault::ArgumentFirst) => return find(binders, right).and_then(|_| refuse(12, e)),
+        _ if planted(Fault::ArgumentFirst) => return infer(binders, right).and_then(|_| refuse(12, e)),
         _ => return refuse(12, e),
     };
-    check_against(binders, e, right, &input)?;
+    check(binders, e, right, &input)?;
     Ok(output)
 }
 
 /// "Field read: the term's type must be a record type of exactly that label, or Top, which gives Top."
-fn find_read(binders: &mut Vec<Type>, e: &Term, label: u8, of: &Term) -> Result<Type, Refusal> {
-    let found = find(binders, of)?;
-    match found.shape() {
+fn infer_projection(binders: &mut Vec<Type>, e: &Term, label: u8, of: &Term) -> Result<Type, Refusal> {
+    let inferred = infer(binders, of)?;
+    match inferred.shape() {
         TypeShape::Record(l, content) if *l == label => Ok(content.clone()),
-        TypeShape::Top => Ok(found),
+        TypeShape::Top => Ok(inferred),
         _ => refuse(13, e),
     }
 }
 
 /// "Merge: the intersection, if the two types are disjoint, or both halves are closed values and consistent."
-fn find_merge(binders: &mut Vec<Type>, e: &Term, left: &Term, right: &Term) -> Result<Type, Refusal> {
+fn infer_merge(binders: &mut Vec<Type>, e: &Term, left: &Term, right: &Term) -> Result<Type, Refusal> {
     let (a, b) = if planted(Fault::RightHalfFirst) {
-        let b = find(binders, right)?;
-        (find(binders, left)?, b)
+        let b = infer(binders, right)?;
+        (infer(binders, left)?, b)
     } else {
-        (find(binders, left)?, find(binders, right)?)
+        (infer(binders, left)?, infer(binders, right)?)
     };
     let closed_value = |half: &Term| half.is_value() && half.is_closed();
     if disjoint(&a, &b) || closed_value(left) && closed_value(right) && consistent(left, right) {
@@ -163,8 +163,8 @@ fn find_merge(binders: &mut Vec<Type>, e: &Term, left: &Term, right: &Term) -> R
 }
 
 /// "Checking: find a type; it must be below the wanted one." 15 names "the checked term", which is a part of the whole.
-fn check_against(binders: &mut Vec<Type>, whole: &Term, e: &Term, wanted: &Type) -> Result<(), Refusal> {
-    if below(&find(binders, e)?, wanted) {
+fn check(binders: &mut Vec<Type>, whole: &Term, e: &Term, wanted: &Type) -> Result<(), Refusal> {
+    if subtype(&infer(binders, e)?, wanted) {
         Ok(())
     } else {
         let named = if planted(Fault::WholeNamed) { whole } else { e };
@@ -173,7 +173,7 @@ fn check_against(binders: &mut Vec<Type>, whole: &Term, e: &Term, wanted: &Type)
 }
 
 /// Does `work` under one more binder.
-fn under<R>(binders: &mut Vec<Type>, of: &Type, work: impl FnOnce(&mut Vec<Type>) -> R) -> R {
+fn with_binder<R>(binders: &mut Vec<Type>, of: &Type, work: impl FnOnce(&mut Vec<Type>) -> R) -> R {
     binders.push(of.clone());
     let result = work(binders);
     binders.pop();

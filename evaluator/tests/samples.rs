@@ -1,6 +1,6 @@
 //! Every sample book of document 01, the desk example, and a book for each refusal and each reading that has one.
 
-use evaluator::{check, desk, lay_term, on_large_stack, run, successors, Answer, Term, Type, WORK};
+use evaluator::{check, desk, encode_term, on_large_stack, run, successors, Answer, Sort, Term, Type, TABLE, WORK};
 
 /// Cells as in document 01's table: kind, label, a, b, c; the root is given.
 fn book(cells: &[[u16; 5]], root: u16) -> Vec<u8> {
@@ -26,11 +26,11 @@ fn noise() -> Vec<u8> {
 fn checked(book: &[u8]) -> Answer {
     let mut work = noise();
     let answer = check(book, &mut work);
-    let laid = match answer {
+    let end = match answer {
         Answer::Accepted { size } => size * 8 + 8,
         _ => 0,
     };
-    assert!(work[laid..].iter().all(|&byte| byte == 0), "bytes past the type are zero");
+    assert!(work[end..].iter().all(|&byte| byte == 0), "bytes past the type are zero");
     answer
 }
 
@@ -50,10 +50,10 @@ fn refused(number: u8, cell: usize) -> Answer {
 
 /// The book is accepted and comes to this value after so many steps.
 fn comes_to(term: Term, value: Term, steps: u32) {
-    let book = lay_term(&term);
+    let book = encode_term(&term);
     assert!(matches!(checked(&book), Answer::Accepted { .. }));
-    assert_eq!(ran(&book, 10_000), (Answer::Value { steps }, lay_term(&value)), "{term}");
-    assert_eq!(ran(&book, steps), (Answer::Value { steps }, lay_term(&value)), "{term}");
+    assert_eq!(ran(&book, 10_000), (Answer::Value { steps }, encode_term(&value)), "{term}");
+    assert_eq!(ran(&book, steps), (Answer::Value { steps }, encode_term(&value)), "{term}");
     if steps > 0 {
         assert_eq!(ran(&book, steps - 1).0, Answer::Spent { steps: steps - 1 }, "{term}");
     }
@@ -74,14 +74,14 @@ fn identity() -> Term {
 #[test]
 fn one_merged_with_one_and_with_two() {
     comes_to(Term::merge(number(1), number(1)), Term::merge(number(1), number(1)), 0);
-    assert_eq!(checked(&lay_term(&Term::merge(number(1), number(2)))), refused(14, 2));
+    assert_eq!(checked(&encode_term(&Term::merge(number(1), number(2)))), refused(14, 2));
 }
 
 #[test]
 fn a_variable_is_no_closed_value() {
     let body = Term::merge(Term::variable(0), Term::variable(0));
     let function = Term::function(body, int(), int());
-    assert_eq!(checked(&lay_term(&function)), refused(14, 2));
+    assert_eq!(checked(&encode_term(&function)), refused(14, 2));
 }
 
 #[test]
@@ -104,13 +104,13 @@ fn the_identity_annotated_int_to_top() {
 #[test]
 fn applications_of_the_top_value_and_of_a_number() {
     comes_to(Term::application(Term::top(), number(3)), Term::top(), 1);
-    assert_eq!(checked(&lay_term(&Term::application(number(3), number(4)))), refused(12, 2));
+    assert_eq!(checked(&encode_term(&Term::application(number(3), number(4)))), refused(12, 2));
 }
 
 #[test]
 fn the_hidden_field() {
     let merge = Term::merge(Term::record(1, number(2)), Term::variable(0));
-    let body = Term::read(1, Term::annotation(merge, Type::record(1, int())));
+    let body = Term::projection(1, Term::annotation(merge, Type::record(1, int())));
     let function = Term::function(body, Type::record(2, int()), int());
     let argument = Term::merge(Term::record(1, number(1)), Term::record(2, number(9)));
     comes_to(Term::application(function, argument), number(2), 4);
@@ -120,12 +120,12 @@ fn the_hidden_field() {
 #[test]
 fn a_run_reaches_the_successors_one_by_one() {
     let body = Term::merge(Term::record(1, Term::variable(0)), Term::application(Term::top(), Term::variable(0)));
-    let function = Term::function(Term::read(1, Term::annotation(body, Type::record(1, int()))), int(), int());
+    let function = Term::function(Term::projection(1, Term::annotation(body, Type::record(1, int()))), int(), int());
     let argument = Term::merge(Term::record(4, Term::annotation(number(3), Type::top())), Term::annotation(number(8), int()));
     let root = Term::record(9, Term::application(function, Term::merge(Term::top(), argument)));
     let (mut term, mut steps) = (root.clone(), 0);
     while !term.is_value() {
-        assert_eq!(ran(&lay_term(&root), steps), (Answer::Spent { steps }, lay_term(&term)));
+        assert_eq!(ran(&encode_term(&root), steps), (Answer::Spent { steps }, encode_term(&term)));
         let next = successors(&term);
         assert_eq!(next.len(), 1);
         (term, steps) = (next[0].clone(), steps + 1);
@@ -136,12 +136,12 @@ fn a_run_reaches_the_successors_one_by_one() {
 
 #[test]
 fn the_fixpoint_at_int() {
-    let book = lay_term(&Term::fixpoint(Term::variable(0), int()));
+    let book = encode_term(&Term::fixpoint(Term::variable(0), int()));
     assert_eq!(ran(&book, 0), (Answer::Spent { steps: 0 }, book.clone()));
-    let (answer, laid) = ran(&book, 2_046);
-    assert_eq!((answer, laid.len()), (Answer::Spent { steps: 2_046 }, 4_095 * 8 + 8));
-    assert_eq!(ran(&book, 2_047), (Answer::Room { steps: 2_046 }, laid.clone()));
-    assert_eq!(ran(&book, u32::MAX), (Answer::Room { steps: 2_046 }, laid));
+    let (answer, left) = ran(&book, 2_046);
+    assert_eq!((answer, left.len()), (Answer::Spent { steps: 2_046 }, 4_095 * 8 + 8));
+    assert_eq!(ran(&book, 2_047), (Answer::Room { steps: 2_046 }, left.clone()));
+    assert_eq!(ran(&book, u32::MAX), (Answer::Room { steps: 2_046 }, left));
 }
 
 #[test]
@@ -161,7 +161,7 @@ fn the_top_value_merged_with_itself_by_sharing() {
 fn records_round_a_number() {
     on_large_stack(|| {
         let nested = |n: u16| (0..n).fold(number(5), |content, i| Term::record(i as u8, content));
-        assert_eq!(checked(&lay_term(&nested(4_094))), Answer::Accepted { size: 4_095 });
+        assert_eq!(checked(&encode_term(&nested(4_094))), Answer::Accepted { size: 4_095 });
         comes_to(nested(4_094), nested(4_094), 0);
     });
 }
@@ -170,15 +170,15 @@ fn records_round_a_number() {
 fn the_desk_example() {
     let cells = [[1, 0, 0, 0, 0], [17, 0, 0, 1, 0], [17, 0, 0, 5, 0], [24, 7, 2, 0, 0], [22, 0, 1, 3, 0], [19, 0, 4, 0, 0]];
     assert_eq!(desk(&book(&cells, 5)), "accepted 1\nvalue 1\n0 17 0 0 1 0\n");
-    assert_eq!(desk(&lay_term(&Term::merge(number(1), number(2)))), "refused 14 2\n");
+    assert_eq!(desk(&encode_term(&Term::merge(number(1), number(2)))), "refused 14 2\n");
     assert_eq!(desk(&[]), "refused 2 0\n");
     assert_eq!(desk(&vec![0; 40_000]), "refused 2 0\n");
-    assert_eq!(desk(&lay_term(&number(-2))), "accepted 1\nvalue 0\n0 17 0 0 65534 65535\n");
+    assert_eq!(desk(&encode_term(&number(-2))), "accepted 1\nvalue 0\n0 17 0 0 65534 65535\n");
 }
 
 #[test]
 fn refusal_1_touches_nothing() {
-    let book = lay_term(&number(1));
+    let book = encode_term(&number(1));
     for length in [0, 65_535, 65_537] {
         let mut work = vec![9; length];
         assert_eq!(check(&book, &mut work), refused(1, 0));
@@ -189,7 +189,7 @@ fn refusal_1_touches_nothing() {
 
 #[test]
 fn refusals_of_length_and_trailer() {
-    let good = lay_term(&number(1));
+    let good = encode_term(&number(1));
     assert_eq!(checked(&good), Answer::Accepted { size: 1 });
     for length in [0, 8, 15, 17, 23] {
         let mut bytes = good.clone();
@@ -226,9 +226,19 @@ fn refusals_of_cells() {
     assert_eq!(checked(&book(&[number, int], 1)), refused(9, 1));
 }
 
+/// Document 01: types are the kinds 1 to 5, terms 16 to 25; "Kinds 21 and 23 bind one variable in a."
+#[test]
+fn the_table_has_the_kinds_of_document_01() {
+    assert_eq!(TABLE.iter().map(|row| row.kind).collect::<Vec<_>>(), (1..=5).chain(16..=25).collect::<Vec<_>>());
+    for (row, kind) in TABLE.iter().zip((1..=5).chain(16..)) {
+        assert_eq!((evaluator::row(kind), row.sort == Sort::Type), (Some(row), kind <= 5));
+        assert_eq!(row.binders, u32::from([21, 23].contains(&kind)), "{}", row.meaning);
+    }
+}
+
 #[test]
 fn refusals_of_typing() {
-    let at = |term: Term| checked(&lay_term(&term));
+    let at = |term: Term| checked(&encode_term(&term));
     assert_eq!(at(Term::variable(0)), refused(11, 0));
     assert_eq!(at(Term::function(Term::variable(1), int(), int())), refused(11, 0));
     // 12 before the right side is walked.
@@ -236,9 +246,9 @@ fn refusals_of_typing() {
     // 12 and 13 know exactly Top.
     let tops = Term::merge(Term::top(), Term::top());
     assert_eq!(at(Term::application(tops.clone(), number(1))), refused(12, 4));
-    assert_eq!(at(Term::read(1, tops)), refused(13, 3));
-    assert_eq!(at(Term::read(2, Term::record(1, Term::top()))), refused(13, 2));
-    comes_to(Term::read(2, Term::top()), Term::top(), 1);
+    assert_eq!(at(Term::projection(1, tops)), refused(13, 3));
+    assert_eq!(at(Term::projection(2, Term::record(1, Term::top()))), refused(13, 2));
+    comes_to(Term::projection(2, Term::top()), Term::top(), 1);
     // 15 names the checked term.
     assert_eq!(at(Term::annotation(number(1), Type::record(1, int()))), refused(15, 0));
     assert_eq!(at(Term::function(Term::top(), int(), int())), refused(15, 0));
@@ -249,7 +259,7 @@ fn refusals_of_typing() {
 }
 
 #[test]
-fn under_a_top_like_intersection_both_readings_are_merged() {
+fn under_a_top_like_intersection_both_casts_are_merged() {
     let tops = Type::intersection(Type::top(), Type::top());
     comes_to(Term::annotation(number(1), tops), Term::merge(Term::top(), Term::top()), 1);
 }
@@ -275,8 +285,8 @@ fn an_untyped_merge_has_two_successors() {
 
 #[test]
 fn only_the_successors_size_decides_room() {
-    // The argument's reading has more than 4,095 cells, for it repeats a large body nine times; the function does not use it.
-    let large = (0..1_000).fold(Term::variable(0), |content, i| Term::read(i as u8, content));
+    // The argument's cast has more than 4,095 cells, for it repeats a large body nine times; the function does not use it.
+    let large = (0..1_000).fold(Term::variable(0), |content, i| Term::projection(i as u8, content));
     let argument = Term::function(large, Type::top(), Type::top());
     let argument = Term::function(Term::application(argument, Term::top()), int(), Type::top());
     let argument = Term::function(Term::merge(number(7), argument), int(), int());
@@ -284,5 +294,5 @@ fn only_the_successors_size_decides_room() {
     let used = Term::function(Term::variable(0), input.clone(), input.clone());
     let ignored = Term::function(number(7), input, int());
     comes_to(Term::application(ignored, argument.clone()), number(7), 2);
-    assert_eq!(ran(&lay_term(&Term::application(used, argument)), 5).0, Answer::Room { steps: 0 });
+    assert_eq!(ran(&encode_term(&Term::application(used, argument)), 5).0, Answer::Room { steps: 0 });
 }

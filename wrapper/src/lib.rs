@@ -20,15 +20,15 @@
 //! ];
 //! let mut work = [0; WORK];
 //!
-//! // Its type is the intersection of Int and Int, now laid down in the work buffer: three cells and a trailer.
+//! // Its type is the intersection of Int and Int, encoded in the work buffer: three cells and a trailer.
 //! assert_eq!(check(&book, &mut work), Answer::Accepted { size: 3 });
 //! assert_eq!(work[..8], [1, 0, 0, 0, 0, 0, 0, 0]);
 //!
-//! // It is a value already. The term is laid down with sharing opened.
+//! // It is a value already. The term is encoded with nothing shared.
 //! assert_eq!(run(&book, &mut work, 100), Answer::Value { steps: 0 });
 //! assert_eq!(work[8..16], [17, 0, 0, 0, 1, 0, 0, 0]);
 //!
-//! // A book cut short is turned back, and the work buffer is zero.
+//! // A book cut short is refused, and the work buffer is zero.
 //! assert_eq!(check(&book[..16], &mut work), Answer::Refused { number: 3, cell: 0 });
 //! assert!(work.iter().all(|&byte| byte == 0));
 //! ```
@@ -57,29 +57,29 @@ const SECOND_PLACE: u32 = 40;
 /// What a call says of a book.
 #[derive(Clone, Copy, PartialEq, Eq, Debug)]
 pub enum Answer {
-    /// The book is turned back, with the number and cell that docs/FORMAT.md explains.
+    /// The book is refused, with the number and cell that docs/FORMAT.md explains.
     Refused {
         /// 1 to 31, of which 1 to 15 are in use.
         number: u8,
         /// The cell that is meant; 0 for the numbers 1 to 4.
         cell: u32,
     },
-    /// A check accepted the book and laid its type down.
+    /// A check accepted the book and encoded its type.
     Accepted {
         /// The type's count of cells.
         size: u32,
     },
-    /// A run came to a value and laid it down.
+    /// A run came to a value and encoded it.
     Value {
         /// The steps taken.
         steps: u32,
     },
-    /// A run took as many steps as its limit allows and laid down the term reached.
+    /// A run took as many steps as its limit allows and encoded the term reached.
     Spent {
         /// The steps taken.
         steps: u32,
     },
-    /// A run stopped where the next term has more than 4,095 cells, and laid down the term reached.
+    /// A run stopped where the next term has more than 4,095 cells, and encoded the term reached.
     Room {
         /// The steps taken.
         steps: u32,
@@ -115,7 +115,7 @@ extern "C" {
     fn cerealbank_run(book: *const u8, book_len: usize, work: *mut u8, work_len: usize, limit: u32) -> u64;
 }
 
-/// Checks a book: [`Answer::Accepted`] with its type laid down as a book of its own at the start of the work buffer and zeros past
+/// Checks a book: [`Answer::Accepted`] with its type encoded as a book of its own at the start of the work buffer and zeros past
 /// it, or [`Answer::Refused`] with a zeroed work buffer. Refusal 1, of a work buffer that is not [`WORK`] bytes long, touches
 /// nothing.
 pub fn check(book: &[u8], work: &mut [u8]) -> Answer {
@@ -123,7 +123,7 @@ pub fn check(book: &[u8], work: &mut [u8]) -> Answer {
     Answer::unpacked(unsafe { cerealbank_check(book.as_ptr(), book.len(), work.as_mut_ptr(), work.len()) })
 }
 
-/// Runs a book for at most `limit` steps: [`Answer::Value`], [`Answer::Spent`] or [`Answer::Room`] with the term reached laid down
+/// Runs a book for at most `limit` steps: [`Answer::Value`], [`Answer::Spent`] or [`Answer::Room`] with the term reached encoded
 /// as a book of its own at the start of the work buffer and zeros past it, or refused as a check refuses it.
 pub fn run(book: &[u8], work: &mut [u8], limit: u32) -> Answer {
     // SAFETY: as in `check`.

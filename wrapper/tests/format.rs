@@ -4,6 +4,7 @@
 #![cfg(not(library_missing))]
 
 use cerealbank::{check, run, Answer, WORK};
+use evaluator::{Cell, Field, Row, Sort, CELL, TABLE, TRAILER};
 use std::collections::BTreeSet;
 use std::fs;
 use std::path::{Path, PathBuf};
@@ -83,7 +84,7 @@ fn asked(call: impl FnOnce(&mut [u8]) -> Answer) -> (Answer, Vec<u8>) {
 }
 
 /// These bytes, and zeros.
-fn laid(bytes: &[u8]) -> Vec<u8> {
+fn padded(bytes: &[u8]) -> Vec<u8> {
     let mut work = bytes.to_vec();
     work.resize(WORK, 0);
     work
@@ -108,8 +109,8 @@ fn every_refused_book_is_refused_as_its_section_says() {
         assert_eq!((number, &Vec::new()), (*shown, left));
         let file = format!("books/refusals/{number:02}.book");
         assert_eq!(book, &fs::read(at(&file)).expect("the book's file"), "{file}");
-        assert_eq!(asked(|work| check(book, work)), (*answer, laid(&[])), "{file}, checked");
-        assert_eq!(asked(|work| run(book, work, LIMIT)), (*answer, laid(&[])), "{file}, run");
+        assert_eq!(asked(|work| check(book, work)), (*answer, padded(&[])), "{file}, checked");
+        assert_eq!(asked(|work| run(book, work, LIMIT)), (*answer, padded(&[])), "{file}, run");
     }
 }
 
@@ -140,10 +141,10 @@ fn bytes(expression: &str, definitions: &str) -> Vec<u8> {
 /// The book of a sample that is checked, and its answer.
 fn checked_sample(sample: &str, definitions: &str) -> (Vec<u8>, Answer) {
     let (_, sample) = sample.rsplit_once("\" ").expect("a name");
-    let (book, said) = sample.split_once(" check (").expect("a check");
+    let (book, shown) = sample.split_once(" check (").expect("a check");
     let book = book.strip_prefix('(').and_then(|book| book.strip_suffix(')')).unwrap_or(book);
-    let said = said.strip_suffix(") []").expect("an answer that lays nothing down");
-    (bytes(book, definitions), answer(said).expect("an answer"))
+    let shown = shown.strip_suffix(") []").expect("an answer that leaves no book");
+    (bytes(book, definitions), answer(shown).expect("an answer"))
 }
 
 #[test]
@@ -183,7 +184,7 @@ fn the_examples_are_answered_as_shown() {
     for Block { book, answers } in examples {
         let checked = asked(|work| check(&book, work));
         let ran = asked(|work| run(&book, work, LIMIT));
-        assert_eq!([checked, ran].map(Some), [0, 1].map(|n| answers.get(n).map(|(answer, left)| (*answer, laid(left)))));
+        assert_eq!([checked, ran].map(Some), [0, 1].map(|n| answers.get(n).map(|(answer, left)| (*answer, padded(left)))));
         assert_eq!(answers.len(), 2);
     }
 }
@@ -200,12 +201,12 @@ fn the_example_is_the_book_that_it_names() {
 
 /// "The first row of 8 bytes that begins with F0 is the trailer": the book up to its end.
 fn cut(work: &[u8]) -> &[u8] {
-    let trailer = work.chunks(8).position(|row| row[0] == 0xF0).expect("a trailer");
-    &work[..8 * (trailer + 1)]
+    let trailer = work.chunks(CELL).position(|row| row[0] == TRAILER).expect("a trailer");
+    &work[..CELL * (trailer + 1)]
 }
 
 #[test]
-fn a_spent_run_goes_on_with_what_was_laid_down() {
+fn a_spent_run_continues_from_the_term_it_left() {
     let book = fs::read(at("books/spent_loop.book")).expect("the book's file");
     let (first, half) = asked(|work| run(&book, work, 5));
     let (second, twice) = asked(|work| run(cut(&half), work, 5));
@@ -221,25 +222,48 @@ fn numbered_rows(text: &str) -> Vec<Vec<String>> {
     rows.filter(|row| row[0].parse::<u8>().is_ok()).collect()
 }
 
-#[test]
-fn the_table_of_kinds_is_that_of_the_definitions() {
+/// FORMAT.md's table of kinds: of each row the meaning, and the rest in the words of the definitions.
+fn kinds() -> Vec<(String, String)> {
     let (before, _) = format();
     let (_, table) = before.split_once("\n### Kinds\n").expect("the kinds");
     let (table, _) = table.split_once("\n### ").expect("their end");
-    let shown = numbered_rows(table).into_iter().map(|row| {
-        let [kind, sort, _, fields @ ..] = &row[..] else { panic!("{row:?}") };
+    let kind = |row: Vec<String>| {
+        let [kind, sort, meaning, fields @ ..] = &row[..] else { panic!("{row:?}") };
         let used = |field: &String| match field.split(':').next() {
             Some("-") => "unused",
             Some("type") => "types",
             Some("term") => "terms",
             _ => "plain",
         };
-        format!("{kind} {sort}-sort {}", fields.iter().map(used).collect::<Vec<_>>().join(" "))
-    });
+        (meaning.clone(), format!("{kind} {sort}-sort {}", fields.iter().map(used).collect::<Vec<_>>().join(" ")))
+    };
+    numbered_rows(table).into_iter().map(kind).collect()
+}
+
+#[test]
+fn the_table_of_kinds_is_that_of_the_definitions() {
     let defined = text("crates/format/specs/Table.antt");
     let defined = defined.lines().filter_map(|line| line.trim().trim_start_matches("∷ ").strip_prefix("row "));
     let defined: Vec<&str> = defined.filter(|row| row.starts_with(|c: char| c.is_ascii_digit())).collect();
-    assert_eq!(shown.collect::<Vec<_>>(), defined);
+    assert_eq!(kinds().into_iter().map(|(_, row)| row).collect::<Vec<_>>(), defined);
+}
+
+#[test]
+fn the_table_of_kinds_is_that_of_the_evaluator() {
+    let used = |field: Field| match field {
+        Field::Unnamed => "unused",
+        Field::Plain => "plain",
+        Field::Reference(Sort::Type) => "types",
+        Field::Reference(Sort::Term) => "terms",
+    };
+    let shown = kinds();
+    assert_eq!(shown.len(), TABLE.len());
+    for ((meaning, shown), Row { kind, meaning: word, sort, labelled, fields, .. }) in shown.iter().zip(TABLE) {
+        let sort = if *sort == Sort::Type { "type" } else { "term" };
+        let label = if *labelled { "plain" } else { "unused" };
+        assert_eq!(shown, &format!("{kind} {sort}-sort {label} {}", fields.map(used).join(" ")));
+        assert!(meaning.contains(word), "{kind}: {meaning}");
+    }
 }
 
 /// The parts of a line that stand in backquotes.
@@ -247,30 +271,30 @@ fn quoted(line: &str) -> Vec<&str> {
     line.split('`').skip(1).step_by(2).collect()
 }
 
-/// The term laid down is "the number N", or has "N cells"; or, for "-", there is none.
-fn is_reached(said: &str, work: &[u8]) -> bool {
-    let trailer = |cells: u16| [&[0xF0, 1], &cells.to_le_bytes()[..], &(cells - 1).to_le_bytes(), &[0, 0]].concat();
-    if let Some(value) = said.strip_prefix("the number ") {
-        let cell = [[17, 0, 0, 0], number::<i32>(value).to_le_bytes()].concat();
-        return work == laid(&[cell, trailer(1)].concat());
+/// The term left is "the number N", or has "N cells"; or, for "-", there is none.
+fn is_reached(shown: &str, work: &[u8]) -> bool {
+    let trailer = |cells: u16| Cell::trailer(cells, cells - 1).bytes();
+    if let Some(value) = shown.strip_prefix("the number ") {
+        let cell = Cell::number(number(value)).bytes();
+        return work == padded(&[cell, trailer(1)].concat());
     }
-    if let Some(cells) = said.strip_suffix(" cells") {
-        let past = 8 * number::<usize>(cells);
-        return work == laid(&[&work[..past], &trailer(number(cells))].concat());
+    if let Some(cells) = shown.strip_suffix(" cells") {
+        let past = CELL * number::<usize>(cells);
+        return work == padded(&[&work[..past], &trailer(number(cells))].concat());
     }
-    assert_eq!(said, "-");
-    work == laid(&[])
+    assert_eq!(shown, "-");
+    work == padded(&[])
 }
 
 #[test]
 fn every_sample_book_is_answered_as_its_table_says() {
     let mut named = BTreeSet::new();
     for line in text("books/README.md").lines().filter(|line| line.starts_with("| `")) {
-        let [name, .., said] = quoted(line)[..] else { panic!("{line}") };
+        let [name, .., shown] = quoted(line)[..] else { panic!("{line}") };
         let reached = line.trim_end_matches(" |").rsplit(" | ").next().expect("a column");
         let book = fs::read(at("books").join(name)).expect("the book's file");
         let (got, work) = asked(|work| run(&book, work, DESK_LIMIT));
-        assert_eq!(Some(got), answer(said), "{name}");
+        assert_eq!(Some(got), answer(shown), "{name}");
         assert!(is_reached(reached, &work), "{name} does not reach {reached}");
         named.insert(name.to_string());
     }

@@ -20,10 +20,11 @@ use Rattle.calculus.proofs.Inference.{infer-says}
 use Rattle.format.specs.Cell.{IsBytes}
 use Rattle.format.specs.Book.{sizeLimit, Finding, formFinding, WellFormed, rootOf, follow, opened, termBook}
 use Rattle.format.proofs.Tests.{formFinding-says, opened-fits, opened-small}
-use Rattle.format.proofs.RoundTrip.{term-laid, TermLaid}
+use Rattle.format.specs.RoundTrip.{TermLaid}
+use Rattle.format.proofs.RoundTrip.{term-laid}
 use Rattle.answers.specs.Answer.{faultNumber, reasonNumber, Stop, refused, accepted, stopped, stepsOf, Result, result}
 use Rattle.answers.specs.Engine.{Engine, workLength, IsWork, IsLimit, zeros}
-use Rattle.answers.specs.Definition.{definition, check, run, judge, afterForm, afterTyping, turnedBack, shown, told, evaluate, reported}
+use Rattle.answers.specs.Definition.{definition, check, run, judge, afterForm, afterTyping, turnedBack, shown, told, ending, reported}
 use Rattle.answers.specs.Demands.{Accepts, Runs, Agree, Demand2, Demand3For, Demand3}
 use Rattle.answers.proofs.AllSamples.{in-work}
 use Rattle.answers.proofs.Fits.{reaches-fits}
@@ -133,16 +134,15 @@ first-small b bytes t n f h r-zero = opened-small b bytes t
 first-small b bytes t n f h (r-suc q s) = absurd (omega arith)
 
 -- the executable run from the root
-pub root-ran : (b : List ℕ) (l : ℕ) {A : Ty} → IsBytes b → WellFormed b → Typed [] (opened b) A →
-    Ran (opened b) l (evaluate sizeLimit l 0 (opened b))
+pub root-ran : (b : List ℕ) (l : ℕ) {A : Ty} → IsBytes b → WellFormed b → Typed [] (opened b) A → Ran (opened b) l (ending b l)
 root-ran b l bytes f t =
-    subst (λ (n : ℕ). Ran (opened b) n (evaluate sizeLimit l 0 (opened b))) (zero-add l) (ran t l 0 (opened b) r-zero (first-small b bytes f))
+    subst (λ (n : ℕ). Ran (opened b) n (ending b l)) (zero-add l) (ran t l 0 (opened b) r-zero (first-small b bytes f))
 
 pub definition-runs : (b w : List ℕ) (l : ℕ) → IsBytes b → IsWork w → Accepts definition b → Runs (opened b) l (run b w l)
 unfolding run told
 definition-runs b w l bytes k a =
     let t = accepts-typed b a (judged b) in
-    let r : Ran (opened b) l (evaluate sizeLimit l 0 (opened b)) = root-ran b l bytes (t .0) (t .1 .1) in
+    let r : Ran (opened b) l (ending b l) = root-ran b l bytes (t .0) (t .1 .1) in
     record {
       stop = _;
       steps = _;

@@ -1,5 +1,4 @@
--- Impostors, as engines: which of demands 2 and 3 each breaks, at a witness book, and which it obeys. Document 01, "To the testers".
--- Assumes nothing.
+-- Which of demands 2 and 3 each impostor breaks, at a witness book, and which it obeys. Assumes nothing.
 use Prim.Native.Nat.{ℕ, zero, suc, _≤_, min}
 use mathlib.Core.Path.{_≡_, refl, sym, _∙_, ap, subst, subst⁻¹}
 use mathlib.Core.Bool.{Bool, true, false, _&&_, and-eq-true-iff}
@@ -25,18 +24,16 @@ use Rattle.format.specs.Book.{sizeLimit, formFinding, WellFormed, opened, termB
 use Rattle.format.proofs.Tests.{formFinding-says}
 use Rattle.answers.specs.Answer.{Stop, value, spent, room, accepted, stopped, stepsOf, Result, result}
 use Rattle.answers.specs.Engine.{Engine, workLength, IsWork, IsLimit, zeros, laid}
-use Rattle.answers.specs.Definition.{definition, check, run, judge, turnedBack, told, Ended, evaluate}
+use Rattle.answers.specs.Definition.{definition, run, turnedBack, told, Ended, ending}
 use Rattle.answers.specs.Demands.{Accepts, Runs, Demand2, Demand3For, Demand3}
+use Rattle.answers.specs.Impostors.{posing, atMostOne, hurried, early, figured, inventedSteps, repeating, repeatsFirst, handsBack, fixedReply}
+use Rattle.answers.specs.Impostors.{RefusesAll, oneRefusal, Impostors}
 use Rattle.answers.specs.Samples.{line, equalNumbers, unequalNumbers, twiceRead}
 use Rattle.answers.proofs.Reaching.{onward}
 use Rattle.answers.proofs.Running.{Ran, evaluate-value, evaluate-spent}
 use Rattle.answers.proofs.Agreement.{told-alike, lesser-steps, same-result}
 use Rattle.answers.proofs.Demands.{outcome, work-at-hand, refused-accepted, typed-accepts, root-ran, demand2, demand3}
 use Rattle.answers.proofs.AllSamples.{computing}
-
--- how the true run of a book ends
-abbrev pub ending : List ℕ → ℕ → Ended
-ending b l = evaluate sizeLimit l 0 (opened b)
 
 -- what `cc` finds in an equation of two constructors
 clash : ¬ (_≡_ {A = ℕ} 0 1)
@@ -45,10 +42,10 @@ clash z = omega arith
 -- ---- the witnesses
 
 -- a book that is accepted, with the type that is shown
-pub record Accepted (b : List ℕ) (A : Ty) : Type 0 where
-  pub bytes : IsBytes b
-  pub formed : WellFormed b
-  pub typed : Typed [] (opened b) A
+record Accepted (b : List ℕ) (A : Ty) : Type 0 where
+  bytes : IsBytes b
+  formed : WellFormed b
+  typed : Typed [] (opened b) A
 
 bytes? : List ℕ → Bool
 bytes? [] = true
@@ -107,7 +104,7 @@ spent? spent = yes refl
 spent? room = no (λ h. clash cc)
 
 -- a run of a typed term has one answer
-pub runs-unique : {e : Term} {A : Ty} {l : ℕ} {r q : Result} → Typed [] e A → Runs e l r → Runs e l q → r ≡ q
+runs-unique : {e : Term} {A : Ty} {l : ℕ} {r q : Result} → Typed [] e A → Runs e l r → Runs e l q → r ≡ q
 runs-unique {e} {l = l} t x y =
     elim (spent? (x .stop)) [
       | no n ↦ same-result only final x y (le-refl l) n
@@ -134,7 +131,7 @@ module _ {b : List ℕ} {A : Ty} (a : Accepted b A) where
   true-accepts = typed-accepts b (a .formed, (A, a .typed))
 
   -- Demand 2 leaves nothing of an accepted book's run open: it is the definitions' run.
-  pub demand2-determines : (E : Engine) → Demand2 E → (w : List ℕ) (l : ℕ) → IsWork w → IsLimit l → E .run b w l ≡ run b w l
+  demand2-determines : (E : Engine) → Demand2 E → (w : List ℕ) (l : ℕ) → IsWork w → IsLimit l → E .run b w l ≡ run b w l
   demand2-determines E d w l k h =
       let e : Accepts E b = d b (a .bytes) .accepts .1 (a .formed, (A, a .typed)) in
       runs-unique (a .typed) (d b (a .bytes) .runs e w l k h) (demand2 b (a .bytes) .runs true-accepts w l k h)
@@ -156,12 +153,8 @@ module _ {b : List ℕ} {A : Ty} (a : Accepted b A) where
             absurd (value-no-step (v .1) (subst (λ (e : Term). Step e (o .1)) (true-term l (o .2)) (o .3)))
       ]
 
--- ---- engines that check and turn back truly, and answer g to the run of an accepted book
+-- ---- engines that check and turn back truly; the definitions are such an engine
 
-unfoldable pub posing : (List ℕ → ℕ → Result) → Engine
-posing g = record { check = check; run = λ b w l. judge b w (λ A. g b l) }
-
--- the definitions are such an engine
 posing-true : posing (λ b l. told (ending b l)) ≡ definition
 unfolding posing run
 posing-true = refl
@@ -202,37 +195,12 @@ module _ (g : List ℕ → ℕ → Result) {b : List ℕ} {A : Ty} (a : Accepted
       let r : Reaches (ending b m .steps) (opened b) (x .2) = rw n at (x .3) in
       ap (λ (r : Result). r .left) (x .4) ∙ ap (λ (f : Term). laid (termBook f)) (true-term a m r)
 
--- ---- 1 and 2: `room` or `spent` early
+-- ---- `room` or `spent` early
 
-unfoldable pub atMostOne : ℕ → ℕ
-atMostOne zero = 0
-atMostOne (suc n) = 1
-
--- where a step has been taken, s is the reason to stop
-unfoldable pub hurried : Stop → Ended → Ended
-hurried s r = record { stop = elim (r .steps) [ zero ↦ r .stop | suc n ↦ s ]; steps = r .steps; term = r .term }
-
--- "at one step wherever the book has one with room and the limit allows it"
-unfoldable pub early : Stop → Engine
-early s = posing (λ b l. told (hurried s (ending b (atMostOne l))))
-
-abbrev pub earlyRoom : Engine
-earlyRoom = early room
-
-abbrev pub earlySpent : Engine
-earlySpent = early spent
-
+-- 1 annotated with Int is a value after one step: neither room nor steps were wanting
 early-breaks-2 : (s : Stop) → s ≢ value → ¬ Demand2 (early s)
 unfolding early atMostOne hurried computing annotated
 early-breaks-2 s n d = let p : stopped s 1 ≡ stopped value 1 = posing-2 _ annotated-accepted d 1 (lit< tt) in n (cc p)
-
--- 1 annotated with Int is a value after one step, and no room was wanting
-pub early-room-breaks-2 : ¬ Demand2 earlyRoom
-early-room-breaks-2 = early-breaks-2 room (λ h. clash cc)
-
--- nor steps
-pub early-spent-breaks-2 : ¬ Demand2 earlySpent
-early-spent-breaks-2 = early-breaks-2 spent (λ h. clash cc)
 
 module _ (s : Stop) {b : List ℕ} {A : Ty} (a : Accepted b A) where
   -- the true run behind it
@@ -261,7 +229,7 @@ module _ (s : Stop) {b : List ℕ} {A : Ty} (a : Accepted b A) where
   early-same (suc l) (suc m) h n = refl
 
 -- whatever reason it gives early, it obeys demand 3
-pub early-obeys-3 : (s : Stop) → Demand3 (early s)
+early-obeys-3 : (s : Stop) → Demand3 (early s)
 unfolding early posing told hurried
 early-obeys-3 s b bytes x =
     let y : Accepts definition b = record { work = x .work; is-work = x .is-work; size = x .size; answers = x .answers } in
@@ -282,22 +250,15 @@ early-obeys-3 s b bytes x =
           };
     }
 
--- ---- 3: invented steps
-
--- the true run, but for its step figure: k makes one from the limit and the steps taken
-unfoldable pub figured : (ℕ → ℕ → ℕ) → ℕ → Ended → Ended
-figured k l r = record { stop = r .stop; steps = k l (r .steps); term = r .term }
-
-unfoldable pub inventedSteps : (ℕ → ℕ → ℕ) → Engine
-inventedSteps k = posing (λ b l. told (figured k l (ending b l)))
+-- ---- invented steps
 
 -- 1 annotated with Int takes one step: any other figure breaks demand 2
-pub invented-steps-break-2 : (k : ℕ → ℕ → ℕ) → k 1 1 ≢ 1 → ¬ Demand2 (inventedSteps k)
+invented-steps-break-2 : (k : ℕ → ℕ → ℕ) → k 1 1 ≢ 1 → ¬ Demand2 (inventedSteps k)
 unfolding inventedSteps figured computing annotated
 invented-steps-break-2 k n d = let p : stopped value (k 1 1) ≡ stopped value 1 = posing-2 _ annotated-accepted d 1 (lit< tt) in n (cc p)
 
 -- and demand 3: after no steps another term is reached, and after more than one none
-pub invented-steps-break-3 : (k : ℕ → ℕ → ℕ) → k 1 1 ≢ 1 → ¬ Demand3 (inventedSteps k)
+invented-steps-break-3 : (k : ℕ → ℕ → ℕ) → k 1 1 ≢ 1 → ¬ Demand3 (inventedSteps k)
 unfolding inventedSteps figured computing annotated
 invented-steps-break-3 k n d =
     let x = posing-3 _ annotated-accepted d 1 (lit< tt) in
@@ -306,52 +267,38 @@ invented-steps-break-3 k n d =
     let p : _≡_ {A = ℕ} 240 1 = ap (λ (s : List ℕ). getD s 8 0) (posing-lays _ annotated-accepted d 1 0 (lit< tt) (omega arith)) in
     absurd (omega arith)
 
--- ---- 4: the first step, and then that term again
-
--- where the limit of one step is spent, it counts on to the whole limit l
-unfoldable pub repeating : ℕ → Ended → Ended
-repeating l r = record { stop = r .stop; steps = elim (r .stop) [ value ↦ r .steps | spent ↦ l | room ↦ r .steps ]; term = r .term }
-
-unfoldable pub repeatsFirst : Engine
-repeatsFirst = posing (λ b l. told (repeating l (ending b (atMostOne l))))
+-- ---- the first step, and then that term again
 
 -- "1 under Int and Int, then Int" is a value after two steps, not spent
-pub repeats-first-breaks-2 : ¬ Demand2 repeatsFirst
+repeats-first-breaks-2 : ¬ Demand2 repeatsFirst
 unfolding repeatsFirst repeating atMostOne computing twiceRead
 repeats-first-breaks-2 d = let p : stopped spent 2 ≡ stopped value 2 = posing-2 _ twice-read-accepted d 2 (lit< tt) in clash (cc p)
 
 -- and after two steps the term is 1, whose book has its trailer where the repeated one has a cell
-pub repeats-first-breaks-3 : ¬ Demand3 repeatsFirst
+repeats-first-breaks-3 : ¬ Demand3 repeatsFirst
 unfolding repeatsFirst repeating atMostOne computing twiceRead
 repeats-first-breaks-3 d =
     let p : _≡_ {A = ℕ} 17 240 = ap (λ (s : List ℕ). getD s 8 0) (posing-lays _ twice-read-accepted d 2 2 (lit< tt) refl) in
     absurd (omega arith)
 
--- ---- 5: the book handed back untouched
-
-unfoldable pub handsBack : Engine
-handsBack = posing (λ b l. result (stopped value 0) (laid b))
+-- ---- the book handed back untouched
 
 -- 1 annotated with Int takes a step
-pub hands-back-breaks-2 : ¬ Demand2 handsBack
+hands-back-breaks-2 : ¬ Demand2 handsBack
 unfolding handsBack computing annotated
 hands-back-breaks-2 d = let p : stopped value 0 ≡ stopped value 1 = posing-2 _ annotated-accepted d 1 (lit< tt) in clash (cc p)
 
 -- a book with a cell that the root does not reach is not the root laid down
-pub hands-back-breaks-3 : ¬ Demand3 handsBack
+hands-back-breaks-3 : ¬ Demand3 handsBack
 unfolding handsBack computing unreached
 hands-back-breaks-3 d =
     let p : _≡_ {A = ℕ} 18 17 = ap (λ (s : List ℕ). getD s 0 0) (posing-lays _ unreached-accepted d 0 0 (lit< tt) refl) in
     absurd (omega arith)
 
--- ---- 6: a fixed reply
-
--- c to every check and r to every run
-unfoldable pub fixedReply : Result → Result → Engine
-fixedReply c r = record { check = λ b w. c; run = λ b w l. r }
+-- ---- a fixed reply
 
 -- two books have types of two sizes: every fixed reply breaks demand 2
-pub fixed-reply-breaks-2 : (c r : Result) → ¬ Demand2 (fixedReply c r)
+fixed-reply-breaks-2 : (c r : Result) → ¬ Demand2 (fixedReply c r)
 unfolding fixedReply size-type
 fixed-reply-breaks-2 c r d =
     let p : accepted 1 ≡ accepted 3 = sym (size-shown annotated-accepted) ∙ size-shown equal-accepted in
@@ -364,33 +311,44 @@ fixed-reply-breaks-2 c r d =
     accepted-size h = cc
 
 -- one that accepts, accepts "1 merged with 2", and breaks demand 3
-pub fixed-reply-breaks-3 : (c r : Result) (n : ℕ) → c .answer ≡ accepted n → ¬ Demand3 (fixedReply c r)
+fixed-reply-breaks-3 : (c r : Result) (n : ℕ) → c .answer ≡ accepted n → ¬ Demand3 (fixedReply c r)
 unfolding fixedReply
 fixed-reply-breaks-3 c r n h d =
     let a : Accepts (fixedReply c r) unequalNumbers = record { work = zeros workLength; is-work = work-at-hand; size = n; answers = h } in
     let t = d unequalNumbers unequal-bytes a .typed 0 (opened unequalNumbers) r-zero in
     unequal-untyped (t .0) (t .2)
 
--- ---- 7: every book turned away
-
--- by whatever refusals
-abbrev pub RefusesAll : Engine → Type 0
-RefusesAll E = (b : List ℕ) → ¬ Accepts E b
+-- ---- every book turned away
 
 -- 1 annotated with Int has a type, and demand 2 has it accepted
-pub refuses-all-breaks-2 : (E : Engine) → RefusesAll E → ¬ Demand2 E
+refuses-all-breaks-2 : (E : Engine) → RefusesAll E → ¬ Demand2 E
 refuses-all-breaks-2 E n d =
     let a = annotated-accepted in
     n annotated (d annotated (a .bytes) .accepts .1 (a .formed, (int, a .typed)))
 
 -- demand 3 speaks of accepted books only
-pub refuses-all-obeys-3 : (E : Engine) → RefusesAll E → Demand3 E
+refuses-all-obeys-3 : (E : Engine) → RefusesAll E → Demand3 E
 refuses-all-obeys-3 E n b bytes a = absurd (n b a)
 
-abbrev pub oneRefusal : ℕ → ℕ → Engine
-oneRefusal n i = fixedReply (turnedBack n i) (turnedBack n i)
-
 -- such is the engine that has one refusal for every book
-pub one-refusal-refuses-all : (n i : ℕ) → RefusesAll (oneRefusal n i)
+one-refusal-refuses-all : (n i : ℕ) → RefusesAll (oneRefusal n i)
 unfolding fixedReply turnedBack
 one-refusal-refuses-all n i b a = refused-accepted n i (a .size) (a .answers)
+
+pub impostors : Impostors
+impostors =
+    record {
+      early-2 = early-breaks-2;
+      early-3 = early-obeys-3;
+      invented-2 = invented-steps-break-2;
+      invented-3 = invented-steps-break-3;
+      repeats-2 = repeats-first-breaks-2;
+      repeats-3 = repeats-first-breaks-3;
+      hands-back-2 = hands-back-breaks-2;
+      fixed-2 = fixed-reply-breaks-2;
+      refuses-2 = refuses-all-breaks-2;
+      one-refusal = one-refusal-refuses-all;
+      hands-back-3 = hands-back-breaks-3;
+      fixed-3 = fixed-reply-breaks-3;
+      refuses-3 = refuses-all-obeys-3;
+    }

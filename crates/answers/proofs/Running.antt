@@ -10,11 +10,12 @@ use native.Mathlib.Omega.{arith}
 use lib.Dec.{T, ltb, ltb→lt, nltb→le}
 use Rattle.calculus.specs.Syntax.{Ty, Term, size, IsValue}
 use Rattle.calculus.specs.Typing.{Typed}
-use Rattle.calculus.specs.Step.{Step, Reaches, r-suc}
+use Rattle.calculus.specs.Step.{Step, Reaches, r-suc, Ends}
+use Rattle.calculus.specs.Soundness.{Reached}
 use Rattle.calculus.specs.Decide.{value?}
 use Rattle.calculus.specs.Evaluate.{next}
 use Rattle.calculus.proofs.Bools.{T-true, T-false}
-use Rattle.calculus.proofs.Chain.{sound, Reached, Ends}
+use Rattle.calculus.proofs.Chain.{sound}
 use Rattle.calculus.proofs.Tests.{value?-says}
 use Rattle.calculus.proofs.Evaluation.{next-says}
 use Rattle.format.specs.Book.{sizeLimit}

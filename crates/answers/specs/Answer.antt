@@ -28,6 +28,7 @@ reasonNumber mismatch = 15
 pub data Stop : Type 0 where
   value spent room : Stop
 
+-- What a check or a run answers.
 pub data Answer : Type 0 where
   -- "Answer: number and cell (0 for 1 to 4)"
   refused : ℕ → ℕ → Answer
@@ -47,5 +48,6 @@ pub record Result : Type 0 where
   pub answer : Answer
   pub left : List ℕ
 
+-- The answer a, with the bytes w left.
 abbrev pub result : Answer → List ℕ → Result
 result a w = record { answer = a; left = w }

@@ -24,6 +24,7 @@ unfoldable pub afterTyping : List ℕ → (Ty → Result) → Found → Result
 afterTyping b g (found A) = g A
 afterTyping b g (Infer.refused r p) = turnedBack (reasonNumber r) (follow b (rootOf b) p)
 
+-- What rows 2 to 10 say of a book, and past them typing.
 unfoldable pub afterForm : List ℕ → (Ty → Result) → Option Finding → Result
 afterForm b g none = afterTyping b g (infer [] (opened b))
 afterForm b g (some f) = turnedBack (faultNumber (f .fault)) (f .cell)
@@ -42,6 +43,7 @@ pub record Ended : Type 0 where
   pub steps : ℕ
   pub term : Term
 
+-- Stopped for s after n steps, at the term e.
 abbrev pub ended : Stop → ℕ → Term → Ended
 ended s n e = record { stop = s; steps = n; term = e }
 
@@ -67,13 +69,19 @@ evaluate l (suc m) n e =
 unfoldable pub told : Ended → Result
 told r = result (stopped (r .stop) (r .steps)) (laid (termBook (r .term)))
 
+-- How the run of a book with the limit l ends.
+abbrev pub ending : List ℕ → ℕ → Ended
+ending b l = evaluate sizeLimit l 0 (opened b)
+
 -- A run answers the same whatever type is found.
 abbrev pub reported : List ℕ → ℕ → Ty → Result
-reported b l A = told (evaluate sizeLimit l 0 (opened b))
+reported b l A = told (ending b l)
 
+-- "A library checks a book .. and shows its type."
 unfoldable pub check : List ℕ → List ℕ → Result
 check b w = judge b w shown
 
+-- It "runs it for at most a given number of steps".
 unfoldable pub run : List ℕ → List ℕ → ℕ → Result
 run b w l = judge b w (reported b l)
 

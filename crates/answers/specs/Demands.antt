@@ -1,12 +1,12 @@
 -- Demands 2 and 3, of any engine E: written with the relations of the calculus and the format of a book. Assumes nothing.
 use Prim.Native.Nat.{ℕ, _≤_, _<_, min}
 use mathlib.Core.Path.{_≡_}
-use mathlib.Core.Logic.{_↔_, _⊎_, _≢_}
+use mathlib.Core.Logic.{_↔_, _≢_}
 use mathlib.Core.List.{List, []}
 use Rattle.calculus.specs.Syntax.{Ty, size-type, Term, size, IsValue}
 use Rattle.calculus.specs.Subtyping.{Below}
 use Rattle.calculus.specs.Typing.{Typed}
-use Rattle.calculus.specs.Step.{Step, Reaches}
+use Rattle.calculus.specs.Step.{Step, Reaches, Ends}
 use Rattle.format.specs.Cell.{IsBytes}
 use Rattle.format.specs.Book.{sizeLimit, WellFormed, opened, typeBook, termBook}
 use Rattle.answers.specs.Answer.{Stop, value, spent, room, accepted, stopped, stepsOf, Result, result}
@@ -49,12 +49,9 @@ pub record Demand2For (E : Engine) (b : List ℕ) : Type 0 where
   -- A book that is not accepted is not run: it is turned back as the check turns it back.
   pub turns-back : ¬ Accepts E b → (w : List ℕ) (limit : ℕ) → IsLimit limit → E .run b w limit ≡ E .check b w
 
+-- Demand 2, of every book.
 abbrev pub Demand2 : Engine → Type 0
 Demand2 E = (b : List ℕ) → IsBytes b → Demand2For E b
-
--- The term is a value and has no successor, or is no value and has exactly one.
-abbrev pub EndsOrSteps : Term → Type 0
-EndsOrSteps f = (IsValue f × ((g : Term) → ¬ Step f g)) ⊎ ((¬ IsValue f) × ((g : Term) × Step f g × ((h : Term) → Step f h → h ≡ g)))
 
 -- "two laptops running that book agree": one answered x under its limit, the other y under its own.
 pub record Agree (limit other : ℕ) (x y : Result) : Type 0 where
@@ -68,7 +65,7 @@ pub record Demand3For (E : Engine) (b : List ℕ) : Type 0 where
   -- every term it reaches after any number of steps, with room for it or without, is the only one reached after that many;
   pub only : (n : ℕ) (f g : Term) → Reaches n (opened b) f → Reaches n (opened b) g → f ≡ g
   -- it is a value and has no successor under the calculus, or is no value and has exactly one;
-  pub ends : (n : ℕ) (f : Term) → Reaches n (opened b) f → EndsOrSteps f
+  pub ends : (n : ℕ) (f : Term) → Reaches n (opened b) f → Ends f
   -- it has a type below the first;
   pub typed : (n : ℕ) (f : Term) → Reaches n (opened b) f → (A : Ty) × (B : Ty) × Typed [] (opened b) A × Typed [] f B × Below B A
   -- and if its size is within the limit, it is, laid down, an accepted book itself" (by every check with 65,536 bytes).
@@ -81,5 +78,6 @@ pub record Demand3For (E : Engine) (b : List ℕ) : Type 0 where
   pub agree : (w v : List ℕ) (limit other : ℕ) → IsWork w → IsWork v → IsLimit limit → IsLimit other →
       Agree limit other (E .run b w limit) (E .run b v other)
 
+-- Demand 3, of every accepted book.
 abbrev pub Demand3 : Engine → Type 0
 Demand3 E = (b : List ℕ) → IsBytes b → Accepts E b → Demand3For E b

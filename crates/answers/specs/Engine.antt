@@ -5,6 +5,7 @@ use mathlib.Core.List.{List, _++_}
 use lib.ListN.{length, replicate}
 use Rattle.answers.specs.Answer.{Result}
 
+-- The two public calls, as functions of the bytes lent to them and of the limit.
 pub record Engine : Type 0 where
   pub check : (book work : List ℕ) → Result
   pub run : (book work : List ℕ) (limit : ℕ) → Result
@@ -13,6 +14,7 @@ pub record Engine : Type 0 where
 abbrev pub workLength : ℕ
 workLength = 65536
 
+-- A work buffer that row 1 does not meet.
 abbrev pub IsWork : List ℕ → Type 0
 IsWork w = length w ≡ workLength
 
@@ -20,6 +22,7 @@ IsWork w = length w ≡ workLength
 abbrev pub IsLimit : ℕ → Type 0
 IsLimit n = n < 2 ^ 32
 
+-- n bytes of zero.
 unfoldable pub zeros : ℕ → List ℕ
 zeros n = replicate n 0
 

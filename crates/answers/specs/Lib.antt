@@ -2,4 +2,5 @@ pub mod Answer
 pub mod Engine
 pub mod Definition
 pub mod Demands
+pub mod Impostors
 pub mod Samples

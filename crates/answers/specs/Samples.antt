@@ -7,6 +7,7 @@ use mathlib.Core.List.{List, [], _∷_, _++_}
 use Rattle.answers.specs.Answer.{value, spent, Answer, refused, accepted, stopped, Result, result}
 use Rattle.answers.specs.Engine.{Engine, IsWork, laid}
 
+-- A check, or a run with its limit.
 pub data Call : Type 0 where
   check : Call
   run : ℕ → Call
@@ -19,23 +20,22 @@ pub record Sample : Type 0 where
   pub answer : Answer
   pub lays : List ℕ
 
+-- A sample on one line.
 abbrev sample : String → List ℕ → Call → Answer → List ℕ → Sample
 sample n b c a l = record { name = n; book = b; call = c; answer = a; lays = l }
 
+-- What an engine answers to a call.
 abbrev pub called : Engine → Call → List ℕ → List ℕ → Result
 called E check b w = E .check b w
 called E (run l) b w = E .run b w l
 
+-- The whole answer and every byte left: "bytes past the laid-down book are zero".
 abbrev pub expected : Sample → Result
 expected s = result (s .answer) (laid (s .lays))
 
 -- The engine answers as expected, with any work buffer of 65,536 bytes.
 abbrev pub Holds : Engine → Sample → Type 0
 Holds E s = (w : List ℕ) → IsWork w → called E (s .call) (s .book) w ≡ expected s
-
-abbrev pub Every : (Sample → Type 0) → List Sample → Type 0
-Every P [] = Unit {0}
-Every P (s ∷ ss) = P s × Every P ss
 
 -- The eight bytes of a cell or of the trailer.
 abbrev pub line : (k l a₀ a₁ b₀ b₁ c₀ c₁ : ℕ) → List ℕ

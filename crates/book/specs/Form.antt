@@ -21,10 +21,11 @@ use Rattle.book.specs.declared.Check.the-variants.{Clear, Bad}
 use Rattle.book.specs.declared.Form.{Form}
 use Rattle.book.specs.declared.Form.the-variants.{Malformed, WellFormed}
 
--- 3 and 4, asked of the trailer alone
+-- 3, asked of the trailer alone
 abbrev pub markOk : List ℕ → Bool
 markOk t = eqb (byte t 0) 0xf0 && eqb (byte t 1) 1 && eqb (pair t 6) 0
 
+-- 4, asked of the trailer and the count of cells before it
 abbrev pub countedOk : List ℕ → ℕ → Bool
 countedOk t n = eqb (pair t 2) n && ltb (pair t 4) n
 
@@ -47,6 +48,7 @@ abbrev pub ChecksAs : Check → Option Finding → Type 0
 ChecksAs r none = r ≡ Clear
 ChecksAs r (some f) = (q : Refusal) × (r ≡ Bad q) × (refusalAnswer q ≡ refused (faultNumber (f .fault)) (f .cell))
 
+-- a fault of cell i, as a finding that names it
 abbrev pub atCell : Option Fault → ℕ → Option Finding
 atCell none i = none
 atCell (some f) i = some (record { fault = f; cell = i })
@@ -81,9 +83,11 @@ rootFault false above = some bad-root
 rootFault true true = some bad-size
 rootFault true false = none
 
+-- rows 9 and 10 of the root i
 pub record RootCheck (s : List ℕ) (i : ℕ) (r : Check) : Type 0 where
   pub says : ChecksAs r (atCell (rootFault (hasSort s term-sort i) (ltb sizeLimit (cells (treeAt s i)))) i)
 
+-- No finding: the book is well-formed, with its root. Else a refusal of the same number and cell.
 abbrev pub FormsAs : List ℕ → Form → Option Finding → Type 0
 FormsAs s r none = r ≡ WellFormed (rootOf s)
 FormsAs s r (some f) = (q : Refusal) × (r ≡ Malformed q) × (refusalAnswer q ≡ refused (faultNumber (f .fault)) (f .cell))

@@ -3,8 +3,8 @@
 use Prim.Native.Nat.{ℕ}
 use mathlib.Core.Path.{_≡_, refl}
 use mathlib.Core.Logic.{_≢_, _⊎_, inl, inr}
-use mathlib.Core.Bool.{true, false}
-use mathlib.Core.Option.{some}
+use mathlib.Core.Bool.{true, false, decide}
+use mathlib.Core.Option.{some, orElse}
 use mathlib.Core.List.{[], _∷_, map}
 use lib.IntN.{pos}
 use native.Mathlib.Omega.{arith}
@@ -20,10 +20,10 @@ use Rattle.calculus.specs.Consistency.{Consistent, ConsistentByList, k-d
 use Rattle.calculus.specs.Typing.{Typed, t-lit, t-anno, t-merge, t-mergev}
 use Rattle.calculus.specs.Step.{Step, s-app-left, s-app-right, s-merge-left, s-merge-right, s-anno, s-rcd, s-cast, s-beta}
 use Rattle.calculus.specs.Decide.{topLike?, belowWithin, below?, disjointInt, disjointArrow, disjoint?, value?, closed?}
-use Rattle.calculus.specs.Decide.{decided, sameUnder, sameInteger, sameType, sameTerm, eachPart, consistentLit, consistentLam, consistent?}
+use Rattle.calculus.specs.Decide.{sameUnder, sameInteger, sameType, sameTerm, eachPart, consistentLit, consistentLam, consistent?}
 use Rattle.calculus.specs.Infer.{unbound, not-function, no-field, conflict, mismatch, refused}
 use Rattle.calculus.specs.Infer.{lookup, checked, applied, projected, labelled, mergeable?, merged, infer}
-use Rattle.calculus.specs.Evaluate.{within, orElse, mergeBoth, firstPart, castInt, castArrow, cast, apply, next}
+use Rattle.calculus.specs.Evaluate.{mergeBoth, firstPart, castInt, castArrow, cast, apply, next}
 
 abbrev number : ℕ → Term
 number n = lit (pos n)
@@ -48,7 +48,7 @@ both-untyped A (t-anno (t-merge t-lit t-lit d) b) = d int b-int b-int
 both-untyped A (t-anno (t-mergev v w s t k) b) = one-not-two (k int (number 1) (number 2) c-lit c-lit)
 
 both-refused : infer [] both ≡ refused conflict (0 ∷ [])
-unfolding infer checked merged mergeable? disjoint? disjointInt value? closed? consistent? eachPart consistentLit decided sameInteger sameUnder ℕ-discrete
+unfolding infer checked merged mergeable? disjoint? disjointInt value? closed? consistent? eachPart consistentLit decide sameInteger sameUnder ℕ-discrete
 both-refused = refl
 
 -- It has exactly two successors: either half can be read.
@@ -118,7 +118,7 @@ reads-tops-only x (c-top v o t) = absurd o
 reads-tops-only x (c-both (c-top v o t) (c-top w o′ t′)) = refl
 
 cast-tops : cast (inter top top) (number 1) ≡ some (merge unit unit)
-unfolding cast mergeBoth within
+unfolding cast mergeBoth
 cast-tops = refl
 
 -- ---- An argument is put in read: (λ.#0 : Int→Int) (1,,{7=5}) becomes 1 : Int, and nothing else.
@@ -140,7 +140,7 @@ on-merge-only f (s-beta (c-left v o (c-top w o′ t))) = absurd t
 on-merge-only f (s-beta (c-right v o (c-top w o′ t))) = absurd t
 
 on-merge-next : next on-merge ≡ some (anno (number 1) int)
-unfolding next value? apply within cast firstPart orElse castInt put
+unfolding next value? apply cast firstPart orElse castInt put
 on-merge-next = refl
 
 -- ---- A top-like function type is not answered with a function: λ.#0 : Int→Int, annotated Int→Top, becomes ⊤, and nothing else.
@@ -179,12 +179,12 @@ not-consistent-by-list (k-disjoint v-lam v-lam (d-heads h-arrow h-arrow n)) = n 
 not-consistent-by-list (k-disjoint v-lam v-lam (d-arrow d)) = int-not-disjoint d
 
 consistent?-constants : consistent? (constant 1) (constant 2) ≡ false
-unfolding consistent? eachPart consistentLam disjoint? disjointArrow disjointInt sameTerm decided sameInteger sameUnder ℕ-discrete
+unfolding consistent? eachPart consistentLam disjoint? disjointArrow disjointInt sameTerm decide sameInteger sameUnder ℕ-discrete
 consistent?-constants = refl
 
 -- the same of the identity and a constant
 consistent?-identity : consistent? (lam (var 0) int int) (constant 1) ≡ false
-unfolding consistent? eachPart consistentLam disjoint? disjointArrow disjointInt sameTerm sameType decided ℕ-discrete
+unfolding consistent? eachPart consistentLam disjoint? disjointArrow disjointInt sameTerm sameType decide ℕ-discrete
 consistent?-identity = refl
 
 -- ---- Rows 11 to 15: the part that a refusal names, as the way to it from the term (0 for field a, 1 for field b).
@@ -228,5 +228,5 @@ places :
     ∷ refused mismatch (1 ∷ [])
     ∷ refused mismatch (0 ∷ 0 ∷ 1 ∷ [])
     ∷ [])
-unfolding infer lookup checked applied projected labelled merged mergeable? below? belowWithin topLike? size-type disjoint? disjointInt value? closed? consistent? eachPart consistentLit decided sameInteger sameUnder ℕ-discrete
+unfolding infer lookup checked applied projected labelled merged mergeable? below? belowWithin topLike? size-type disjoint? disjointInt value? closed? consistent? eachPart consistentLit decide sameInteger sameUnder ℕ-discrete
 places = refl

@@ -4,11 +4,10 @@ use Rattle.calculus.proofs.Assertions
 use Prim.Native.Nat.{ℕ, _≤_, _<_}
 use native.Mathlib.Nat.{not-le-of-lt}
 use mathlib.Core.Path.{_≡_, refl, sym, subst⁻¹}
-use mathlib.Core.Logic.{_↔_, _⊎_, inl, inr, Iff·rfl}
-use mathlib.Core.Bool.{Bool, true, false, not, _&&_, _||_, and-false, cond}
+use mathlib.Core.Logic.{_↔_, _⊎_, inl, inr, Iff·rfl, Iff·trans}
+use mathlib.Core.Bool.{Bool, true, false, not, _&&_, _||_, and-false, cond, decide, decide-iff}
 use lib.Dec.{T, not-T, ltb, eqb, ltb→lt, lt→ltb, nltb→le, eqb→eq}
 use lib.Ieee.Fits.{eq→eqb}
-use Rattle.calculus.specs.Decide.{decided}
 
 -- what a test says is decided
 pub T-dec : {P : Type 0} (b : Bool) → T b ↔ P → Dec P
@@ -38,10 +37,8 @@ by-test P false f g = g (λ t. t)
 pub true-says : (b : Bool) → T b ↔ (b ≡ true)
 true-says b = (T-true Iff·rfl, λ e. subst⁻¹ T e tt)
 
-pub decided-says : {P : Type 0} (d : Dec P) → T (decided d) ↔ P
-unfolding decided
-decided-says (yes p) = (λ t. p, λ p. tt)
-decided-says (no n) = (λ t. absurd t, n)
+pub decide-says : {P : Type 0} (d : Dec P) → T (decide d) ↔ P
+decide-says d = Iff·trans (true-says (decide d)) (decide-iff d)
 
 pub and-says : {P Q : Type 0} (a b : Bool) → T a ↔ P → T b ↔ Q → T (a && b) ↔ (P × Q)
 and-says true b f g = (λ t. (f .0 tt, g .0 t), λ p. g .1 (p .1))

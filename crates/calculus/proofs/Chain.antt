@@ -4,22 +4,11 @@ use mathlib.Core.Path.{_≡_, refl, subst}
 use mathlib.Core.Logic.{_⊎_, inl, inr}
 use mathlib.Core.List.{[]}
 use Rattle.calculus.specs.Syntax.{Ty, Term, IsValue}
-use Rattle.calculus.specs.Subtyping.{Below}
 use Rattle.calculus.specs.Typing.{Typed}
-use Rattle.calculus.specs.Step.{Step, Reaches, r-zero, r-suc, Stuck}
+use Rattle.calculus.specs.Step.{Step, Reaches, r-zero, r-suc, Stuck, Ends}
+use Rattle.calculus.specs.Soundness.{Reached}
 use Rattle.calculus.proofs.Runtime.{Runtime, r-refl, runtime-below, runtime-trans}
 use Rattle.calculus.proofs.Soundness.{step-typed, value-no-step, progress, step-unique}
-
--- f is a value without successor, or no value and has exactly one
-abbrev pub Ends : Term → Type 0
-Ends f = (IsValue f × ((g : Term) → ¬ Step f g)) ⊎ ((¬ IsValue f) × ((g : Term) × Step f g × ((h : Term) → Step f h → h ≡ g)))
-
--- what holds of each term f that e, of type A, reaches after n steps
-pub record Reached (e : Term) (A : Ty) (n : ℕ) (f : Term) : Type 0 where
-  pub only : (g : Term) → Reaches n e g → g ≡ f
-  pub ends : Ends f
-  pub typed : (B : Ty) × Typed [] f B × Below B A
-  pub not-stuck : ¬ Stuck f
 
 -- preservation along the chain
 pub reaches-typed : {n : ℕ} {e f : Term} {A : Ty} → Typed [] e A → Reaches n e f → (B : Ty) × Typed [] f B × Runtime B A

@@ -3,7 +3,7 @@
 use Prim.Native.Nat.{ℕ}
 use mathlib.Core.Path.{_≡_, refl, sym, ap, ap₂, subst₂}
 use mathlib.Core.Logic.{_↔_, _⊎_, inl, inr, by-cases}
-use mathlib.Core.Bool.{Bool, true, false, not, _&&_, _||_}
+use mathlib.Core.Bool.{Bool, true, false, not, _&&_, _||_, decide}
 use lib.Dec.{T, eqb}
 use lib.IntN.{ℤ}
 use native.Mathlib.Decide.{ℕ-discrete}
@@ -11,11 +11,11 @@ use Rattle.calculus.specs.Syntax.{Ty, int, arrow, inter, field, Term, li
 use Rattle.calculus.specs.Syntax.{Value, v-lit, v-unit, v-lam, v-merge, v-rcd, Ty-discrete, Term-discrete}
 use Rattle.calculus.specs.Subtyping.{TopLike, Below, b-left, b-right}
 use Rattle.calculus.specs.Disjointness.{DisjointByList, d-arrow, d-labels}
-use Rattle.calculus.specs.Decide.{decided, sameInteger, sameTerm, sameType, eachPart, consistentLit, consistentLam, consistentRcd, consistent?}
+use Rattle.calculus.specs.Decide.{sameInteger, sameTerm, sameType, eachPart, consistentLit, consistentLam, consistentRcd, consistent?}
 use Rattle.calculus.specs.Decide.{disjoint?, disjointInt, disjointArrow, disjointField}
 use Rattle.calculus.specs.TypedReduction.{Cast, c-lit, c-arrow, c-rcd}
 use Rattle.calculus.specs.Consistency.{Consistent, ConsistentByList, k-lit, k-lam, k-rcd, k-left, k-right, k-disjoint}
-use Rattle.calculus.proofs.Bools.{decided-says, T-and, eqb-says, _and_, _or_}
+use Rattle.calculus.proofs.Bools.{decide-says, T-and, eqb-says, _and_, _or_}
 use Rattle.calculus.proofs.Subtyping.{below-refl, topLike-dec}
 use Rattle.calculus.proofs.Disjointness.{disjoint-or-common, list→disjoint}
 use Rattle.calculus.proofs.Decisions.{disjoint?-says}
@@ -25,11 +25,11 @@ use Rattle.calculus.proofs.TypedReduction.{ProperCast, p-lit, p-arrow, 
 -- what the tests on trees say
 pub sameTerm-says : (e f : Term) → T (sameTerm e f) ↔ (e ≡ f)
 unfolding sameTerm
-sameTerm-says e f = decided-says (Term-discrete ℕ-discrete sameInteger (Ty-discrete ℕ-discrete) e f)
+sameTerm-says e f = decide-says (Term-discrete ℕ-discrete sameInteger (Ty-discrete ℕ-discrete) e f)
 
 pub sameType-says : (A B : Ty) → T (sameType A B) ↔ (A ≡ B)
 unfolding sameType
-sameType-says A B = decided-says (Ty-discrete ℕ-discrete A B)
+sameType-says A B = decide-says (Ty-discrete ℕ-discrete A B)
 
 -- readings that agree under proper types agree
 agree : {v w : Term} → ((A : Ty) → Proper A → (x y : Term) → Cast v A x → Cast w A y → x ≡ y) → Consistent v w
@@ -95,10 +95,10 @@ between-right v u =
 apart : {v w : Term} {A B : Ty} → Value v A → Value w B → T (disjoint? A B) → Between true v w
 apart {A} {B} v w t = record { passes = λ k. tt; listed = λ s. k-disjoint v w (disjoint?-says A B .0 t) }
 
-two-lits : {i j : ℤ} (d : Dec (i ≡ j)) → Between (decided d) (lit i) (lit j)
+two-lits : {i j : ℤ} (d : Dec (i ≡ j)) → Between (decide d) (lit i) (lit j)
 two-lits {i} {j} d = record {
-  passes = λ k. let q : lit i ≡ lit j = k int _ _ c-lit c-lit in decided-says d .1 (cc q);
-  listed = λ t. rw (← decided-says d .0 t) k-lit;
+  passes = λ k. let q : lit i ≡ lit j = k int _ _ c-lit c-lit in decide-says d .1 (cc q);
+  listed = λ t. rw (← decide-says d .0 t) k-lit;
 }
 
 between-lit : {i : ℤ} {w : Term} {B : Ty} → Value w B → Between (eachPart (consistentLit i) w) (lit i) w

@@ -13,3 +13,4 @@ pub mod Chain
 pub mod Inference
 pub mod Places
 pub mod Evaluation
+pub mod Agreement

@@ -1,9 +1,9 @@
--- The part that a refusal names: "11 to 14 name the variable, application, field read or merge itself, 15 the checked term". Assumes nothing.
+-- Every refusal of `infer` names the part that specs/Places says. Assumes nothing.
 use Prim.Native.Nat.{ℕ}
-use mathlib.Core.Path.{_≡_, refl, sym, ap, _∙_}
+use mathlib.Core.Path.{_≡_, refl, sym, ap}
 use mathlib.Core.Bool.{Bool, true, false, cond}
 use mathlib.Core.Option.{Option, none, some}
-use mathlib.Core.List.{List, [], _∷_, _++_}
+use mathlib.Core.List.{List, [], _∷_}
 use native.Mathlib.Omega.{arith}
 use lib.Dec.{eqb}
 use lib.ListN.{getElem?}
@@ -12,48 +12,8 @@ use Rattle.calculus.specs.Syntax.{Term, var, lit, unit, anno, app, lam, 
 use Rattle.calculus.specs.Decide.{below?}
 use Rattle.calculus.specs.Infer.{Reason, unbound, not-function, no-field, conflict, mismatch, Found, found, refused}
 use Rattle.calculus.specs.Infer.{lookup, checked, applied, projected, labelled, mergeable?, merged, infer}
-
--- The part of a term at the end of a way.
-pub data At : Term → List ℕ → Term → Type 0 where
-  here : {e : Term} → At e [] e
-  in-anno : {e f : Term} {A : Ty} {p : List ℕ} → At e p f → At (anno e A) (0 ∷ p) f
-  in-left : {e d f : Term} {p : List ℕ} → At e p f → At (app e d) (0 ∷ p) f
-  in-right : {e d f : Term} {p : List ℕ} → At d p f → At (app e d) (1 ∷ p) f
-  in-body : {e f : Term} {A B : Ty} {p : List ℕ} → At e p f → At (lam e A B) (0 ∷ p) f
-  in-first : {e d f : Term} {p : List ℕ} → At e p f → At (merge e d) (0 ∷ p) f
-  in-second : {e d f : Term} {p : List ℕ} → At d p f → At (merge e d) (1 ∷ p) f
-  in-fix : {e f : Term} {A : Ty} {p : List ℕ} → At e p f → At (fix e A) (0 ∷ p) f
-  in-content : {l : ℕ} {e f : Term} {p : List ℕ} → At e p f → At (rcd l e) (0 ∷ p) f
-  in-read : {l : ℕ} {e f : Term} {p : List ℕ} → At e p f → At (proj l e) (0 ∷ p) f
-
--- Field f of a term is checked against a type, and it is d.
-pub data Checks : Term → ℕ → Term → Type 0 where
-  of-anno : {d : Term} {A : Ty} → Checks (anno d A) 0 d
-  of-argument : {e d : Term} → Checks (app e d) 1 d
-  of-body : {d : Term} {A B : Ty} → Checks (lam d A B) 0 d
-  of-fix : {d : Term} {A : Ty} → Checks (fix d A) 0 d
-
--- The term e has, at the end of the way p, a part that the part around it checks: the last field of the way.
-pub record CheckedAt (e : Term) (p : List ℕ) (f : Term) : Type 0 where
-  pub around : Term
-  pub to : List ℕ
-  pub at : At e to around
-  pub last : ℕ
-  pub way : p ≡ to ++ (last ∷ [])
-  pub checks : Checks around last f
-
--- "11 to 14 name the variable, application, field read or merge itself, 15 the checked term"
-abbrev pub Named : Reason → Term → List ℕ → Term → Type 0
-Named unbound e p f = (n : ℕ) × (f ≡ var n)
-Named not-function e p f = (c : Term) × (d : Term) × (f ≡ app c d)
-Named no-field e p f = (l : ℕ) × (d : Term) × (f ≡ proj l d)
-Named conflict e p f = (c : Term) × (d : Term) × (f ≡ merge c d)
-Named mismatch e p f = CheckedAt e p f
-
-pub record Place (e : Term) (r : Reason) (p : List ℕ) : Type 0 where
-  pub part : Term
-  pub at : At e p part
-  pub named : Named r e p part
+use Rattle.calculus.specs.Places.{At, here, in-anno, in-left, in-right, in-body, in-first, in-second, in-fix, in-content, in-read}
+use Rattle.calculus.specs.Places.{Checks, of-anno, of-argument, of-body, of-fix, Named, Place, Refuses}
 
 -- field f of e is d
 abbrev Field : Term → ℕ → Term → Type 0
@@ -70,10 +30,6 @@ named-within {f = f} mismatch p g h n =
 
 within : {e d : Term} {f : ℕ} {r : Reason} {p : List ℕ} → Field e f d → Place d r p → Place e r (f ∷ p)
 within {r = r} {p = p} h x = record { part = x .part; at = h p (x .part) (x .at); named = named-within r p (x .part) h (x .named) }
-
--- the place of what a result refuses, if it does
-abbrev pub Refuses : Term → Found → Type 0
-Refuses e x = (r : Reason) (p : List ℕ) → x ≡ refused r p → Place e r p
 
 given : {e : Term} {s : Reason} {q : List ℕ} → Place e s q → Refuses e (refused s q)
 given {e} {s} {q} x r p h = let a : s ≡ r = cc in let b : q ≡ p = cc in rw (sym a, sym b) x

@@ -4,7 +4,7 @@ use Prim.Native.Nat.{ℕ}
 use mathlib.Core.Path.{_≡_, refl, _∙_, ap₂}
 use mathlib.Core.Logic.{_↔_, Iff·trans, by-cases}
 use mathlib.Core.Bool.{Bool, _&&_, cond}
-use mathlib.Core.Option.{Option, none, some}
+use mathlib.Core.Option.{Option, none, some, Option·map, orElse}
 use borrow.Author.Tests.{eq-eqb}
 use lib.Dec.{T, eqb}
 use Rattle.calculus.specs.Syntax.{Ty, int, top, arrow, inter, field, Term, var, lit, unit, anno, app, lam, merge, fix, rcd, proj}
@@ -13,7 +13,7 @@ use Rattle.calculus.specs.Subtyping.{TopLike, Ordinary}
 use Rattle.calculus.specs.TypedReduction.{Cast, c-lit, c-top, c-arrow, c-rcd, c-left, c-right, c-both}
 use Rattle.calculus.specs.Consistency.{Consistent, ConsistentByList}
 use Rattle.calculus.specs.Decide.{below?, value?, consistent?, eachPart}
-use Rattle.calculus.specs.Evaluate.{within, orElse, mergeBoth, firstPart, castInt, castArrow, castField, cast}
+use Rattle.calculus.specs.Evaluate.{mergeBoth, firstPart, castInt, castArrow, castField, cast}
 use Rattle.calculus.proofs.Bools.{T-same, by-test, and-says, T-and, and-exchange, eqb-says}
 use Rattle.calculus.proofs.Subtyping.{topLike-dec}
 use Rattle.calculus.proofs.Decisions.{below?-says, topLike?-true, topLike?-false, below?-true}
@@ -89,8 +89,7 @@ pub data Answers (P : Term → Type 0) : Option Term → Type 0 where
 pub answers-some : {P : Term → Type 0} {e : Term} → Answers P (some e) → P e
 answers-some (answer p) = p
 
-pub answers-within : {P Q : Term → Type 0} {r : Option Term} (f : Term → Term) → Answers P r → ((e : Term) → P e → Q (f e)) → Answers Q (within f r)
-unfolding within
+pub answers-within : {P Q : Term → Type 0} {r : Option Term} (f : Term → Term) → Answers P r → ((e : Term) → P e → Q (f e)) → Answers Q (Option·map f r)
 answers-within f nothing k = nothing
 answers-within f (answer {e} p) k = answer (k e p)
 
@@ -174,8 +173,7 @@ pub data Answered : Option Term → Type 0 where
 pub the-answer : {r : Option Term} → Answered r → (e : Term) × (r ≡ some e)
 the-answer (answered {e}) = (e, refl)
 
-pub some-within : {r : Option Term} (f : Term → Term) → Answered r → Answered (within f r)
-unfolding within
+pub some-within : {r : Option Term} (f : Term → Term) → Answered r → Answered (Option·map f r)
 some-within f answered = answered
 
 some-left : {r : Option Term} (s : Option Term) → Answered r → Answered (orElse r s)

@@ -2,13 +2,14 @@
 -- is a theorem of proofs/. Assumes nothing.
 use Prim.Native.Nat.{ℕ, zero, suc, _+_}
 use mathlib.Core.Path.{_≡_, sym, ap}
-use mathlib.Core.Bool.{Bool, true, false, not, _&&_, _||_}
+use mathlib.Core.Bool.{Bool, true, false, not, _&&_, _||_, decide}
 use lib.Dec.{eqb, ltb}
 use lib.IntN.{ℤ, pos, negsuc, pos-ne-negsuc}
 use native.Mathlib.Decide.{ℕ-discrete}
 use Rattle.calculus.specs.Syntax.{Ty, int, top, arrow, inter, field, size-type, Ty-discrete, Term-discrete}
 use Rattle.calculus.specs.Syntax.{Term, var, lit, unit, anno, app, lam, merge, fix, rcd, proj, byForm, foldValue, foldParts}
 
+-- "Top-like: Top; a function type with a top-like output; an intersection of two such; a record type over one."
 unfoldable pub topLike? : Ty → Bool
 topLike? int = false
 topLike? top = true
@@ -37,6 +38,7 @@ belowWithin (suc n) (arrow A B) (field k C) = topLike? C
 belowWithin (suc n) (inter A B) (field k C) = topLike? C || (belowWithin n A (field k C) || belowWithin n B (field k C))
 belowWithin (suc n) (field l A) (field k C) = topLike? C || (eqb l k && belowWithin n A C)
 
+-- "Below": the two sizes together are bound enough.
 unfoldable pub below? : Ty → Ty → Bool
 below? A B = belowWithin (size-type A + size-type B) A B
 
@@ -64,6 +66,7 @@ disjointField l f (arrow C D) = true
 disjointField l f (inter C D) = disjointField l f C && disjointField l f D
 disjointField l f (field k C) = not (eqb l k) || f C
 
+-- "Disjoint", the left type split first.
 unfoldable pub disjoint? : Ty → Ty → Bool
 disjoint? int B = disjointInt B
 disjoint? top B = true
@@ -71,6 +74,7 @@ disjoint? (arrow C D) B = disjointArrow (disjoint? D) B
 disjoint? (inter C D) B = disjoint? C B && disjoint? D B
 disjoint? (field k C) B = disjointField k (disjoint? C) B
 
+-- "Values: numbers, the top value, functions, merges of values, records of values."
 unfoldable pub value? : Term → Bool
 value? e = foldValue (λ i. true) true (λ b A B. true) _&&_ (λ l x. x) false e
 
@@ -91,50 +95,44 @@ closed? k (fix e A) = closed? (suc k) e
 closed? k (rcd l e) = closed? k e
 closed? k (proj l e) = closed? k e
 
--- Whether two integers are the same, decided in a way that computes.
-pub pos-injective : (m n : ℕ) → pos m ≡ pos n → m ≡ n
-pos-injective m n p = cc
-
-pub negsuc-injective : (m n : ℕ) → negsuc m ≡ negsuc n → m ≡ n
-negsuc-injective m n p = cc
-
+-- Equality of integers under one sign, from that of their numbers. (The library's decision of integers does not compute.)
 unfoldable pub sameUnder : (f : ℕ → ℤ) → ((m n : ℕ) → f m ≡ f n → m ≡ n) → (m n : ℕ) → Dec (m ≡ n) → Dec (f m ≡ f n)
 sameUnder f inj m n (yes p) = yes (ap f p)
 sameUnder f inj m n (no u) = no (λ q. u (inj m n q))
 
+-- "equal numbers"
 unfoldable pub sameInteger : Discrete ℤ
-sameInteger (pos m) (pos n) = sameUnder pos pos-injective m n (ℕ-discrete m n)
+sameInteger (pos m) (pos n) = sameUnder pos (λ m n p. cc) m n (ℕ-discrete m n)
 sameInteger (pos m) (negsuc n) = no (pos-ne-negsuc m n)
 sameInteger (negsuc m) (pos n) = no (λ p. pos-ne-negsuc n m (sym p))
-sameInteger (negsuc m) (negsuc n) = sameUnder negsuc negsuc-injective m n (ℕ-discrete m n)
+sameInteger (negsuc m) (negsuc n) = sameUnder negsuc (λ m n p. cc) m n (ℕ-discrete m n)
 
-unfoldable pub decided : {A : Type 0} → Dec A → Bool
-decided (yes a) = true
-decided (no f) = false
-
--- the same tree
+-- The same tree: two types,
 unfoldable pub sameType : Ty → Ty → Bool
-sameType A B = decided (Ty-discrete ℕ-discrete A B)
+sameType A B = decide (Ty-discrete ℕ-discrete A B)
 
+-- and two terms.
 unfoldable pub sameTerm : Term → Term → Bool
-sameTerm e f = decided (Term-discrete ℕ-discrete sameInteger (Ty-discrete ℕ-discrete) e f)
+sameTerm e f = decide (Term-discrete ℕ-discrete sameInteger (Ty-discrete ℕ-discrete) e f)
 
 -- f asked of each part of a value that is no merge: all must say yes.
 unfoldable pub eachPart : (Term → Bool) → Term → Bool
 eachPart f e = foldParts f _&&_ e
 
--- A number, a function and a record against a value that is no merge.
+-- A value against one that is no merge. A number: "equal numbers", or disjoint types;
 unfoldable pub consistentLit : ℤ → Term → Bool
-consistentLit i w = byForm (λ j. decided (sameInteger i j)) true (λ f C D. true) (λ l f. true) false w
+consistentLit i w = byForm (λ j. decide (sameInteger i j)) true (λ f C D. true) (λ l f. true) false w
 
+-- a function: "functions with the same body and input type, as trees"; or disjoint types;
 unfoldable pub consistentLam : Term → Ty → Ty → Term → Bool
 consistentLam e A B w = byForm (λ j. true) true (λ f C D. (sameTerm e f && sameType A C) || disjoint? B D) (λ l f. true) false w
 
--- f asks of a content whether it is consistent with that of the record of label l
+-- a record: "records of one label with consistent contents", or disjoint types. f asks whether a content is consistent with that of the
+-- record of label l.
 unfoldable pub consistentRcd : ℕ → (Term → Bool) → Term → Bool
 consistentRcd l f w = byForm (λ j. true) true (λ e C D. true) (λ k e. not (eqb l k) || f e) false w
 
--- Of values.
+-- "Consistent", of values, the left one split first: "a merge and a value, either way about, if both halves are consistent with the value"
 unfoldable pub consistent? : Term → Term → Bool
 consistent? v =
     foldValue (λ i. eachPart (consistentLit i)) (λ w. true) (λ e A B. eachPart (consistentLam e A B)) (λ p q w. p w && q w)

@@ -12,6 +12,7 @@ Disjoint A B = (C : Ty) → Below A C → Below B C → TopLike C
 pub data Head : Type 0 where
   number function record-type : Head
 
+-- The head of such a type.
 pub data HasHead : Ty → Head → Type 0 where
   h-int : HasHead int number
   h-arrow : {A B : Ty} → HasHead (arrow A B) function

@@ -2,39 +2,34 @@
 -- terms the theorems of proofs/ leave no other answer. Assumes nothing.
 use Prim.Native.Nat.{ℕ}
 use mathlib.Core.Bool.{true, false, _&&_, cond}
-use mathlib.Core.Option.{Option, none, some}
+use mathlib.Core.Option.{Option, none, some, Option·map, orElse}
 use lib.Dec.{eqb}
 use Rattle.calculus.specs.Syntax.{Ty, int, top, arrow, inter, field}
 use Rattle.calculus.specs.Syntax.{Term, var, lit, unit, anno, app, lam, merge, fix, rcd, proj, put, byForm, foldParts}
 use Rattle.calculus.specs.Decide.{topLike?, below?, value?}
 
-unfoldable pub within : (Term → Term) → Option Term → Option Term
-within f none = none
-within f (some e) = some (f e)
-
-unfoldable pub orElse : Option Term → Option Term → Option Term
-orElse none x = x
-orElse (some e) x = some e
-
+-- "under an intersection, merge both readings"
 unfoldable pub mergeBoth : Option Term → Option Term → Option Term
 mergeBoth none y = none
-mergeBoth (some e) y = within (merge e) y
+mergeBoth (some e) y = Option·map (merge e) y
 
 -- The first part of a value, no merge itself, to which f has an answer.
 unfoldable pub firstPart : (Term → Option Term) → Term → Option Term
 firstPart f e = foldParts f orElse e
 
+-- "a number under Int is itself"
 unfoldable pub castInt : Term → Option Term
 castInt e = byForm (λ i. some (lit i)) none (λ b A B. none) (λ l f. none) none e
 
+-- "a function under a function type above its own keeps body and input and takes the new output type"
 unfoldable pub castArrow : Ty → Ty → Term → Option Term
 castArrow C D e = byForm (λ i. none) none (λ b A B. cond (below? C A && below? B D) (some (lam b A D)) none) (λ l f. none) none e
 
--- f reads the content
+-- "a record of that label has its content read and stays a record": f reads the content
 unfoldable pub castField : ℕ → (Term → Option Term) → Term → Option Term
-castField l f e = byForm (λ i. none) none (λ b A B. none) (λ k g. cond (eqb l k) (within (rcd l) (f g)) none) none e
+castField l f e = byForm (λ i. none) none (λ b A B. none) (λ k g. cond (eqb l k) (Option·map (rcd l) (f g)) none) none e
 
--- The value read under the type, where it can be.
+-- "Reading a value under a type", where it can be read. "Under any other top-like type: the top value."
 unfoldable pub cast : Ty → Term → Option Term
 cast int v = firstPart castInt v
 cast top v = some unit
@@ -42,27 +37,28 @@ cast (arrow C D) v = elim (topLike? D) [ true ↦ some unit | false ↦ firstPar
 cast (inter A B) v = mergeBoth (cast A v) (cast B v)
 cast (field l A) v = elim (topLike? A) [ true ↦ some unit | false ↦ firstPart (castField l (cast A)) v ]
 
--- a value applied to a value
+-- "A function on a value becomes its body with the argument's reading put in, annotated with the output. The top value applied to a value ..
+-- becomes the top value."
 unfoldable pub apply : Term → Term → Option Term
-apply e v = byForm (λ i. none) (some unit) (λ b A B. within (λ x. anno (put 0 x b) B) (cast A v)) (λ l f. none) none e
+apply e v = byForm (λ i. none) (some unit) (λ b A B. Option·map (λ x. anno (put 0 x b) B) (cast A v)) (λ l f. none) none e
 
--- a field read of a value
+-- "The top value .. with a field read, becomes the top value. A field read of a record value becomes the content."
 unfoldable pub project : ℕ → Term → Option Term
 project l e = byForm (λ i. none) (some unit) (λ b A B. none) (λ k f. cond (eqb l k) (some f) none) none e
 
--- The successor, where there is one.
+-- The successor, where there is one: "Steps go leftmost first, never under a binder".
 unfoldable pub next : Term → Option Term
 next (var n) = none
 next (lit i) = none
 next unit = none
-next (anno e A) = elim (value? e) [ true ↦ cast A e | false ↦ within (λ x. anno x A) (next e) ]
+next (anno e A) = elim (value? e) [ true ↦ cast A e | false ↦ Option·map (λ x. anno x A) (next e) ]
 next (app e f) =
     elim (value? e) [
-      | true ↦ elim (value? f) [ true ↦ apply e f | false ↦ within (app e) (next f) ]
-      | false ↦ within (λ x. app x f) (next e)
+      | true ↦ elim (value? f) [ true ↦ apply e f | false ↦ Option·map (app e) (next f) ]
+      | false ↦ Option·map (λ x. app x f) (next e)
     ]
 next (lam e A B) = none
-next (merge e f) = elim (value? e) [ true ↦ within (merge e) (next f) | false ↦ within (λ x. merge x f) (next e) ]
+next (merge e f) = elim (value? e) [ true ↦ Option·map (merge e) (next f) | false ↦ Option·map (λ x. merge x f) (next e) ]
 next (fix e A) = some (anno (put 0 (fix e A) e) A)
-next (rcd l e) = within (rcd l) (next e)
-next (proj l e) = elim (value? e) [ true ↦ project l e | false ↦ within (proj l) (next e) ]
+next (rcd l e) = Option·map (rcd l) (next e)
+next (proj l e) = elim (value? e) [ true ↦ project l e | false ↦ Option·map (proj l) (next e) ]

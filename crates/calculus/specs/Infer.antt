@@ -15,10 +15,12 @@ use Rattle.calculus.specs.Decide.{below?, disjoint?, value?, closed?, co
 pub data Reason : Type 0 where
   unbound not-function no-field conflict mismatch : Reason
 
+-- A type; or the reason why there is none, with the way to the part that it names.
 pub data Found : Type 0 where
   found : Ty → Found
   refused : Reason → List ℕ → Found
 
+-- "variable its binder's type"
 unfoldable pub lookup : Option Ty → Found
 lookup none = refused unbound []
 lookup (some A) = found A
@@ -37,6 +39,7 @@ applied (found (inter A B)) r = refused not-function []
 applied (found (field l A)) r = refused not-function []
 applied (refused r p) s = refused r (0 ∷ p)
 
+-- "Field read: the term's type must be a record type of exactly that label, or Top, which gives Top."
 unfoldable pub projected : ℕ → Found → Found
 projected l (found int) = refused no-field []
 projected l (found top) = found top
@@ -45,6 +48,7 @@ projected l (found (inter A B)) = refused no-field []
 projected l (found (field k A)) = cond (eqb l k) (found A) (refused no-field [])
 projected l (refused r p) = refused r (0 ∷ p)
 
+-- "record a record type"
 unfoldable pub labelled : ℕ → Found → Found
 labelled l (found A) = found (field l A)
 labelled l (refused r p) = refused r (0 ∷ p)
@@ -53,11 +57,13 @@ labelled l (refused r p) = refused r (0 ∷ p)
 unfoldable pub mergeable? : Term → Term → Ty → Ty → Bool
 mergeable? e f A B = disjoint? A B || (value? (merge e f) && closed? 0 (merge e f) && consistent? e f)
 
+-- "Merge: the intersection", where it may be; the left half is walked first.
 unfoldable pub merged : Term → Term → Found → Found → Found
 merged e f (found A) (found B) = cond (mergeable? e f A B) (found (inter A B)) (refused conflict [])
 merged e f (found A) (refused r p) = refused r (1 ∷ p)
 merged e f (refused r p) s = refused r (0 ∷ p)
 
+-- "Finding a type", in the context Γ. "Typing walks left before right and parts before wholes".
 unfoldable pub infer : List Ty → Term → Found
 infer Γ (var n) = lookup (getElem? Γ n)
 infer Γ (lit i) = found int

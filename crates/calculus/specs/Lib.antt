@@ -5,6 +5,9 @@ pub mod TypedReduction
 pub mod Consistency
 pub mod Typing
 pub mod Step
+pub mod Soundness
 pub mod Decide
 pub mod Infer
+pub mod Places
 pub mod Evaluate
+pub mod Agreement

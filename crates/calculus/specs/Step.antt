@@ -1,5 +1,7 @@
 -- Steps: source 001, figure 8, with records; and what document 01's "Running" says of them. Assumes nothing.
 use Prim.Native.Nat.{ℕ, zero, suc}
+use mathlib.Core.Path.{_≡_}
+use mathlib.Core.Logic.{_⊎_}
 use Rattle.calculus.specs.Syntax.{Ty, Term, unit, anno, app, lam, merge, fix, rcd, proj, Value, IsValue, put}
 use Rattle.calculus.specs.TypedReduction.{Cast}
 
@@ -29,6 +31,10 @@ pub data Step : Term → Term → Type 0 where
 -- "A term that is no value and has no successor is stuck."
 abbrev pub Stuck : Term → Type 0
 Stuck e = (¬ IsValue e) × ((f : Term) → ¬ Step e f)
+
+-- Demand 3: "it is a value and has no successor under the calculus, or is no value and has exactly one".
+abbrev pub Ends : Term → Type 0
+Ends f = (IsValue f × ((g : Term) → ¬ Step f g)) ⊎ ((¬ IsValue f) × ((g : Term) × Step f g × ((h : Term) → Step f h → h ≡ g)))
 
 -- Reaches n e f: f is a term after n steps of e. "A book's only term after no steps is its root ..; a term after one step more is
 -- any successor of one before."

@@ -36,6 +36,7 @@ size-type (arrow A B) = 1 + size-type A + size-type B
 size-type (inter A B) = 1 + size-type A + size-type B
 size-type (field l A) = 1 + size-type A
 
+-- The same of a term.
 unfoldable pub size : Term → ℕ
 size (var n) = 1
 size (lit i) = 1
@@ -57,6 +58,7 @@ pub data Value : Term → Ty → Type 0 where
   v-merge : {v w : Term} {A B : Ty} → Value v A → Value w B → Value (merge v w) (inter A B)
   v-rcd : {l : ℕ} {v : Term} {A : Ty} → Value v A → Value (rcd l v) (field l A)
 
+-- A value, of whatever type.
 abbrev pub IsValue : Term → Type 0
 IsValue e = (A : Ty) × Value e A
 
@@ -76,6 +78,7 @@ put k s (proj l e) = proj l (put k s e)
 
 -- ---- what evaluation asks of a term goes by five forms: a number, the top value, a function, a merge, a record; all else is other
 
+-- A term by its form; a merge is other.
 abbrev pub byForm : {X : Type 0} (number : ℤ → X) (top-value : X) (function : Term → Ty → Ty → X) (recorded : ℕ → Term → X) (other : X) → Term → X
 byForm n u f r z (var k) = z
 byForm n u f r z (lit i) = n i

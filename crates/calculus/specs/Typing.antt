@@ -24,6 +24,7 @@ pub data Projects : ℕ → Ty → Ty → Type 0 where
   p-field : {l : ℕ} {A : Ty} → Projects l (field l A) A
   p-top : {l : ℕ} → Projects l top top
 
+-- "Finding a type", with D for disjoint and K for consistent: Γ finds A for e.
 pub data Finds (D : Ty → Ty → Type 0) (K : Term → Term → Type 0) : List Ty → Term → Ty → Type 0 where
   -- TYP-TOP, TYP-LIT, TYP-VAR: "top value Top; number Int; variable its binder's type"
   t-unit : {Γ : List Ty} → Finds D K Γ unit top

@@ -1,249 +1,285 @@
 -- Laws of what cells hold: inversion by kind, framing, and a cell that was written. Assumes nothing.
-use Prim.Native.Nat.{ℕ, zero, suc, _+_, _*_, _-_, _≤_, _<_}
+use Prim.Native.Nat.{ℕ, suc, _+_, _*_, _≤_, _<_}
 use native.Mathlib.Omega.{arith}
-use mathlib.Core.Path.{_≡_, refl, sym, _∙_, ap, subst, subst⁻¹}
+use mathlib.Core.Path.{_≡_, refl, sym, _∙_, ap, subst⁻¹}
+use mathlib.Core.Bool.{Bool, true, false, _&&_}
 use mathlib.Core.List.{List, [], _∷_, append-assoc}
+use lib.Dec.{T}
+use mathlib.Core.Option.{some, Option·some-injective}
 use lib.ListN.{length, take, drop, set}
 use lib.Seq.{sets, length-sets, sets-eq, length-take-le, take-set-le, take-take, getD-take}
-use Rattle.calculus.specs.Syntax.{Ty, int, top, arrow, inter, field}
-use Rattle.calculus.specs.Syntax.{Term, var, lit, unit, anno, app, lam, merge, fix, rcd, proj}
+use Rattle.calculus.specs.Syntax.{Ty, int, top, arrow, inter}
+use Rattle.calculus.specs.Syntax.{Term, var, lit, unit, anno, app, merge, fix, rcd, proj}
+use Rattle.calculus.proofs.Bools.{T-and, Test, _and_, at-most}
+use Rattle.format.specs.Table.{Sort, type-sort, term-sort, Use, plain, refers, Row, table, rowIn, rowOf}
 use Rattle.format.specs.Cell.{byte, pair, Cell, cellAt, cellBytes, half, signed}
+use Rattle.format.specs.Tree.{Tree, node, kindIn}
+use Rattle.format.specs.Terms.{fromType, fromTerm, plainOf, toType, toTerm}
 use Rattle.format.proofs.Laying.{Part, cell-back}
-use Rattle.cells.specs.Held.{IsCell, mark, Same, HoldsType, h-int, h-top, h-arrow, h-inter, h-field}
-use Rattle.cells.specs.Held.{HoldsTerm, h-var, h-lit, h-unit, h-anno, h-app, h-lam, h-merge, h-fix, h-rcd, h-proj}
+use Rattle.format.proofs.Tests.{All, _also_, view}
+use Rattle.cells.specs.Held.{IsCell, mark, Same, Thing, thing, Marked, Fields, HeldField, f-unused, f-plain, f-refers, Holds, HoldsType, HoldsTerm}
 use Rattle.cells.specs.Held.{HoldsContext, h-empty, h-bind}
-
--- every held cell lies within the buffer
-pub type-within : {s : List ℕ} {i : ℕ} {A : Ty} → HoldsType s i A → 8 * i + 8 ≤ length s
-type-within (h-int p c) = p .within
-type-within (h-top p c) = p .within
-type-within (h-arrow p c u v x y) = p .within
-type-within (h-inter p c u v x y) = p .within
-type-within (h-field p c u x) = p .within
-
-pub term-within : {s : List ℕ} {i : ℕ} {e : Term} → HoldsTerm s i e → 8 * i + 8 ≤ length s
-term-within (h-var p) = p .within
-term-within (h-lit p z) = p .within
-term-within (h-unit p) = p .within
-term-within (h-anno p u v x y) = p .within
-term-within (h-app p u v x y) = p .within
-term-within (h-lam p u v w x y z) = p .within
-term-within (h-merge p u v x y) = p .within
-term-within (h-fix p u v x y) = p .within
-term-within (h-rcd p u x) = p .within
-term-within (h-proj p u x) = p .within
-
--- inversion of a held type, by the kind of its cell
-pub type-mark : {s : List ℕ} {i : ℕ} {A : Ty} → HoldsType s i A → cellAt s i .c ≡ mark A
-type-mark (h-int p c) = rw (p .is) c
-type-mark (h-top p c) = rw (p .is) c
-type-mark (h-arrow p c u v x y) = rw (p .is) c
-type-mark (h-inter p c u v x y) = rw (p .is) c
-type-mark (h-field p c u x) = rw (p .is) c
-
-pub type-kinds : {s : List ℕ} {i : ℕ} {A : Ty} → HoldsType s i A → (1 ≤ cellAt s i .kind) × (cellAt s i .kind ≤ 5)
-type-kinds (h-int p c) = rw (p .is) (omega arith)
-type-kinds (h-top p c) = rw (p .is) (omega arith)
-type-kinds (h-arrow p c u v x y) = rw (p .is) (omega arith)
-type-kinds (h-inter p c u v x y) = rw (p .is) (omega arith)
-type-kinds (h-field p c u x) = rw (p .is) (omega arith)
-
-pub record TwoTypes (s : List ℕ) (i : ℕ) (f : Ty → Ty → Ty) (A : Ty) : Type 0 where
-  pub first : Ty
-  pub second : Ty
-  pub is : A ≡ f first second
-  pub first-lower : cellAt s i .a < i
-  pub second-lower : cellAt s i .b < i
-  pub holds-first : HoldsType s (cellAt s i .a) first
-  pub holds-second : HoldsType s (cellAt s i .b) second
-
-pub record OneType (s : List ℕ) (i : ℕ) (A : Ty) : Type 0 where
-  pub content : Ty
-  pub is : A ≡ field (cellAt s i .label) content
-  pub lower : cellAt s i .a < i
-  pub holds : HoldsType s (cellAt s i .a) content
-
--- what a held type is, by its kind
-abbrev TypeView : List ℕ → ℕ → Ty → ℕ → Type 0
-TypeView s i A zero = ⊥
-TypeView s i A (suc zero) = A ≡ int
-TypeView s i A (suc (suc zero)) = A ≡ top
-TypeView s i A (suc (suc (suc zero))) = TwoTypes s i arrow A
-TypeView s i A (suc (suc (suc (suc zero)))) = TwoTypes s i inter A
-TypeView s i A (suc (suc (suc (suc (suc zero))))) = OneType s i A
-TypeView s i A (suc (suc (suc (suc (suc (suc k)))))) = ⊥
+use Rattle.cells.proofs.Shapes as Shapes
+use Rattle.cells.proofs.Shapes.{Two}
 
 pub kind-of : {s : List ℕ} {i k l a b c : ℕ} → IsCell s i k l a b c → cellAt s i .kind ≡ k
 kind-of p = rw (p .is)
 
-two-types : {s : List ℕ} {i k l a b c : ℕ} {A B : Ty} (f : Ty → Ty → Ty) → IsCell s i k l a b c → a < i → b < i → HoldsType s a A
-    → HoldsType s b B → TwoTypes s i f (f A B)
-two-types f p u v x y =
-    record { first = _; second = _; is = refl; first-lower = rw (p .is) u; second-lower = rw (p .is) v; holds-first = rw (p .is) x; holds-second = rw (p .is) y }
+-- ---- inversion, for all kinds at once
 
-type-view : {s : List ℕ} {i : ℕ} {A : Ty} → HoldsType s i A → TypeView s i A (cellAt s i .kind)
-type-view {s} {i} (h-int p c) = subst⁻¹ (TypeView s i int) (kind-of p) refl
-type-view {s} {i} (h-top p c) = subst⁻¹ (TypeView s i top) (kind-of p) refl
-type-view {s} {i} (h-arrow {A = A} {B = B} p c u v x y) = subst⁻¹ (TypeView s i (arrow A B)) (kind-of p) (two-types arrow p u v x y)
-type-view {s} {i} (h-inter {A = A} {B = B} p c u v x y) = subst⁻¹ (TypeView s i (inter A B)) (kind-of p) (two-types inter p u v x y)
-type-view {s} {i} (h-field {l = l} {A = A} p c u x) =
-    subst⁻¹ (TypeView s i (field l A)) (kind-of p)
-    (record { content = A; is = rw (p .is); lower = rw (p .is) u; holds = rw (p .is) x })
+pub opened : {q : Bool} {s : List ℕ} {n i : ℕ} {o : Sort} {t : Tree} (k : ℕ) (r : Row) → HeldField q s n (refers o) i t → cellAt s i .kind ≡ k
+    → rowOf k ≡ some r → Fields q s i k r (cellAt s i) t
+opened k r (f-refers {r = q} {f = x} {g = y} {h = z} l p e m mk u v w) h g =
+    let d = sym h ∙ kind-of p in
+    let same : r ≡ q = Option·some-injective r q (sym g ∙ rw d e) in
+    rw (same, d)
+    record { a = x; b = y; c = z; is = rw (p .is, m) refl; held-a = rw (p .is) u; held-b = rw (p .is) v; held-c = rw (p .is) w }
 
-pub int-at : {s : List ℕ} {i : ℕ} {A : Ty} → HoldsType s i A → cellAt s i .kind ≡ 1 → A ≡ int
-int-at {s} {i} {A} h k = subst (TypeView s i A) k (type-view h)
+-- the row of a held cell
+pub record RowAt (q : Bool) (s : List ℕ) (i : ℕ) (o : Sort) (t : Tree) : Type 0 where
+  pub row : Row
+  pub found : rowOf (cellAt s i .kind) ≡ some row
+  pub marked : Marked q o row (cellAt s i .c) t
+  pub within : 8 * i + 8 ≤ length s
 
-pub top-at : {s : List ℕ} {i : ℕ} {A : Ty} → HoldsType s i A → cellAt s i .kind ≡ 2 → A ≡ top
-top-at {s} {i} {A} h k = subst (TypeView s i A) k (type-view h)
+pub row-at : {q : Bool} {s : List ℕ} {n i : ℕ} {o : Sort} {t : Tree} → HeldField q s n (refers o) i t → RowAt q s i o t
+row-at {q} {o = o} {t = t} (f-refers {r = r} l p e m mk u v w) =
+    record { row = r; found = rw (p .is) e; marked = subst⁻¹ (λ (x : Cell). Marked q o r (x .c) t) (p .is) mk; within = p .within }
 
-pub arrow-at : {s : List ℕ} {i : ℕ} {A : Ty} → HoldsType s i A → cellAt s i .kind ≡ 3 → TwoTypes s i arrow A
-arrow-at {s} {i} {A} h k = subst (TypeView s i A) k (type-view h)
+-- what stands in a field that refers is held there
+pub lower : {q : Bool} {s : List ℕ} {n x : ℕ} {o : Sort} {t : Tree} → HeldField q s n (refers o) x t → x < n
+lower (f-refers l p e m mk u v w) = l
 
-pub inter-at : {s : List ℕ} {i : ℕ} {A : Ty} → HoldsType s i A → cellAt s i .kind ≡ 4 → TwoTypes s i inter A
-inter-at {s} {i} {A} h k = subst (TypeView s i A) k (type-view h)
+pub below : {q : Bool} {s : List ℕ} {n m x : ℕ} {o : Sort} {t : Tree} → HeldField q s n (refers o) x t → x < m → HeldField q s m (refers o) x t
+below (f-refers l p e m mk u v w) h = f-refers h p e m mk u v w
 
-pub field-at : {s : List ℕ} {i : ℕ} {A : Ty} → HoldsType s i A → cellAt s i .kind ≡ 5 → OneType s i A
-field-at {s} {i} {A} h k = subst (TypeView s i A) k (type-view h)
+pub holds : {s : List ℕ} {n x : ℕ} {o : Sort} {t : Tree} → HeldField true s n (refers o) x t → Holds s o x (thing o t)
+holds {x = x} h = record { tree = _; held = below h (omega arith); is = refl }
 
--- inversion of a held term, by the kind of its cell
-pub term-kinds : {s : List ℕ} {i : ℕ} {e : Term} → HoldsTerm s i e → (16 ≤ cellAt s i .kind) × (cellAt s i .kind ≤ 25)
-term-kinds (h-var p) = rw (p .is) (omega arith)
-term-kinds (h-lit p z) = rw (p .is) (omega arith)
-term-kinds (h-unit p) = rw (p .is) (omega arith)
-term-kinds (h-anno p u v x y) = rw (p .is) (omega arith)
-term-kinds (h-app p u v x y) = rw (p .is) (omega arith)
-term-kinds (h-lam p u v w x y z) = rw (p .is) (omega arith)
-term-kinds (h-merge p u v x y) = rw (p .is) (omega arith)
-term-kinds (h-fix p u v x y) = rw (p .is) (omega arith)
-term-kinds (h-rcd p u x) = rw (p .is) (omega arith)
-term-kinds (h-proj p u x) = rw (p .is) (omega arith)
+-- what is held is held where nothing is said of sorts and marks
+pub unmarked : {q : Bool} {s : List ℕ} {n x : ℕ} {u : Use} {t : Tree} → HeldField q s n u x t → HeldField false s n u x t
+unmarked f-unused = f-unused
+unmarked f-plain = f-plain
+unmarked (f-refers l p e m mk u v w) = f-refers l p e m tt (unmarked u) (unmarked v) (unmarked w)
 
--- an annotation or a fixpoint: f e A
-pub record TermAndType (s : List ℕ) (i : ℕ) (f : Term → Ty → Term) (e : Term) : Type 0 where
-  pub term : Term
-  pub type : Ty
-  pub is : e ≡ f term type
-  pub term-lower : cellAt s i .a < i
-  pub type-lower : cellAt s i .b < i
-  pub holds-term : HoldsTerm s (cellAt s i .a) term
-  pub holds-type : HoldsType s (cellAt s i .b) type
+pub plain-at : {q : Bool} {s : List ℕ} {n x : ℕ} {t : Tree} → HeldField q s n plain x t → plainOf t ≡ x
+unfolding plainOf
+plain-at f-plain = refl
 
--- an application or a merge: f e g
-pub record TwoTerms (s : List ℕ) (i : ℕ) (f : Term → Term → Term) (e : Term) : Type 0 where
-  pub first : Term
-  pub second : Term
-  pub is : e ≡ f first second
-  pub first-lower : cellAt s i .a < i
-  pub second-lower : cellAt s i .b < i
-  pub holds-first : HoldsTerm s (cellAt s i .a) first
-  pub holds-second : HoldsTerm s (cellAt s i .b) second
+module _ {s : List ℕ} {i : ℕ} {o : Sort} {x : Thing o} (h : Holds s o i x) where
+  pub whole : Fields true s i (cellAt s i .kind) (row-at (h .held) .row) (cellAt s i) (h .tree)
+  whole = opened _ _ (h .held) refl (row-at (h .held) .found)
 
-pub record FunctionAt (s : List ℕ) (i : ℕ) (e : Term) : Type 0 where
-  pub body : Term
-  pub input : Ty
-  pub output : Ty
-  pub is : e ≡ lam body input output
-  pub body-lower : cellAt s i .a < i
-  pub input-lower : cellAt s i .b < i
-  pub output-lower : cellAt s i .c < i
-  pub holds-body : HoldsTerm s (cellAt s i .a) body
-  pub holds-input : HoldsType s (cellAt s i .b) input
-  pub holds-output : HoldsType s (cellAt s i .c) output
+  -- every held cell lies within the buffer
+  pub held-within : 8 * i + 8 ≤ length s
+  held-within = row-at (h .held) .within
 
--- a record or a field read: f l e
-pub record OneTerm (s : List ℕ) (i : ℕ) (f : ℕ → Term → Term) (e : Term) : Type 0 where
-  pub term : Term
-  pub is : e ≡ f (cellAt s i .label) term
-  pub lower : cellAt s i .a < i
-  pub holds : HoldsTerm s (cellAt s i .a) term
+  -- the inversion, by the kind
+  pub by-row : {k : ℕ} {r : Row} → cellAt s i .kind ≡ k → rowOf k ≡ some r → Fields true s i k r (cellAt s i) (h .tree)
+  by-row k e = opened _ _ (h .held) k e
 
--- what a held term is, by its kind less 16
-abbrev TermView : List ℕ → ℕ → Term → ℕ → Type 0
-TermView s i e zero = e ≡ var (cellAt s i .a)
-TermView s i e (suc zero) = e ≡ lit (signed half (cellAt s i .b + 65536 * cellAt s i .c))
-TermView s i e (suc (suc zero)) = e ≡ unit
-TermView s i e (suc (suc (suc zero))) = TermAndType s i anno e
-TermView s i e (suc (suc (suc (suc zero)))) = TwoTerms s i app e
-TermView s i e (suc (suc (suc (suc (suc zero))))) = FunctionAt s i e
-TermView s i e (suc (suc (suc (suc (suc (suc zero)))))) = TwoTerms s i merge e
-TermView s i e (suc (suc (suc (suc (suc (suc (suc zero))))))) = TermAndType s i fix e
-TermView s i e (suc (suc (suc (suc (suc (suc (suc (suc zero)))))))) = OneTerm s i rcd e
-TermView s i e (suc (suc (suc (suc (suc (suc (suc (suc (suc zero))))))))) = OneTerm s i proj e
-TermView s i e (suc (suc (suc (suc (suc (suc (suc (suc (suc (suc k)))))))))) = ⊥
+-- one cell holds one tree
+pub field-one : {q : Bool} {s : List ℕ} {n m x : ℕ} {u : Use} {f g : Tree} → HeldField q s n u x f → HeldField q s m u x g → f ≡ g
+field-one f-unused f-unused = refl
+field-one f-plain f-plain = refl
+field-one (f-refers {k = k} {r = r} l p e m mk u v w) h =
+    let z = opened k r h (kind-of p) e in
+    cc (
+      m,
+      field-one u (rw (p .is) at (z .held-a)),
+      field-one v (rw (p .is) at (z .held-b)),
+      field-one w (rw (p .is) at (z .held-c)),
+      rw (p .is) at (z .is),
+    )
 
-abbrev TermSeen : List ℕ → ℕ → Term → ℕ → Type 0
-TermSeen s i e k = TermView s i e (k - 16)
+pub held-one : {s : List ℕ} {i : ℕ} {o : Sort} {x y : Thing o} → Holds s o i x → Holds s o i y → x ≡ y
+held-one {o = o} h k = h .is ∙ ap (thing o) (field-one (h .held) (k .held)) ∙ sym (k .is)
 
-term-and-type : {s : List ℕ} {i k l a b c : ℕ} {e : Term} {A : Ty} (f : Term → Ty → Term) → IsCell s i k l a b c → a < i → b < i
-    → HoldsTerm s a e → HoldsType s b A → TermAndType s i f (f e A)
-term-and-type f p u v x y =
-    record { term = _; type = _; is = refl; term-lower = rw (p .is) u; type-lower = rw (p .is) v; holds-term = rw (p .is) x; holds-type = rw (p .is) y }
+pub type-mark : {s : List ℕ} {i : ℕ} {A : Ty} → HoldsType s i A → cellAt s i .c ≡ mark A
+type-mark h = row-at (h .held) .marked .1 ∙ ap mark (sym (h .is))
 
-two-terms : {s : List ℕ} {i k l a b c : ℕ} {e g : Term} (f : Term → Term → Term) → IsCell s i k l a b c → a < i → b < i
-    → HoldsTerm s a e → HoldsTerm s b g → TwoTerms s i f (f e g)
-two-terms f p u v x y =
-    record { first = _; second = _; is = refl; first-lower = rw (p .is) u; second-lower = rw (p .is) v; holds-first = rw (p .is) x; holds-second = rw (p .is) y }
+-- ---- inversion by the kind of the cell: the row, and what toType and toTerm compute for it
 
-one-term : {s : List ℕ} {i k l a b c : ℕ} {e : Term} (f : ℕ → Term → Term) → IsCell s i k l a b c → a < i → HoldsTerm s a e
-    → OneTerm s i f (f l e)
-one-term {e = e} f p u x = record { term = e; is = rw (p .is); lower = rw (p .is) u; holds = rw (p .is) x }
+abbrev pub TwoTypes : List ℕ → ℕ → (Ty → Ty → Ty) → Ty → Type 0
+TwoTypes s i = Two (Holds s) (cellAt s i) i type-sort
 
-term-view : {s : List ℕ} {i : ℕ} {e : Term} → HoldsTerm s i e → TermSeen s i e (cellAt s i .kind)
-term-view {s} {i} (h-var {a = a} p) = subst⁻¹ (TermSeen s i (var a)) (kind-of p) (rw (p .is))
-term-view {s} {i} (h-lit {z = z} p h) = subst⁻¹ (TermSeen s i (lit z)) (kind-of p) (rw (p .is) (ap lit h))
-term-view {s} {i} (h-unit p) = subst⁻¹ (TermSeen s i unit) (kind-of p) refl
-term-view {s} {i} (h-anno {e = e} {A = A} p u v x y) = subst⁻¹ (TermSeen s i (anno e A)) (kind-of p) (term-and-type anno p u v x y)
-term-view {s} {i} (h-app {e = e} {f = f} p u v x y) = subst⁻¹ (TermSeen s i (app e f)) (kind-of p) (two-terms app p u v x y)
-term-view {s} {i} (h-lam {e = e} {A = A} {B = B} p u v w x y z) =
-    subst⁻¹ (TermSeen s i (lam e A B)) (kind-of p)
-    (record {
-      body = e;
-      input = A;
-      output = B;
-      is = refl;
-      body-lower = rw (p .is) u;
-      input-lower = rw (p .is) v;
-      output-lower = rw (p .is) w;
-      holds-body = rw (p .is) x;
-      holds-input = rw (p .is) y;
-      holds-output = rw (p .is) z;
-    })
-term-view {s} {i} (h-merge {e = e} {f = f} p u v x y) = subst⁻¹ (TermSeen s i (merge e f)) (kind-of p) (two-terms merge p u v x y)
-term-view {s} {i} (h-fix {e = e} {A = A} p u v x y) = subst⁻¹ (TermSeen s i (fix e A)) (kind-of p) (term-and-type fix p u v x y)
-term-view {s} {i} (h-rcd {l = l} {e = e} p u x) = subst⁻¹ (TermSeen s i (rcd l e)) (kind-of p) (one-term rcd p u x)
-term-view {s} {i} (h-proj {l = l} {e = e} p u x) = subst⁻¹ (TermSeen s i (proj l e)) (kind-of p) (one-term proj p u x)
+abbrev pub TwoTerms : List ℕ → ℕ → (Term → Term → Term) → Term → Type 0
+TwoTerms s i = Two (Holds s) (cellAt s i) i term-sort
 
-pub var-at : {s : List ℕ} {i : ℕ} {e : Term} → HoldsTerm s i e → cellAt s i .kind ≡ 16 → e ≡ var (cellAt s i .a)
-var-at {s} {i} {e} h k = subst (TermSeen s i e) k (term-view h)
+abbrev pub TermAndType : List ℕ → ℕ → (Term → Ty → Term) → Term → Type 0
+TermAndType s i = Shapes.TermAndType (Holds s) (cellAt s i) i
 
-pub lit-at : {s : List ℕ} {i : ℕ} {e : Term} → HoldsTerm s i e → cellAt s i .kind ≡ 17 → e ≡ lit (signed half (cellAt s i .b + 65536 * cellAt s i .c))
-lit-at {s} {i} {e} h k = subst (TermSeen s i e) k (term-view h)
+abbrev pub OneType : List ℕ → ℕ → Ty → Type 0
+OneType s i = Shapes.OneType (Holds s) (cellAt s i) i
 
-pub unit-at : {s : List ℕ} {i : ℕ} {e : Term} → HoldsTerm s i e → cellAt s i .kind ≡ 18 → e ≡ unit
-unit-at {s} {i} {e} h k = subst (TermSeen s i e) k (term-view h)
+abbrev pub OneTerm : List ℕ → ℕ → (ℕ → Term → Term) → Term → Type 0
+OneTerm s i = Shapes.OneTerm (Holds s) (cellAt s i) i
 
-pub anno-at : {s : List ℕ} {i : ℕ} {e : Term} → HoldsTerm s i e → cellAt s i .kind ≡ 19 → TermAndType s i anno e
-anno-at {s} {i} {e} h k = subst (TermSeen s i e) k (term-view h)
+abbrev pub FunctionAt : List ℕ → ℕ → Term → Type 0
+FunctionAt s i = Shapes.FunctionAt (Holds s) (cellAt s i) i
 
-pub fix-at : {s : List ℕ} {i : ℕ} {e : Term} → HoldsTerm s i e → cellAt s i .kind ≡ 23 → TermAndType s i fix e
-fix-at {s} {i} {e} h k = subst (TermSeen s i e) k (term-view h)
+two : {s : List ℕ} {i : ℕ} {o : Sort} {x : Thing o} (f : Thing o → Thing o → Thing o) {t u : Tree} →
+    x ≡ f (thing o t) (thing o u) → HeldField true s i (refers o) (cellAt s i .a) t → HeldField true s i (refers o) (cellAt s i .b) u → Two (Holds s) (cellAt s i) i o f x
+two f q h k =
+    record { first = _; second = _; is = q; first-lower = lower h; second-lower = lower k; holds-first = holds h; holds-second = holds k }
 
-pub app-at : {s : List ℕ} {i : ℕ} {e : Term} → HoldsTerm s i e → cellAt s i .kind ≡ 20 → TwoTerms s i app e
-app-at {s} {i} {e} h k = subst (TermSeen s i e) k (term-view h)
+term-and-type : {s : List ℕ} {i : ℕ} {e : Term} (f : Term → Ty → Term) {t u : Tree} →
+    e ≡ f (toTerm t) (toType u) → HeldField true s i (refers term-sort) (cellAt s i .a) t → HeldField true s i (refers type-sort) (cellAt s i .b) u → TermAndType s i f e
+term-and-type f q h k =
+    record { term = _; type = _; is = q; term-lower = lower h; type-lower = lower k; holds-term = holds h; holds-type = holds k }
 
-pub merge-at : {s : List ℕ} {i : ℕ} {e : Term} → HoldsTerm s i e → cellAt s i .kind ≡ 22 → TwoTerms s i merge e
-merge-at {s} {i} {e} h k = subst (TermSeen s i e) k (term-view h)
+one-term : {s : List ℕ} {i : ℕ} {e : Term} (f : ℕ → Term → Term) {t : Tree} →
+    e ≡ f (cellAt s i .label) (toTerm t) → HeldField true s i (refers term-sort) (cellAt s i .a) t → OneTerm s i f e
+one-term f q h = record { term = _; is = q; lower = lower h; holds = holds h }
 
-pub lam-at : {s : List ℕ} {i : ℕ} {e : Term} → HoldsTerm s i e → cellAt s i .kind ≡ 21 → FunctionAt s i e
-lam-at {s} {i} {e} h k = subst (TermSeen s i e) k (term-view h)
+module _ {s : List ℕ} {i : ℕ} {A : Ty} (h : HoldsType s i A) where
+  pub int-at : cellAt s i .kind ≡ 1 → A ≡ int
+  unfolding table rowIn rowOf toType
+  int-at k = h .is ∙ ap toType (by-row h k refl .is)
 
-pub rcd-at : {s : List ℕ} {i : ℕ} {e : Term} → HoldsTerm s i e → cellAt s i .kind ≡ 24 → OneTerm s i rcd e
-rcd-at {s} {i} {e} h k = subst (TermSeen s i e) k (term-view h)
+  pub top-at : cellAt s i .kind ≡ 2 → A ≡ top
+  unfolding table rowIn rowOf toType
+  top-at k = h .is ∙ ap toType (by-row h k refl .is)
 
-pub proj-at : {s : List ℕ} {i : ℕ} {e : Term} → HoldsTerm s i e → cellAt s i .kind ≡ 25 → OneTerm s i proj e
-proj-at {s} {i} {e} h k = subst (TermSeen s i e) k (term-view h)
+  pub arrow-at : cellAt s i .kind ≡ 3 → TwoTypes s i arrow A
+  unfolding table rowIn rowOf toType
+  arrow-at k = let w = by-row h k refl in two {o = type-sort} arrow (h .is ∙ ap toType (w .is)) (w .held-a) (w .held-b)
 
--- framing: what lies below n stays held
+  pub inter-at : cellAt s i .kind ≡ 4 → TwoTypes s i inter A
+  unfolding table rowIn rowOf toType
+  inter-at k = let w = by-row h k refl in two {o = type-sort} inter (h .is ∙ ap toType (w .is)) (w .held-a) (w .held-b)
+
+  pub field-at : cellAt s i .kind ≡ 5 → OneType s i A
+  unfolding table rowIn rowOf toType
+  field-at k = let w = by-row h k refl in record { content = _; is = h .is ∙ ap toType (w .is); lower = lower (w .held-a); holds = holds (w .held-a) }
+
+module _ {s : List ℕ} {i : ℕ} {e : Term} (h : HoldsTerm s i e) where
+  pub var-at : cellAt s i .kind ≡ 16 → e ≡ var (cellAt s i .a)
+  unfolding table rowIn rowOf toTerm plainOf
+  var-at k = let w = by-row h k refl in h .is ∙ ap toTerm (w .is) ∙ ap var (plain-at (w .held-a))
+
+  pub lit-at : cellAt s i .kind ≡ 17 → e ≡ lit (signed half (cellAt s i .b + 65536 * cellAt s i .c))
+  unfolding table rowIn rowOf toTerm plainOf
+  lit-at k = let w = by-row h k refl in
+      h .is ∙ ap toTerm (w .is) ∙ ap (λ n. lit (signed half n)) (omega (arith, plain-at (w .held-b), plain-at (w .held-c)))
+
+  pub unit-at : cellAt s i .kind ≡ 18 → e ≡ unit
+  unfolding table rowIn rowOf toTerm
+  unit-at k = h .is ∙ ap toTerm (by-row h k refl .is)
+
+  pub anno-at : cellAt s i .kind ≡ 19 → TermAndType s i anno e
+  unfolding table rowIn rowOf toTerm
+  anno-at k = let w = by-row h k refl in term-and-type anno (h .is ∙ ap toTerm (w .is)) (w .held-a) (w .held-b)
+
+  pub app-at : cellAt s i .kind ≡ 20 → TwoTerms s i app e
+  unfolding table rowIn rowOf toTerm
+  app-at k = let w = by-row h k refl in two {o = term-sort} app (h .is ∙ ap toTerm (w .is)) (w .held-a) (w .held-b)
+
+  pub lam-at : cellAt s i .kind ≡ 21 → FunctionAt s i e
+  unfolding table rowIn rowOf toTerm
+  lam-at k = let w = by-row h k refl in record {
+    body = _;
+    input = _;
+    output = _;
+    is = h .is ∙ ap toTerm (w .is);
+    body-lower = lower (w .held-a);
+    input-lower = lower (w .held-b);
+    output-lower = lower (w .held-c);
+    holds-body = holds (w .held-a);
+    holds-input = holds (w .held-b);
+    holds-output = holds (w .held-c);
+  }
+
+  pub merge-at : cellAt s i .kind ≡ 22 → TwoTerms s i merge e
+  unfolding table rowIn rowOf toTerm
+  merge-at k = let w = by-row h k refl in two {o = term-sort} merge (h .is ∙ ap toTerm (w .is)) (w .held-a) (w .held-b)
+
+  pub fix-at : cellAt s i .kind ≡ 23 → TermAndType s i fix e
+  unfolding table rowIn rowOf toTerm
+  fix-at k = let w = by-row h k refl in term-and-type fix (h .is ∙ ap toTerm (w .is)) (w .held-a) (w .held-b)
+
+  pub rcd-at : cellAt s i .kind ≡ 24 → OneTerm s i rcd e
+  unfolding table rowIn rowOf toTerm
+  rcd-at k = let w = by-row h k refl in one-term rcd (h .is ∙ ap toTerm (w .is)) (w .held-a)
+
+  pub proj-at : cellAt s i .kind ≡ 25 → OneTerm s i proj e
+  unfolding table rowIn rowOf toTerm
+  proj-at k = let w = by-row h k refl in one-term proj (h .is ∙ ap toTerm (w .is)) (w .held-a)
+
+-- ---- the kind of a held cell
+
+-- every row of a list passes a test
+abbrev pub allRows : (Row → Bool) → List Row → Bool
+allRows q [] = true
+allRows q (r ∷ rs) = q r && allRows q rs
+
+rows-pass : (q : Row → Bool) (rs : List Row) → T (allRows q rs) → All (λ r. T (q r)) rs
+rows-pass q [] h = tt
+rows-pass q (r ∷ rs) h = let k = T-and (q r) (allRows q rs) .0 h in (k .0, rows-pass q rs (k .1))
+
+-- what a test of every row of the table says of the row of a kind
+pub row-passes : (q : Row → Bool) → T (allRows q table) → (k : ℕ) (r : Row) → rowOf k ≡ some r → (k ≡ r .kind) × T (q r)
+unfolding rowOf
+row-passes q t k r e = view (λ r. T (q r)) table (rows-pass q table t) k r e
+
+-- 1 to 5, 16 to 25
+abbrev pub firstKind : Sort → ℕ
+firstKind type-sort = 1
+firstKind term-sort = 16
+
+abbrev pub lastKind : Sort → ℕ
+lastKind type-sort = 5
+lastKind term-sort = 25
+
+abbrev kindTest : (r : Row) → Test ((firstKind (r .sort) ≤ r .kind) × (r .kind ≤ lastKind (r .sort)))
+kindTest r = at-most (firstKind (r .sort)) (r .kind) and at-most (r .kind) (lastKind (r .sort))
+
+pub in-range : (k : ℕ) (r : Row) {o : Sort} → rowOf k ≡ some r → r .sort ≡ o → (firstKind o ≤ k) × (k ≤ lastKind o)
+unfolding table
+in-range k r e q =
+    let v = row-passes (λ r. kindTest r .0) tt k r e in
+    rw (v .0, ← q) (kindTest r .1 .0 (v .1))
+
+pub held-kinds : {s : List ℕ} {i : ℕ} {o : Sort} {x : Thing o} → Holds s o i x → (firstKind o ≤ cellAt s i .kind) × (cellAt s i .kind ≤ lastKind o)
+held-kinds {s} {i} h = let w = row-at (h .held) in in-range (cellAt s i .kind) (w .row) (w .found) (w .marked .0)
+
+-- what a cell holds tells its kind
+abbrev pub kindOf : (o : Sort) → Thing o → ℕ
+kindOf type-sort A = kindIn (fromType A)
+kindOf term-sort e = kindIn (fromTerm e)
+
+abbrev KindBack : Row → Type 0
+KindBack r = (l : ℕ) (a b c : Tree) → kindOf (r .sort) (thing (r .sort) (node (r .kind) l a b c)) ≡ r .kind
+
+rows : All KindBack table
+unfolding table toType toTerm fromType fromTerm kindIn
+rows =
+    (λ l a b c. refl) also (λ l a b c. refl) also (λ l a b c. refl) also (λ l a b c. refl) also (λ l a b c. refl)
+    also (λ l a b c. refl) also (λ l a b c. refl) also (λ l a b c. refl) also (λ l a b c. refl) also (λ l a b c. refl)
+    also (λ l a b c. refl) also (λ l a b c. refl) also (λ l a b c. refl) also (λ l a b c. refl) also (λ l a b c. refl)
+    also tt
+
+kind-back : (k : ℕ) (r : Row) {o : Sort} → rowOf k ≡ some r → r .sort ≡ o → (l : ℕ) (a b c : Tree) → kindOf o (thing o (node k l a b c)) ≡ k
+unfolding rowOf
+kind-back k r e q = let v = view KindBack table rows k r e in rw (v .0, ← q) (v .1)
+
+pub kind-of-held : {s : List ℕ} {i : ℕ} {o : Sort} {x : Thing o} → Holds s o i x → cellAt s i .kind ≡ kindOf o x
+kind-of-held {s} {i} {o} h =
+    let w = row-at (h .held) in
+    sym (ap (kindOf o) (h .is ∙ ap (thing o) (whole h .is)) ∙ kind-back (cellAt s i .kind) (w .row) (w .found) (w .marked .0) _ _ _ _)
+
+-- framing: what lies in cells that are the same stays held
+pub kept-cell : {s t : List ℕ} {i k l a b c : ℕ} → length t ≡ length s → cellAt t i ≡ cellAt s i → IsCell s i k l a b c → IsCell t i k l a b c
+kept-cell n e p = record { within = rw n (p .within); is = e ∙ p .is }
+
+pub kept-field : {q : Bool} {s t : List ℕ} {n x : ℕ} {u : Use} {f : Tree} → length t ≡ length s → ((i : ℕ) → i < n → cellAt t i ≡ cellAt s i)
+    → HeldField q s n u x f → HeldField q t n u x f
+kept-field n w f-unused = f-unused
+kept-field n w f-plain = f-plain
+kept-field n w (f-refers {x = x} l p e m k f g h) =
+    let low : (i : ℕ) → i < x → _ = λ i y. w i (omega arith) in
+    f-refers l (kept-cell n (w x l) p) e m k (kept-field n low f) (kept-field n low g) (kept-field n low h)
+
 pub same-refl : (s : List ℕ) (n : ℕ) → Same s s n
 same-refl s n = record { long = refl; below = refl }
 
@@ -274,33 +310,17 @@ same-cell {s} {t} {n} {i} p h =
     }
 
 pub same-is : {s t : List ℕ} {n i k l a b c : ℕ} → Same s t n → i < n → IsCell s i k l a b c → IsCell t i k l a b c
-same-is p h x = record { within = rw (p .long) (x .within); is = same-cell p h ∙ x .is }
+same-is p h x = kept-cell (p .long) (same-cell p h) x
 
-pub same-type : {s t : List ℕ} {n i : ℕ} {A : Ty} → Same s t n → i < n → HoldsType s i A → HoldsType t i A
-same-type p h (h-int x c) = h-int (same-is p h x) c
-same-type p h (h-top x c) = h-top (same-is p h x) c
-same-type p h (h-arrow x c u v y z) =
-    h-arrow (same-is p h x) c u v (same-type p (omega arith) y) (same-type p (omega arith) z)
-same-type p h (h-inter x c u v y z) =
-    h-inter (same-is p h x) c u v (same-type p (omega arith) y) (same-type p (omega arith) z)
-same-type p h (h-field x c u y) = h-field (same-is p h x) c u (same-type p (omega arith) y)
+pub same-field : {q : Bool} {s t : List ℕ} {m n x : ℕ} {u : Use} {f : Tree} → Same s t m → n ≤ m → HeldField q s n u x f → HeldField q t n u x f
+same-field p h k = kept-field (p .long) (λ i l. same-cell p (omega arith)) k
 
-pub same-term : {s t : List ℕ} {n i : ℕ} {e : Term} → Same s t n → i < n → HoldsTerm s i e → HoldsTerm t i e
-same-term p h (h-var x) = h-var (same-is p h x)
-same-term p h (h-lit x z) = h-lit (same-is p h x) z
-same-term p h (h-unit x) = h-unit (same-is p h x)
-same-term p h (h-anno x u v y z) = h-anno (same-is p h x) u v (same-term p (omega arith) y) (same-type p (omega arith) z)
-same-term p h (h-app x u v y z) = h-app (same-is p h x) u v (same-term p (omega arith) y) (same-term p (omega arith) z)
-same-term p h (h-lam x u v w y z o) =
-    h-lam (same-is p h x) u v w (same-term p (omega arith) y) (same-type p (omega arith) z) (same-type p (omega arith) o)
-same-term p h (h-merge x u v y z) = h-merge (same-is p h x) u v (same-term p (omega arith) y) (same-term p (omega arith) z)
-same-term p h (h-fix x u v y z) = h-fix (same-is p h x) u v (same-term p (omega arith) y) (same-type p (omega arith) z)
-same-term p h (h-rcd x u y) = h-rcd (same-is p h x) u (same-term p (omega arith) y)
-same-term p h (h-proj x u y) = h-proj (same-is p h x) u (same-term p (omega arith) y)
+pub same-held : {s t : List ℕ} {n i : ℕ} {o : Sort} {x : Thing o} → Same s t n → i < n → Holds s o i x → Holds t o i x
+same-held p h k = record { tree = k .tree; held = same-field p (omega arith) (k .held); is = k .is }
 
 pub same-context : {s t : List ℕ} {n i : ℕ} {Γ : List Ty} → Same s t n → i < n → HoldsContext s i Γ → HoldsContext t i Γ
 same-context p h h-empty = h-empty
-same-context p h (h-bind x u v y z) = h-bind (same-is p h x) u v (same-type p (omega arith) y) (same-context p (omega arith) z)
+same-context p h (h-bind x u v y z) = h-bind (same-is p h x) u v (same-held p (omega arith) y) (same-context p (omega arith) z)
 
 -- a cell that was written is there, and the cells below it are as they were
 pub record Written (s t : List ℕ) (n : ℕ) (x : Cell) : Type 0 where
@@ -330,48 +350,3 @@ written {s} {t} {n} x h e =
           starts = length-take-le (8 * n) s (omega arith);
           split = e ∙ sets-eq (cellBytes x) s (8 * n) h ∙ append-assoc (take (8 * n) s) (cellBytes x) (drop (8 * n + 8) s);
         }
-
--- one cell holds one type, and one term
-pub type-one : {s : List ℕ} {i : ℕ} {A B : Ty} → HoldsType s i A → HoldsType s i B → A ≡ B
-type-one (h-int p c) k = sym (int-at k (kind-of p))
-type-one (h-top p c) k = sym (top-at k (kind-of p))
-type-one (h-arrow p c u v x y) k =
-    let w = arrow-at k (kind-of p) in
-    cc (type-one x (rw (p .is) at (w .holds-first)), type-one y (rw (p .is) at (w .holds-second)), w .is)
-type-one (h-inter p c u v x y) k =
-    let w = inter-at k (kind-of p) in
-    cc (type-one x (rw (p .is) at (w .holds-first)), type-one y (rw (p .is) at (w .holds-second)), w .is)
-type-one (h-field p c u x) k =
-    let w = field-at k (kind-of p) in
-    cc (type-one x (rw (p .is) at (w .holds)), rw (p .is) at (w .is))
-
-pub term-one : {s : List ℕ} {i : ℕ} {e f : Term} → HoldsTerm s i e → HoldsTerm s i f → e ≡ f
-term-one (h-var p) k = sym (rw (p .is) at (var-at k (kind-of p)))
-term-one (h-lit p z) k = ap lit z ∙ sym (rw (p .is) at (lit-at k (kind-of p)))
-term-one (h-unit p) k = sym (unit-at k (kind-of p))
-term-one (h-anno p u v x y) k =
-    let w = anno-at k (kind-of p) in
-    cc (term-one x (rw (p .is) at (w .holds-term)), type-one y (rw (p .is) at (w .holds-type)), w .is)
-term-one (h-app p u v x y) k =
-    let w = app-at k (kind-of p) in
-    cc (term-one x (rw (p .is) at (w .holds-first)), term-one y (rw (p .is) at (w .holds-second)), w .is)
-term-one (h-lam p u v h x y z) k =
-    let w = lam-at k (kind-of p) in
-    cc (
-      term-one x (rw (p .is) at (w .holds-body)),
-      type-one y (rw (p .is) at (w .holds-input)),
-      type-one z (rw (p .is) at (w .holds-output)),
-      w .is,
-    )
-term-one (h-merge p u v x y) k =
-    let w = merge-at k (kind-of p) in
-    cc (term-one x (rw (p .is) at (w .holds-first)), term-one y (rw (p .is) at (w .holds-second)), w .is)
-term-one (h-fix p u v x y) k =
-    let w = fix-at k (kind-of p) in
-    cc (term-one x (rw (p .is) at (w .holds-term)), type-one y (rw (p .is) at (w .holds-type)), w .is)
-term-one (h-rcd p u x) k =
-    let w = rcd-at k (kind-of p) in
-    cc (term-one x (rw (p .is) at (w .holds)), rw (p .is) at (w .is))
-term-one (h-proj p u x) k =
-    let w = proj-at k (kind-of p) in
-    cc (term-one x (rw (p .is) at (w .holds)), rw (p .is) at (w .is))

@@ -1,3 +1,9 @@
+pub mod Shapes
 pub mod Held
+pub mod Forms
+pub mod Makes
+pub mod Back
+pub mod Inside
+pub mod Rows
 pub mod Table
 pub mod Written

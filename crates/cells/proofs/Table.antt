@@ -7,7 +7,7 @@ use mathlib.Core.Path.{_≡_}
 use mathlib.Core.List.{List, [], _∷_}
 use mathlib.Core.Option.{Option}
 use lib.ListN.{getD}
-use Rattle.format.specs.Table.{Row, rowOf}
+use Rattle.format.specs.Table.{Sort, type-sort, term-sort, Use, unused, plain, refers, Row, rowOf}
 use Rattle.cells.specs.declared.Entry.{Entry}
 use Rattle.cells.specs.Coded.{rowFrom, placeOf}
 
@@ -20,9 +20,22 @@ at : (f g : ℕ → Option Row) (n : ℕ) → run f n ≡ run g n → (k : ℕ) 
 at f g zero q k h = absurd (omega arith)
 at f g (suc n) q k h = elim (decLt k n) [ yes p ↦ at f g n (cc) k p | no p ↦ let e : k ≡ n = omega arith in rw e cc ]
 
--- a row as the code has it, an octal digit for each of sort, label, a, b and c
-abbrev pub digits : (s l a b c : ℕ) → ℕ
-digits s l a b c = (((s * 8 + l) * 8 + a) * 8 + b) * 8 + c
+abbrev sortDigit : Sort → ℕ
+sortDigit type-sort = 2
+sortDigit term-sort = 3
+
+abbrev useDigit : Use → ℕ
+useDigit unused = 0
+useDigit plain = 1
+useDigit (refers o) = sortDigit o
+
+-- A row as the code has it, an octal digit for each of sort, label, a, b and c.
+abbrev line : Row → ℕ
+line r = (((sortDigit (r .sort) * 8 + useDigit (r .label)) * 8 + useDigit (r .a)) * 8 + useDigit (r .b)) * 8 + useDigit (r .c)
+
+abbrev pub lines : List Row → List ℕ
+lines [] = []
+lines (r ∷ rs) = line r ∷ lines rs
 
 abbrev entryOf : ℕ → Entry
 entryOf x = record { sort = x / 4096 % 8; label = x / 512 % 8; a = x / 64 % 8; b = x / 8 % 8; c = x % 8 }

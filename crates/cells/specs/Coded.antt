@@ -8,6 +8,7 @@ use Rattle.format.specs.Table.{Sort, type-sort, term-sort, Use, unused, plain, 
 use Rattle.cells.specs.declared.Cell.{Cell}
 use Rattle.cells.specs.declared.Entry.{Entry}
 
+-- The code's cell, as the format's.
 abbrev pub asCell : Cell → Format.Cell
 asCell t = record { kind = t .kind; label = t .label; a = t .a; b = t .b; c = t .c }
 
@@ -31,6 +32,7 @@ sortOf (suc zero) = none
 sortOf (suc (suc zero)) = some type-sort
 sortOf (suc (suc (suc n))) = some term-sort
 
+-- An entry of the code's table with its sort, as a row; none of an unknown kind.
 abbrev rowWith : ℕ → Entry → Option Sort → Option Row
 rowWith k e none = none
 rowWith k e (some t) = some (record { kind = k; sort = t; label = useOf (e .label); a = useOf (e .a); b = useOf (e .b); c = useOf (e .c) })

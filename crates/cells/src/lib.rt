@@ -5,7 +5,7 @@ ghost use mathlib.Core.List.{[], _∷_};
 ghost use lib.ListN.{length};
 ghost use lib.Seq.{sets};
 ghost use Rattle.format.specs.Cell.{pair, cellAt, cellBytes};
-ghost use Rattle.format.specs.Table.{rowOf};
+ghost use Rattle.format.specs.Table.{rowOf, inside};
 ghost use Rattle.cells.specs.Coded.{asCell, CellFits, placeOf, rowFrom};
 
 // A cell: kind, label and the fields a, b, c.
@@ -76,24 +76,61 @@ pub struct Entry {
     pub c: u8,
 }
 
-// The unknown kinds, kinds 1 to 5, kinds 16 to 25: a row is sort, label, a, b, c, a digit each.
+// A line of the table of kinds is a sum: the sort of the kind, whether it has a label, and what stands in each field that it names.
+const TYPE: u16 = 0o20000;
+
+const TERM: u16 = 0o30000;
+
+const LABEL: u16 = 0o1000;
+
+const A_NUMBER: u16 = 0o100;
+
+const A_TYPE: u16 = 0o200;
+
+const A_TERM: u16 = 0o300;
+
+const B_NUMBER: u16 = 0o10;
+
+const B_TYPE: u16 = 0o20;
+
+const B_TERM: u16 = 0o30;
+
+const C_NUMBER: u16 = 0o1;
+
+const C_TYPE: u16 = 0o2;
+
 const TABLE: [u16; 16] = [
-    0o00000,
-    0o20000,
-    0o20000,
-    0o20220,
-    0o20220,
-    0o21200,
-    0o30100,
-    0o30011,
-    0o30000,
-    0o30320,
-    0o30330,
-    0o30322,
-    0o30330,
-    0o30320,
-    0o31300,
-    0o31300,
+    // every other kind
+    0,
+    // 1, 2: Int, Top
+    TYPE,
+    TYPE,
+    // 3: function type, a input, b output
+    TYPE + A_TYPE + B_TYPE,
+    // 4: intersection
+    TYPE + A_TYPE + B_TYPE,
+    // 5: record type
+    TYPE + LABEL + A_TYPE,
+    // 16: variable
+    TERM + A_NUMBER,
+    // 17: number, in b and c
+    TERM + B_NUMBER + C_NUMBER,
+    // 18: top value
+    TERM,
+    // 19: annotation
+    TERM + A_TERM + B_TYPE,
+    // 20: application
+    TERM + A_TERM + B_TERM,
+    // 21: function, a body, b input, c output
+    TERM + A_TERM + B_TYPE + C_TYPE,
+    // 22: merge
+    TERM + A_TERM + B_TERM,
+    // 23: fixpoint, a body
+    TERM + A_TERM + B_TYPE,
+    // 24: record
+    TERM + LABEL + A_TERM,
+    // 25: field read
+    TERM + LABEL + A_TERM,
 ];
 
 // The place of a kind in the table.
@@ -118,5 +155,16 @@ pub fn entry_of(kind: u8) -> Entry
         a: (line / 64 % 8) as u8,
         b: (line / 8 % 8) as u8,
         c: (line % 8) as u8,
+    }
+}
+
+// How many binders are over field a of a term of this kind that is under k: a function and a fixpoint bind one.
+pub fn binders(kind: u8, k: usize) -> usize
+    requires { ⌜ k < 131072 ⌝ }
+    ensures { λ r. ⌜ r ≡ inside kind k ⌝ }
+{
+    match kind {
+        21 | 23 => k + 1,
+        _ => k,
     }
 }

@@ -1,12 +1,11 @@
 -- The value of every answer fits 32 bits. Assumes nothing.
-use Prim.Native.Nat.{ℕ, zero, suc, _+_, _%_, _<_, _≤_}
+use Prim.Native.Nat.{ℕ, _+_, _%_, _<_, _≤_}
 use mathlib.Core.Path.{_≡_, refl, sym, ap, subst, _∙_}
 use mathlib.Core.Bool.{Bool, true, false}
 use mathlib.Core.Option.{Option, none, some}
 use mathlib.Core.List.{List, [], _∷_}
 use native.Mathlib.Omega.{arith}
-use borrow.Author.Tests.{ltb-true}
-use lib.Dec.{T, ltb, eqb}
+use lib.Dec.{T, eqb}
 use lib.ListN.{length}
 use Rattle.calculus.specs.Syntax.{Ty}
 use Rattle.calculus.specs.Infer as Infer
@@ -14,11 +13,12 @@ use Rattle.calculus.specs.Infer.{infer}
 use Rattle.calculus.proofs.Bools.{_and_, equal, at-most}
 use Rattle.calculus.proofs.Inference.{infer-says}
 use Rattle.calculus.proofs.Typing.{typed-size}
-use Rattle.format.specs.Cell.{IsBytes, cellAt}
+use Rattle.format.specs.Cell.{IsBytes}
 use Rattle.format.specs.Book.{Finding, formFinding, lengthOk}
 use Rattle.format.specs.Book.{rootOf, trailerAt, follow, opened, WellFormed}
 use Rattle.format.proofs.Findings.{by-rows}
 use Rattle.format.proofs.Tests.{formFinding-says, opened-small}
+use Rattle.format.proofs.Ways.{follow-down}
 use Rattle.answers.specs.Answer.{Result, result, refused}
 use Rattle.answers.specs.Engine.{IsLimit, workLength, zeros}
 use Rattle.answers.specs.Definition.{check, run, judge, afterForm, afterTyping, turnedBack, shown, reported}
@@ -47,17 +47,6 @@ names s y =
       row-9 = λ n h. root-low s y;
       row-10 = λ h. root-low s y;
     })
-
--- a way goes down
-down : (i x r : ℕ) → r ≤ x → (t : Bool) → ltb x i ≡ t → elim t [ true ↦ r | false ↦ i ] ≤ i
-down i x r h true e = omega (arith, ltb-true x i e)
-down i x r h false e = omega arith
-
-follow-down : (s : List ℕ) (i : ℕ) (p : List ℕ) → follow s i p ≤ i
-unfolding follow
-follow-down s i [] = omega arith
-follow-down s i (zero ∷ p) = down i (cellAt s i .a) _ (follow-down s (cellAt s i .a) p) (ltb (cellAt s i .a) i) refl
-follow-down s i (suc q ∷ p) = down i (cellAt s i .b) _ (follow-down s (cellAt s i .b) p) (ltb (cellAt s i .b) i) refl
 
 -- ---- both calls
 

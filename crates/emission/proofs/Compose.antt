@@ -18,7 +18,8 @@ use Rattle.format.proofs.Laying.{sets-append, length-lay}
 use Rattle.cells.specs.Coded.{useOf}
 use Rattle.cells.specs.declared.Cell.{Cell as Struct}
 use Rattle.cells.specs.declared.Entry.{Entry}
-use Rattle.emission.specs.Emits.{labelBy, Space, Emits, LastReady, Finishes, referBy, ReferReady, rowCell, RowReady}
+use Rattle.cells.specs.Held.{labelBy}
+use Rattle.emission.specs.Emits.{Space, Emits, LastReady, Finishes, referBy, ReferReady, rowCell, RowReady}
 use Rattle.emission.specs.declared.Laid.{Laid}
 use Rattle.emission.specs.declared.Laid.the-variants.{Next, Full}
 
@@ -33,7 +34,7 @@ pub record Placed (d e : List ℕ) (m x : ℕ) (t : Tree) : Type 0 where
 
 -- ---- what an answer says of the tree
 
-next-full : {r : Laid} {x : ℕ} → r ≡ Next x → r ≡ Full → ⊥
+pub next-full : {r : Laid} {x : ℕ} → r ≡ Next x → r ≡ Full → ⊥
 next-full p q = let z : _≡_ {A = ℕ} 0 1 = cc in absurd (omega arith)
 
 pub placed : {d e : List ℕ} {m x : ℕ} {r : Laid} {t : Tree} → Emits d e m r t → r ≡ Next x → Placed d e m x t
@@ -68,10 +69,6 @@ pub placed-space : {d e : List ℕ} {m x : ℕ} {t : Tree} → Space d m → Pla
 placed-space s p = record { long = omega (arith, placed-length p, s .long); used = p .fits }
 
 -- ---- what stands in a field for a tree
-
-pub refer-raw : (m x : ℕ) → x ≡ refer m (raw x)
-unfolding refer
-refer-raw m x = refl
 
 pub refer-last : {d e : List ℕ} {m x : ℕ} {t : Tree} → Placed d e m x t → 1 ≤ cells t → x - 1 ≡ refer m t
 unfolding cells refer
@@ -182,46 +179,17 @@ emits-node {d} {f} {g} {h} {e} {m} {x} {y} {z} {k} {l} {i} {j} {n} {r} {a} {b} {
         ∙ behind (lay m a) (lay x b ++ (lay y c ++ last)) d (8 * m) (p .bytes) (omega (arith, p .next, length-lay m a))
         ∙ rw (u, v, w, q .next, p .next)
 
--- The same by the row of the last cell's kind.
-module _ (t : Cell) (y : Entry) {d f g h : List ℕ} {m x v w : ℕ} {a b c : Tree} (p : Placed d f m x a) (q : Placed f g x v b) (o : Placed g h v w c)
-    (sa : Stands (useOf (y .a)) (t .a) a) (sb : Stands (useOf (y .b)) (t .b) b) (sc : Stands (useOf (y .c)) (t .c) c) where
-  pub row-ready : Space d m → (t .a < 65536) × (t .b < 65536) × (t .c < 65536) → RowReady h t y x v w
-  row-ready s l =
-      record {
-        long = placed-space (placed-space (placed-space s p) q) o .long;
-        fits = l;
-        first = refer-ready (y .a) sa p;
-        second = refer-ready (y .b) sb q;
-        third = refer-ready (y .c) sc o;
-      }
+-- A tree that does not fit.
+pub too-big : {d e : List ℕ} {m : ℕ} {t : Tree} → sizeLimit < m + cells t → Emits d e m Full t
+too-big h = record { fits = λ f. absurd (omega arith); full = λ f. refl }
 
-  pub emits-row : {e : List ℕ} {r : Laid} → Finishes h e w (rowCell t y x v w) r → Emits d e m r (node (t .kind) (labelBy (useOf (y .label)) (t .label)) a b c)
-  emits-row z = emits-node p q o (refer-stands sa p) (refer-stands sb q) (refer-stands sc o) z
-
--- One of them does not fit, so the whole does not.
-pub full-first : {d e : List ℕ} {m k l : ℕ} {r : Laid} {a b c : Tree} → sizeLimit < m + cells a → r ≡ Full → Emits d e m r (node k l a b c)
-unfolding cells
-full-first h q = record { fits = λ t. absurd (omega arith); full = λ t. q }
-
-pub full-second : {d f e : List ℕ} {m x k l : ℕ} {r : Laid} {a b c : Tree} → Placed d f m x a → sizeLimit < x + cells b → r ≡ Full
-    → Emits d e m r (node k l a b c)
-unfolding cells
-full-second p h q = record { fits = λ t. absurd (omega (arith, p .next)); full = λ t. q }
-
-pub full-third : {d f g e : List ℕ} {m x y k l : ℕ} {r : Laid} {a b c : Tree} → Placed d f m x a → Placed f g x y b → sizeLimit < y + cells c
-    → r ≡ Full → Emits d e m r (node k l a b c)
-unfolding cells
-full-third p q h w = record { fits = λ t. absurd (omega (arith, p .next, q .next)); full = λ t. w }
-
--- The same where some fields refer to nothing: two trees, one tree, none.
-pub emits-two : {d f g e : List ℕ} {m x y k l i j n : ℕ} {r : Laid} {a b : Tree} → Placed d f m x a → Placed f g x y b
-    → i ≡ refer m a → j ≡ refer x b → Finishes g e y (record { kind = k; label = l; a = i; b = j; c = n }) r → Emits d e m r (node k l a b (raw n))
-emits-two p q u v f = emits-node p q (placed-raw _ _ _ (q .fits)) u v (refer-raw _ _) f
-
-pub emits-one : {d f e : List ℕ} {m x k l i j n : ℕ} {r : Laid} {a : Tree} → Placed d f m x a → i ≡ refer m a
-    → Finishes f e x (record { kind = k; label = l; a = i; b = j; c = n }) r → Emits d e m r (node k l a (raw j) (raw n))
-emits-one p u f = emits-two p (placed-raw _ _ _ (p .fits)) u (refer-raw _ _) f
-
+-- a tree of one cell; the top value
 pub emits-leaf : {d e : List ℕ} {m k l i j n : ℕ} {r : Laid} → m ≤ sizeLimit
     → Finishes d e m (record { kind = k; label = l; a = i; b = j; c = n }) r → Emits d e m r (node k l (raw i) (raw j) (raw n))
-emits-leaf h f = emits-one (placed-raw _ _ _ h) (refer-raw _ _) f
+unfolding refer
+emits-leaf h f = emits-node (placed-raw _ _ _ h) (placed-raw _ _ _ h) (placed-raw _ _ _ h) refl refl refl f
+
+pub emits-top : {d e : List ℕ} {m : ℕ} {r : Laid} → m ≤ sizeLimit → Finishes d e m (record { kind = 18; label = 0; a = 0; b = 0; c = 0 }) r
+    → Emits d e m r (fromTerm unit)
+unfolding fromTerm
+emits-top h f = emits-leaf h f

@@ -10,23 +10,23 @@ use mathlib.Core.List.{List, [], _++_, append-assoc, append-nil}
 use mathlib.Core.Option.{Option, none, some}
 use lib.ListN.{length, length-append}
 use lib.Seq.{sets, length-sets}
-use Rattle.calculus.specs.Syntax.{Ty, Term}
-use Rattle.format.specs.Table.{Sort, type-sort, term-sort, Use, unused, plain, refers, Row, rowOf, table}
-use Rattle.format.specs.Cell.{IsBytes, Cell, cellAt, cellBytes}
+use Rattle.format.specs.Table.{Sort, Use, unused, plain, refers, Row, rowOf, table}
+use Rattle.format.specs.Cell.{Cell, cellAt, cellBytes}
 use Rattle.format.specs.Tree.{Tree, cells, refer, lay}
-use Rattle.format.specs.Terms.{fromType, fromTerm}
 use Rattle.format.specs.Book.{sizeLimit}
 use Rattle.format.proofs.Tests.{All, _also_, view}
-use Rattle.cells.specs.Coded.{CellFits, useOf, rowFrom}
+use Rattle.cells.specs.Coded.{CellFits, useOf}
 use Rattle.cells.specs.declared.Cell.{Cell as Struct}
 use Rattle.cells.specs.declared.Entry.{Entry}
-use Rattle.emission.specs.Emits.{labelBy, Space, Emits}
-use Rattle.emission.specs.Runs.{Run, r-unused, r-plain, r-refers, RunsType, RunsTerm}
+use Rattle.cells.specs.Held.{labelBy}
+use Rattle.emission.specs.Emits.{Space, Emits}
+use Rattle.emission.specs.Runs.{Run, r-unused, r-plain, r-refers}
 use Rattle.emission.specs.Copies.{renumber, Inside, RenumberReady, movedCell, OfRun, MoveReady, MovesCell, RunReady, EmitsRun, EndsAt, BeginReady, Begins, EndReady, EmitsEnd}
 use Rattle.emission.specs.declared.Laid.{Laid}
 use Rattle.emission.specs.declared.Laid.the-variants.{Next, Full}
 use Rattle.emission.proofs.Compose.{behind}
-use Rattle.emission.proofs.Emitting.{uses, fields-fit}
+use Rattle.cells.proofs.Rows.{Uses, uses}
+use Rattle.emission.proofs.Emitting.{Read, read-fits}
 use Rattle.emission.proofs.Runs.{grows, counts}
 use Rattle.emission.proofs.RunParts.{ends, whole}
 
@@ -55,37 +55,45 @@ renumber-fits (refers o) x i n m h r p = omega (arith, r, p .0, p .1)
 
 -- ---- a cell: t is cell i as it was read, y its row as the code has it
 
-module _ {s d : List ℕ} {i x m : ℕ} {t : Cell} (p : MoveReady s d i x m) (c : t ≡ cellAt s i) (y : Entry) (w : rowFrom (t .kind) y ≡ rowOf (t .kind)) where
+pub record Moving (s d : List ℕ) (i x m : ℕ) (t : Cell) (y : Entry) : Type 0 where
+  pub ready : MoveReady s d i x m
+  pub read : Read s i t y
+
+module _ {s d : List ℕ} {i x m : ℕ} {t : Cell} {y : Entry} (j : Moving s d i x m t y) where
+  row-of : {r : Row} → rowOf (cellAt s i .kind) ≡ some r → Uses y r
+  row-of {r} k = uses (t .kind) y r (j .read .row ∙ rw (j .read .cell) k)
+
+  references : Inside (useOf (y .a)) x i (t .a) × Inside (useOf (y .b)) x i (t .b) × Inside (useOf (y .c)) x i (t .c)
+  references =
+      let q = j .ready .cell in
+      let u = row-of (q .known) in
+      let c = j .read .cell in
+      (rw (c, ← u .a) (q .first), rw (c, ← u .b) (q .second), rw (c, ← u .c) (q .third))
+
   pub renumbers : RenumberReady (y .a) (t .a) x m × RenumberReady (y .b) (t .b) x m × RenumberReady (y .c) (t .c) x m
   renumbers =
-      let q = p .cell in
-      let u = uses (t .kind) y (q .row) (w ∙ rw c (q .known)) in (
-        renumber-ready (y .a) x i (t .a) m (p .room) (rw (c, ← u .a) (q .first)),
-        renumber-ready (y .b) x i (t .b) m (p .room) (rw (c, ← u .b) (q .second)),
-        renumber-ready (y .c) x i (t .c) m (p .room) (rw (c, ← u .c) (q .third)),
+      let r = j .ready .room in (
+        renumber-ready (y .a) x i (t .a) m r (references .0),
+        renumber-ready (y .b) x i (t .b) m r (references .1),
+        renumber-ready (y .c) x i (t .c) m r (references .2),
       )
 
-  pub moves-fit : {z : Struct} → IsBytes s → z .a ≡ renumber (useOf (y .a)) (t .a) x m → z .b ≡ renumber (useOf (y .b)) (t .b) x m
+  pub moves-fit : {z : Struct} → z .a ≡ renumber (useOf (y .a)) (t .a) x m → z .b ≡ renumber (useOf (y .b)) (t .b) x m
       → z .c ≡ renumber (useOf (y .c)) (t .c) x m → CellFits z
-  moves-fit b ea eb ec =
-      let q = p .cell in
-      let u = uses (t .kind) y (q .row) (w ∙ rw c (q .known)) in
-      let f = fields-fit s i b c in
+  moves-fit ea eb ec =
+      let r = j .ready .room in
+      let f = read-fits (j .read) in
       record {
-        a = rw ea (renumber-fits (useOf (y .a)) x i (t .a) m (f .0) (p .room) (rw (c, ← u .a) (q .first)));
-        b = rw eb (renumber-fits (useOf (y .b)) x i (t .b) m (f .1) (p .room) (rw (c, ← u .b) (q .second)));
-        c = rw ec (renumber-fits (useOf (y .c)) x i (t .c) m (f .2) (p .room) (rw (c, ← u .c) (q .third)));
+        a = rw ea (renumber-fits (useOf (y .a)) x i (t .a) m (f .0) r (references .0));
+        b = rw eb (renumber-fits (useOf (y .b)) x i (t .b) m (f .1) r (references .1));
+        c = rw ec (renumber-fits (useOf (y .c)) x i (t .c) m (f .2) r (references .2));
       }
 
   pub moves : {e : List ℕ} {l fa fb fc : ℕ} → l ≡ labelBy (useOf (y .label)) (t .label) → fa ≡ renumber (useOf (y .a)) (t .a) x m
       → fb ≡ renumber (useOf (y .b)) (t .b) x m → fc ≡ renumber (useOf (y .c)) (t .c) x m
       → e ≡ sets d (8 * (i - x + m)) (cellBytes (record { kind = t .kind; label = l; a = fa; b = fb; c = fc })) → MovesCell s d e i x m
   moves el ea eb ec h =
-      record {
-        says = λ r k.
-            let u = uses (t .kind) y r (w ∙ rw c k) in
-            rw (← c, u .label, u .a, u .b, u .c, ← el, ← ea, ← eb, ← ec) h;
-      }
+      record { says = λ r k. let u = row-of k in rw (← j .read .cell, u .label, u .a, u .b, u .c, ← el, ← ea, ← eb, ← ec) h }
 
 -- ---- cells copied, as bytes
 
@@ -191,62 +199,67 @@ of-run {s = s} {v = v} a (r-refers {y = y} {z = z} {i = w} {r = r} p k m f g h e
 
 -- ---- the loop of `emit_run`
 
--- The cells from x on before i stand from m on.
-pub record Copying (s d e : List ℕ) (x m i : ℕ) : Type 0 where
+-- x is not past end
+pub forward : {s d : List ℕ} {x end m : ℕ} → RunReady s d x end m → x ≤ end
+forward p = grows (p .run)
+
+pub run-full : {s d : List ℕ} {x end m : ℕ} → RunReady s d x end m → 4095 - m < end - x → EmitsRun s d d x end m Full
+run-full p h = record { says = λ q o n t r. record { fits = λ f. absurd (omega (arith, h, f, counts r, p .space .used)); full = λ f. refl } }
+
+-- There is room for the run, and its cells before i stand from m on.
+pub record Copying (s d e : List ℕ) (x end m i : ℕ) : Type 0 where
+  pub ready : RunReady s d x end m
+  pub room : end - x ≤ 4095 - m
+  pub within : i ≤ end
   pub count : ℕ
   pub at : i ≡ x + count
   pub bytes : e ≡ sets d (8 * m) (copied s x m x count)
 
-pub copying-none : (s d : List ℕ) (x m : ℕ) → Copying s d d x m x
+pub copying-none : {s d : List ℕ} {x end m : ℕ} → RunReady s d x end m → end - x ≤ 4095 - m → Copying s d d x end m x
 unfolding copied
-copying-none s d x m = record { count = 0; at = omega arith; bytes = refl }
+copying-none p r = record { ready = p; room = r; within = forward p; count = 0; at = omega arith; bytes = refl }
 
-pub copying-long : {s d e : List ℕ} {x m i : ℕ} → Copying s d e x m i → length e ≡ length d
-copying-long {s} {d} {x = x} {m} c = ap length (c .bytes) ∙ length-sets d (8 * m) (copied s x m x (c .count))
+module _ {s d e : List ℕ} {x end m i : ℕ} (c : Copying s d e x end m i) where
+  pub copying-long : length e ≡ length d
+  copying-long = ap length (c .bytes) ∙ length-sets d (8 * m) (copied s x m x (c .count))
 
-module _ {s d : List ℕ} {x end m : ℕ} (p : RunReady s d x end m) where
-  -- x is not past end
-  pub forward : x ≤ end
-  forward = grows (p .run)
+  pub cell-ready : i < end → MoveReady s e i x m
+  cell-ready l =
+      record {
+        long = omega (arith, copying-long, c .ready .space .long);
+        room = omega (arith, c .at, c .room, l, c .ready .space .used);
+        cell = of-run (omega arith) (c .ready .run) i (omega (arith, c .at)) l;
+      }
 
-  pub run-full : 4095 - m < end - x → EmitsRun s d d x end m Full
-  run-full h = record { says = λ q o n t r. record { fits = λ f. absurd (omega (arith, h, f, counts r, p .space .used)); full = λ f. refl } }
+  pub copying-more : {f : List ℕ} → i < end → MovesCell s e f i x m → Copying s d f x end m (i + 1)
+  unfolding copied one movedBy
+  copying-more {f} l q =
+      let o = cell-ready l .cell in
+      let w = q .says (o .row) (o .known) in
+      let j : i - x + m ≡ m + c .count = omega (arith, c .at) in
+      let b : f ≡ sets e (8 * (m + c .count)) (one s x m i) = rw (← j, o .known) w in
+      let n = length-copied s x m x (c .count) in
+      record {
+        ready = c .ready;
+        room = c .room;
+        within = omega (arith, l);
+        count = suc (c .count);
+        at = omega (arith, c .at);
+        bytes = b ∙ rw (c .at) (behind (copied s x m x (c .count)) (one s x m (x + c .count)) d (8 * m) (c .bytes) (omega (arith, n)));
+      }
 
-  module _ {e : List ℕ} {i : ℕ} (c : Copying s d e x m i) (room : end - x ≤ 4095 - m) where
-    pub cell-ready : i < end → MoveReady s e i x m
-    cell-ready l =
-        record {
-          long = omega (arith, copying-long c, p .space .long);
-          room = omega (arith, c .at, room, l, p .space .used);
-          cell = of-run (omega arith) (p .run) i (omega (arith, c .at)) l;
-        }
-
-    pub copying-more : {f : List ℕ} → i < end → MovesCell s e f i x m → Copying s d f x m (i + 1)
-    unfolding copied one movedBy
-    copying-more {f} l q =
-        let o = cell-ready l .cell in
-        let w = q .says (o .row) (o .known) in
-        let j : i - x + m ≡ m + c .count = omega (arith, c .at) in
-        let b : f ≡ sets e (8 * (m + c .count)) (one s x m i) = rw (← j, o .known) w in
-        let n = length-copied s x m x (c .count) in
-        record {
-          count = suc (c .count);
-          at = omega (arith, c .at);
-          bytes = b ∙ rw (c .at) (behind (copied s x m x (c .count)) (one s x m (x + c .count)) d (8 * m) (c .bytes) (omega (arith, n)));
-        }
-
-    pub run-copied : i ≡ end → EmitsRun s d e x end m (Next (m + (end - x)))
-    run-copied u =
-        record {
-          says = λ q o n t r.
-              let k = counts r in
-              let g : c .count ≡ cells t = omega (arith, k, u, c .at) in
-              let h : end - x ≡ cells t = omega (arith, k) in
-              record {
-                fits = λ f. (ap (λ a. Next (m + a)) h, c .bytes ∙ rw (g, copies s x m m (omega arith) (omega arith) r) refl);
-                full = λ f. absurd (omega (arith, f, h, room, p .space .used));
-              };
-        }
+  pub run-copied : end ≤ i → EmitsRun s d e x end m (Next (m + (end - x)))
+  run-copied u =
+      record {
+        says = λ q o n t r.
+            let k = counts r in
+            let g : c .count ≡ cells t = omega (arith, k, u, c .within, c .at) in
+            let h : end - x ≡ cells t = omega (arith, k) in
+            record {
+              fits = λ f. (ap (λ a. Next (m + a)) h, c .bytes ∙ rw (g, copies s x m m (omega arith) (omega arith) r) refl);
+              full = λ f. absurd (omega (arith, f, h, c .room, c .ready .space .used));
+            };
+      }
 
 -- ---- where a run begins
 
@@ -309,14 +322,14 @@ module _ {q : Bool} {s : List ℕ} {x i : ℕ} (r : EndsAt q s x i) where
       go : {e : ℕ} {o : Sort} {f : Tree} → Run q s x (refers o) i f e → 8 * i + 8 ≤ length s
       go (r-refers p k m f g h z _) = p .within
 
-  module _ {t : Cell} (c : t ≡ cellAt s i) (y : Entry) (w : rowFrom (t .kind) y ≡ rowOf (t .kind)) where
+  module _ {t : Cell} {y : Entry} (j : Read s i t y) where
     pub begins-here : y .a < 2 → i ≡ x
     begins-here l = go (r .run)
       where
         go : {e : ℕ} {o : Sort} {f : Tree} → Run q s x (refers o) i f e → i ≡ x
         go (r-refers {k = k} {r = v} p o m f g h z _) =
-            let is : t ≡ _ = c ∙ p .is in
-            let u = uses k y v (rw is at w ∙ o) in
+            let is : t ≡ _ = j .cell ∙ p .is in
+            let u = uses k y v (rw is at (j .row) ∙ o) in
             let b : Bare (v .a) = rw (u .a) (bare-use (y .a) l) in
             let n = bare-row k v o b in
             omega (arith, bare-run b f, bare-run (n .0) g, bare-run (n .1) h)
@@ -326,8 +339,8 @@ module _ {q : Bool} {s : List ℕ} {x i : ℕ} (r : EndsAt q s x i) where
       where
         go : {e : ℕ} {o : Sort} {f : Tree} → Run q s x (refers o) i f e → EndsAt q s x (t .a) × (t .a < i)
         go (r-refers {k = k} {a = a} {r = v} p o m f g h z _) =
-            let is : t ≡ _ = c ∙ p .is in
-            let u = uses k y v (rw is at w ∙ o) in
+            let is : t ≡ _ = j .cell ∙ p .is in
+            let u = uses k y v (rw is at (j .row) ∙ o) in
             let n = referred (y .a) l (rw (u .a) at f) in
             rw is (n .0, omega (arith, n .1, grows g, grows h))
 
@@ -340,25 +353,30 @@ pub record Follows (s : List ℕ) (at i : ℕ) : Type 0 where
 pub follows-none : (s : List ℕ) (at : ℕ) → Follows s at at
 follows-none s at = record { says = λ q x r. r }
 
-module _ {s : List ℕ} {at i : ℕ} (p : BeginReady s at) (f : Follows s at i) where
-  own-end : EndsAt (p .marked) s (p .begin) i
-  own-end = f .says (p .marked) (p .begin) (p .ends)
+-- t is cell i as it was read, y its row
+pub record Following (s : List ℕ) (at i : ℕ) (t : Cell) (y : Entry) : Type 0 where
+  pub ready : BeginReady s at
+  pub follows : Follows s at i
+  pub read : Read s i t y
 
-  pub follows-within : 8 * i + 8 ≤ length s
-  follows-within = ends-within own-end
+own-end : {s : List ℕ} {at i : ℕ} (p : BeginReady s at) → Follows s at i → EndsAt (p .marked) s (p .begin) i
+own-end p f = f .says (p .marked) (p .begin) (p .ends)
 
-  module _ {t : Cell} (c : t ≡ cellAt s i) (y : Entry) (w : rowFrom (t .kind) y ≡ rowOf (t .kind)) where
-    pub begun : y .a < 2 → Begins s at i
-    begun l = record { says = λ q x r. begins-here (f .says q x r) c y w l }
+pub follows-within : {s : List ℕ} {at i : ℕ} → BeginReady s at → Follows s at i → 8 * i + 8 ≤ length s
+follows-within p f = ends-within (own-end p f)
 
-    pub goes-down : 2 ≤ y .a → Follows s at (t .a) × (t .a < i)
-    goes-down l = (record { says = λ q x r. down (f .says q x r) c y w l .0 }, down own-end c y w l .1)
+module _ {s : List ℕ} {at i : ℕ} {t : Cell} {y : Entry} (j : Following s at i t y) where
+  pub begun : y .a < 2 → Begins s at i
+  begun l = record { says = λ q x r. begins-here (j .follows .says q x r) (j .read) l }
+
+  pub goes-down : 2 ≤ y .a → Follows s at (t .a) × (t .a < i)
+  goes-down l = (record { says = λ q x r. down (j .follows .says q x r) (j .read) l .0 }, down (own-end (j .ready) (j .follows)) (j .read) l .1)
 
 -- ---- `emit_run_to`: the run begins at b
 
 module _ {s d : List ℕ} {at m b : ℕ} (p : EndReady s d at m) (q : Begins s at b) where
-  pub end-within : 8 * at + 8 ≤ length s
-  end-within = ends-within (p .from .ends)
+  pub last-within : 8 * at + 8 ≤ length s
+  last-within = ends-within (p .from .ends)
 
   pub end-ready : RunReady s d b (at + 1) m
   end-ready =
@@ -381,23 +399,22 @@ module _ {s d : List ℕ} {at m b : ℕ} (p : EndReady s d at m) (q : Begins s a
             w .says k o at t (rw (e, add-one) r);
       }
 
--- its callers: a type, and a term
-pub type-ready : {s d : List ℕ} {i m : ℕ} {A : Ty} → Space d m → RunsType s i A → EndReady s d i m
-type-ready {A = A} p r =
-    record {
-      space = p;
-      from = record { marked = true; begin = r .begin; ends = record { sort = type-sort; tree = fromType A; run = r .run } };
-    }
+-- its callers: a type or a term that stands as a run
+module _ {s : List ℕ} {x i : ℕ} {o : Sort} {t : Tree} (r : Run true s x (refers o) i t (suc i)) where
+  ends-run : EndsAt true s x i
+  ends-run = record { sort = o; tree = t; run = r }
 
-pub type-emits : {s d e : List ℕ} {i m : ℕ} {r : Laid} {A : Ty} → EmitsEnd s d e i m r → RunsType s i A → Emits d e m r (fromType A)
-type-emits {A = A} w r = w .says true type-sort (r .begin) (fromType A) (r .run)
+  pub begin-ready : BeginReady s i
+  begin-ready = record { marked = true; begin = x; ends = ends-run }
 
-pub term-ready : {s d : List ℕ} {i m : ℕ} {e : Term} → Space d m → RunsTerm s i e → EndReady s d i m
-term-ready {e = e} p r =
-    record {
-      space = p;
-      from = record { marked = true; begin = r .begin; ends = record { sort = term-sort; tree = fromTerm e; run = r .run } };
-    }
+  pub begin-is : {b : ℕ} → Begins s i b → b ≡ x
+  begin-is n = n .says true x ends-run
 
-pub term-emits : {s d f : List ℕ} {i m : ℕ} {r : Laid} {e : Term} → EmitsEnd s d f i m r → RunsTerm s i e → Emits d f m r (fromTerm e)
-term-emits {e = e} w r = w .says true term-sort (r .begin) (fromTerm e) (r .run)
+  pub end-within : 8 * i + 8 ≤ length s
+  end-within = ends-within ends-run
+
+  pub run-ready : {d : List ℕ} {m : ℕ} → Space d m → EndReady s d i m
+  run-ready p = record { space = p; from = begin-ready }
+
+  pub run-emits : {d e : List ℕ} {m : ℕ} {l : Laid} → EmitsEnd s d e i m l → Emits d e m l t
+  run-emits w = w .says true o x t r

@@ -1,8 +1,8 @@
 -- Answers as numbers. Assumes nothing.
-use Prim.Native.Nat.{ℕ, _+_, _≤_}
+use Prim.Native.Nat.{ℕ, _≤_}
 use native.Mathlib.Decide.{decLt}
 use native.Mathlib.Omega.{arith}
-use mathlib.Core.Path.{_≡_, refl, sym, _∙_}
+use mathlib.Core.Path.{_≡_}
 use mathlib.Core.List.{List}
 use borrow.Author.Tests.{eq-eqb, ne-eqb}
 use Rattle.format.specs.Cell.{Cell}
@@ -11,7 +11,7 @@ use Rattle.format.specs.Book.{sizeLimit}
 use Rattle.emission.specs.Emits.{Emits, Finishes, laidOf, Within}
 use Rattle.emission.specs.declared.Laid.{Laid}
 use Rattle.emission.specs.declared.Laid.the-variants.{Next, Full}
-use Rattle.emission.proofs.Compose.{placed}
+use Rattle.emission.proofs.Compose.{next-full, placed}
 
 pub laid-full : {x : ℕ} → x ≡ 4096 → laidOf x ≡ Full
 laid-full {x} e = rw (eq-eqb x 4096 e)
@@ -27,9 +27,6 @@ emits-within p = record { says = λ x q. placed p q .fits }
 
 next-same : {r : Laid} {x y : ℕ} → r ≡ Next x → r ≡ Next y → x ≡ y
 next-same p q = cc
-
-next-full : {r : Laid} {x : ℕ} → r ≡ Next x → r ≡ Full → ⊥
-next-full p q = let z : _≡_ {A = ℕ} 0 1 = cc in absurd (omega arith)
 
 pub finishes-within : {d e : List ℕ} {m : ℕ} {t : Cell} {r : Laid} → Finishes d e m t r → Within r
 finishes-within {m = m} p =

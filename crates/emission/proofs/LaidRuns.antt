@@ -1,19 +1,17 @@
 -- A good tree that is laid down is a run: what emission leaves. Over kind and field. Assumes nothing.
-use Prim.Native.Nat.{ℕ, suc, _+_, _*_, _-_, _≤_, _<_}
+use Prim.Native.Nat.{ℕ, suc, _+_, _*_, _-_, _≤_}
 use native.Mathlib.Nat.{add-zero}
 use native.Mathlib.Omega.{arith}
-use mathlib.Core.Path.{_≡_, refl, sym, ap, _∙_, subst}
+use mathlib.Core.Path.{_≡_, refl, ap, _∙_}
 use mathlib.Core.Bool.{false}
-use mathlib.Core.List.{List, [], _∷_, _++_}
-use mathlib.Core.Option.{some}
+use mathlib.Core.List.{List, _++_}
 use lib.ListN.{length, length-append}
-use Rattle.format.specs.Table.{Sort, Use, unused, plain, refers, Row, rowOf}
-use Rattle.format.specs.Cell.{Cell, cellAt, cellBytes}
-use Rattle.format.specs.Tree.{Tree, raw, node, cells, refer, lay}
+use Rattle.format.specs.Table.{Use}
+use Rattle.format.specs.Cell.{Cell, cellBytes}
+use Rattle.format.specs.Tree.{Tree, raw, cells, refer, lay}
 use Rattle.format.proofs.Laying.{Number, blank, number, Good, leaf, cell, Part, part-left, part-right, cell-back, length-lay}
-use Rattle.cells.specs.Held.{IsCell}
-use Rattle.emission.specs.Emits.{labelBy}
-use Rattle.emission.specs.Runs.{Marked, Run, r-unused, r-plain, r-refers}
+use Rattle.cells.specs.Held.{IsCell, labelBy}
+use Rattle.emission.specs.Runs.{Run, r-unused, r-plain, r-refers}
 
 part-within : {s : List ℕ} {m : ℕ} {x : List ℕ} → Part s m x → 8 * m + length x ≤ length s
 part-within {s} {m} {x} p =

@@ -1,4 +1,5 @@
 pub mod Compose
+pub mod Chain
 pub mod Fields
 pub mod Ends
 pub mod Emitting

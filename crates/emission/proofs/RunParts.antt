@@ -1,16 +1,19 @@
 -- The parts of a run, by the kind of its last cell: each is a run of its own, and begins where the one before it ends. Assumes nothing.
-use Prim.Native.Nat.{ℕ, suc, _<_}
+use Prim.Native.Nat.{ℕ, suc}
 use mathlib.Core.Bool.{Bool, true}
 use mathlib.Core.Option.{some}
 use mathlib.Core.Path.{_≡_, refl}
 use mathlib.Core.List.{List}
-use Rattle.calculus.specs.Syntax.{Ty, arrow, inter, field}
+use Rattle.calculus.specs.Syntax.{Ty, arrow, inter}
 use Rattle.calculus.specs.Syntax.{Term, lam, merge, fix, rcd}
 use Rattle.format.specs.Table.{Sort, type-sort, term-sort, refers, Row, rowOf, rowIn, table}
-use Rattle.format.specs.Cell.{cellAt}
+use Rattle.format.specs.Cell.{Cell, cellAt}
 use Rattle.format.specs.Tree.{Tree, node}
 use Rattle.format.specs.Terms.{fromType, fromTerm, TermFits}
+use Rattle.cells.specs.Held.{Thing, Holds}
 use Rattle.cells.proofs.Held as Held
+use Rattle.cells.proofs.Shapes as Shapes
+use Rattle.cells.proofs.Shapes.{Two, TermAndType}
 use Rattle.emission.specs.Runs.{Run, r-refers, RunsType, RunsTerm}
 use Rattle.emission.proofs.Runs.{parts, holds-type, holds-term}
 
@@ -42,34 +45,28 @@ fields t w =
     let c = p .cell .is in
     record { y = p .y; z = p .z; first = rw c (p .first); second = rw c (p .second); third = rw c (p .third) }
 
--- ---- types
+-- ---- what stands there, in the shapes that `Holds` has
 
-pub record TwoTypes (s : List ℕ) (i : ℕ) (f : Ty → Ty → Ty) (A : Ty) : Type 0 where
-  pub first : Ty
-  pub second : Ty
-  pub is : A ≡ f first second
-  pub holds-first : RunsType s (cellAt s i .a) first
-  -- it begins behind the first
-  pub run-second : Run true s (suc (cellAt s i .a)) (refers type-sort) (cellAt s i .b) (fromType second) (suc (cellAt s i .b))
-  pub holds-second : RunsType s (cellAt s i .b) second
+abbrev Runs : List ℕ → (o : Sort) → ℕ → Thing o → Type 0
+Runs s type-sort = RunsType s
+Runs s term-sort = RunsTerm s
 
-pub record OneType (s : List ℕ) (i : ℕ) (A : Ty) : Type 0 where
-  pub content : Ty
-  pub is : A ≡ field (cellAt s i .label) content
-  pub holds : RunsType s (cellAt s i .a) content
+abbrev pub TwoTypes : List ℕ → ℕ → (Ty → Ty → Ty) → Ty → Type 0
+TwoTypes s i = Two (Runs s) (cellAt s i) i type-sort
 
--- a type of two, whatever its kind
-two-types : {s : List ℕ} {x y z i : ℕ} {f : Ty → Ty → Ty} {A : Ty} (w : Held.TwoTypes s i f A) → Run true s x (refers type-sort) (cellAt s i .a) (fromType (w .first)) y
-    → Run true s y (refers type-sort) (cellAt s i .b) (fromType (w .second)) z → TwoTypes s i f A
-two-types w a b =
-    record {
-      first = w .first;
-      second = w .second;
-      is = w .is;
-      holds-first = runs-type a;
-      run-second = rw (ends a) at (whole b);
-      holds-second = runs-type b;
-    }
+abbrev pub OneType : List ℕ → ℕ → Ty → Type 0
+OneType s i = Shapes.OneType (Runs s) (cellAt s i) i
+
+abbrev pub FunctionAt : List ℕ → ℕ → Term → Type 0
+FunctionAt s i = Shapes.FunctionAt (Runs s) (cellAt s i) i
+
+abbrev pub OneTerm : List ℕ → ℕ → (ℕ → Term → Term) → Term → Type 0
+OneTerm s i = Shapes.OneTerm (Runs s) (cellAt s i) i
+
+two : {s : List ℕ} {t : Cell} {i : ℕ} {o : Sort} {f : Thing o → Thing o → Thing o} {x : Thing o} (w : Two (Holds s) t i o f x) → Runs s o (t .a) (w .first) → Runs s o (t .b) (w .second)
+    → Two (Runs s) t i o f x
+two w a b =
+    record { first = w .first; second = w .second; is = w .is; first-lower = w .first-lower; second-lower = w .second-lower; holds-first = a; holds-second = b }
 
 module _ {s : List ℕ} {i : ℕ} {A : Ty} (r : RunsType s i A) where
   pub arrow-at : cellAt s i .kind ≡ 3 → TwoTypes s i arrow A
@@ -77,56 +74,21 @@ module _ {s : List ℕ} {i : ℕ} {A : Ty} (r : RunsType s i A) where
   arrow-at k =
       let w = Held.arrow-at (holds-type r) k in
       let p = fields (rw (w .is) at r .run) refl in
-      two-types w (p .first) (p .second)
+      two {o = type-sort} w (runs-type (p .first)) (runs-type (p .second))
 
   pub inter-at : cellAt s i .kind ≡ 4 → TwoTypes s i inter A
   unfolding fromType table rowIn rowOf
   inter-at k =
       let w = Held.inter-at (holds-type r) k in
       let p = fields (rw (w .is) at r .run) refl in
-      two-types w (p .first) (p .second)
+      two {o = type-sort} w (runs-type (p .first)) (runs-type (p .second))
 
   pub field-at : cellAt s i .kind ≡ 5 → OneType s i A
   unfolding fromType table rowIn rowOf
   field-at k =
       let w = Held.field-at (holds-type r) k in
       let p = fields (rw (w .is) at r .run) refl in
-      record { content = w .content; is = w .is; holds = runs-type (p .first) }
-
--- ---- terms
-
-pub record TermAndType (s : List ℕ) (i : ℕ) (f : Term → Ty → Term) (e : Term) : Type 0 where
-  pub term : Term
-  pub type : Ty
-  pub is : e ≡ f term type
-  pub term-lower : cellAt s i .a < i
-  pub holds-term : RunsTerm s (cellAt s i .a) term
-  pub holds-type : RunsType s (cellAt s i .b) type
-
-pub record TwoTerms (s : List ℕ) (i : ℕ) (f : Term → Term → Term) (e : Term) : Type 0 where
-  pub first : Term
-  pub second : Term
-  pub is : e ≡ f first second
-  pub holds-first : RunsTerm s (cellAt s i .a) first
-  pub holds-second : RunsTerm s (cellAt s i .b) second
-
-pub record FunctionAt (s : List ℕ) (i : ℕ) (e : Term) : Type 0 where
-  pub body : Term
-  pub input : Ty
-  pub output : Ty
-  pub is : e ≡ lam body input output
-  pub body-lower : cellAt s i .a < i
-  pub holds-body : RunsTerm s (cellAt s i .a) body
-  -- it begins behind the body
-  pub run-input : Run true s (suc (cellAt s i .a)) (refers type-sort) (cellAt s i .b) (fromType input) (suc (cellAt s i .b))
-  pub holds-input : RunsType s (cellAt s i .b) input
-  pub holds-output : RunsType s (cellAt s i .c) output
-
-pub record OneTerm (s : List ℕ) (i : ℕ) (f : ℕ → Term → Term) (e : Term) : Type 0 where
-  pub term : Term
-  pub is : e ≡ f (cellAt s i .label) term
-  pub lower : cellAt s i .a < i
-  pub holds : RunsTerm s (cellAt s i .a) term
+      record { content = w .content; is = w .is; lower = w .lower; holds = runs-type (p .first) }
 
 module _ {s : List ℕ} {i : ℕ} {e : Term} (r : RunsTerm s i e) where
   pub lam-at : cellAt s i .kind ≡ 21 → FunctionAt s i e
@@ -141,27 +103,22 @@ module _ {s : List ℕ} {i : ℕ} {e : Term} (r : RunsTerm s i e) where
         output = w .output;
         is = w .is;
         body-lower = w .body-lower;
+        input-lower = w .input-lower;
+        output-lower = w .output-lower;
         holds-body = runs-term (t .fits .0) (p .first);
-        run-input = rw (ends (p .first)) at (whole (p .second));
         holds-input = runs-type (p .second);
         holds-output = runs-type (p .third);
       }
 
-  pub merge-at : cellAt s i .kind ≡ 22 → TwoTerms s i merge e
+  pub merge-at : cellAt s i .kind ≡ 22 → Two (Runs s) (cellAt s i) i term-sort merge e
   unfolding fromTerm table rowIn rowOf
   merge-at k =
       let w = Held.merge-at (holds-term r) k in
       let t = rw (w .is) at r in
       let p = fields (t .run) refl in
-      record {
-        first = w .first;
-        second = w .second;
-        is = w .is;
-        holds-first = runs-term (t .fits .0) (p .first);
-        holds-second = runs-term (t .fits .1) (p .second);
-      }
+      two {o = term-sort} w (runs-term (t .fits .0) (p .first)) (runs-term (t .fits .1) (p .second))
 
-  pub fix-at : cellAt s i .kind ≡ 23 → TermAndType s i fix e
+  pub fix-at : cellAt s i .kind ≡ 23 → TermAndType (Runs s) (cellAt s i) i fix e
   unfolding fromTerm table rowIn rowOf
   fix-at k =
       let w = Held.fix-at (holds-term r) k in
@@ -172,6 +129,7 @@ module _ {s : List ℕ} {i : ℕ} {e : Term} (r : RunsTerm s i e) where
         type = w .type;
         is = w .is;
         term-lower = w .term-lower;
+        type-lower = w .type-lower;
         holds-term = runs-term (t .fits .0) (p .first);
         holds-type = runs-type (p .second);
       }
@@ -183,3 +141,13 @@ module _ {s : List ℕ} {i : ℕ} {e : Term} (r : RunsTerm s i e) where
       let t = rw (w .is) at r in
       let p = fields (t .run) refl in
       record { term = w .term; is = w .is; lower = w .lower; holds = runs-term (t .fits .1) (p .first) }
+
+-- the second part begins behind the first
+module _ {s : List ℕ} {i : ℕ} where
+  pub arrow-second : {A B : Ty} → RunsType s i (arrow A B) → Run true s (suc (cellAt s i .a)) (refers type-sort) (cellAt s i .b) (fromType B) (suc (cellAt s i .b))
+  unfolding fromType table rowIn rowOf
+  arrow-second r = let p = fields (r .run) refl in rw (ends (p .first)) at (whole (p .second))
+
+  pub lam-second : {e : Term} {A B : Ty} → RunsTerm s i (lam e A B) → Run true s (suc (cellAt s i .a)) (refers type-sort) (cellAt s i .b) (fromType A) (suc (cellAt s i .b))
+  unfolding fromTerm table rowIn rowOf
+  lam-second r = let p = fields (r .run) refl in rw (ends (p .first)) at (whole (p .second))

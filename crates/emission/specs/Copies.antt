@@ -10,7 +10,8 @@ use Rattle.format.specs.Table.{Sort, Use, unused, plain, refers, Row, rowOf}
 use Rattle.format.specs.Cell.{Cell, cellAt, cellBytes}
 use Rattle.format.specs.Tree.{Tree}
 use Rattle.format.specs.Book.{sizeLimit}
-use Rattle.emission.specs.Emits.{labelBy, Space, Emits}
+use Rattle.cells.specs.Held.{labelBy}
+use Rattle.emission.specs.Emits.{Space, Emits}
 use Rattle.emission.specs.Runs.{Run}
 use Rattle.emission.specs.declared.Laid.{Laid}
 
@@ -58,6 +59,7 @@ pub record MoveReady (s d : List ℕ) (i x m : ℕ) : Type 0 where
   pub room : i - x + m < sizeLimit
   pub cell : OfRun s x i
 
+-- The cell stands where the run goes; all other bytes are as they were.
 pub record MovesCell (s d e : List ℕ) (i x m : ℕ) : Type 0 where
   pub says : (r : Row) → rowOf (cellAt s i .kind) ≡ some r → e ≡ sets d (8 * (i - x + m)) (cellBytes (movedCell (cellAt s i) r x m))
 
@@ -70,6 +72,7 @@ pub record RunReady (s d : List ℕ) (x end m : ℕ) : Type 0 where
   pub tree : Tree
   pub run : Run marked s x (refers sort) last tree end
 
+-- The tree of the run is emitted.
 pub record EmitsRun (s d e : List ℕ) (x end m : ℕ) (r : Laid) : Type 0 where
   pub says : (q : Bool) (o : Sort) (n : ℕ) (t : Tree) → Run q s x (refers o) n t end → Emits d e m r t
 
@@ -79,11 +82,13 @@ pub record EndsAt (q : Bool) (s : List ℕ) (x i : ℕ) : Type 0 where
   pub tree : Tree
   pub run : Run q s x (refers sort) i tree (suc i)
 
+-- Some run ends with the cell i;
 pub record BeginReady (s : List ℕ) (i : ℕ) : Type 0 where
   pub marked : Bool
   pub begin : ℕ
   pub ends : EndsAt marked s begin i
 
+-- r is the cell that it begins at.
 pub record Begins (s : List ℕ) (i r : ℕ) : Type 0 where
   pub says : (q : Bool) (x : ℕ) → EndsAt q s x i → r ≡ x
 
@@ -92,5 +97,6 @@ pub record EndReady (s d : List ℕ) (i m : ℕ) : Type 0 where
   pub space : Space d m
   pub from : BeginReady s i
 
+-- The tree of that run is emitted.
 pub record EmitsEnd (s d e : List ℕ) (i m : ℕ) (r : Laid) : Type 0 where
   pub says : (q : Bool) (o : Sort) (x : ℕ) (t : Tree) → Run q s x (refers o) i t (suc i) → Emits d e m r t

@@ -3,34 +3,20 @@ use Prim.Native.Nat.{ℕ, _+_, _*_, _-_, _≤_, _<_}
 use mathlib.Core.Path.{_≡_}
 use mathlib.Core.Bool.{Bool, true, false}
 use mathlib.Core.List.{List}
-use mathlib.Core.Option.{some}
 use lib.Dec.{eqb}
 use lib.ListN.{length}
 use lib.Seq.{sets}
-use Rattle.format.specs.Table.{Sort, Use, unused, plain, refers, Row, rowOf}
+use Rattle.format.specs.Table.{Use, unused, plain, refers}
 use Rattle.format.specs.Cell as Format
 use Rattle.format.specs.Cell.{cellBytes}
-use Rattle.format.specs.Tree.{Tree, raw, node, cells, lay}
+use Rattle.format.specs.Tree.{Tree, cells, lay}
 use Rattle.format.specs.Book.{sizeLimit}
-use Rattle.cells.specs.Held.{IsCell}
+use Rattle.cells.specs.Held.{labelBy, HeldField}
 use Rattle.cells.specs.Coded.{CellFits, useOf}
 use Rattle.cells.specs.declared.Cell.{Cell}
 use Rattle.cells.specs.declared.Entry.{Entry}
 use Rattle.emission.specs.declared.Laid.{Laid}
 use Rattle.emission.specs.declared.Laid.the-variants.{Next, Full}
-
--- A label that the row does not name is 0.
-abbrev pub labelBy : Use → ℕ → ℕ
-labelBy unused l = 0
-labelBy plain l = l
-labelBy (refers t) l = l
-
--- A field of this use and number, in a cell n of s, holds the tree: sharing opened, unused fields as 0.
-pub data HeldField (s : List ℕ) : ℕ → Use → ℕ → Tree → Type 0 where
-  f-unused : {n x : ℕ} → HeldField s n unused x (raw 0)
-  f-plain : {n x : ℕ} → HeldField s n plain x (raw x)
-  f-refers : {n x k l a b c m : ℕ} {o : Sort} {r : Row} {f g h : Tree} → x < n → IsCell s x k l a b c → rowOf k ≡ some r → m ≡ labelBy (r .label) l →
-      HeldField s x (r .a) a f → HeldField s x (r .b) b g → HeldField s x (r .c) c h → HeldField s n (refers o) x (node k m f g h)
 
 -- A buffer to emit into, of which m cells are used.
 pub record Space (d : List ℕ) (m : ℕ) : Type 0 where
@@ -99,7 +85,7 @@ pub record FieldReady (s d : List ℕ) (u x m : ℕ) : Type 0 where
   pub space : Space d m
   pub cell : ℕ
   pub tree : Tree
-  pub holds : HeldField s cell (useOf u) x tree
+  pub holds : HeldField false s cell (useOf u) x tree
 
 pub record EmitsField (s d e : List ℕ) (u x m : ℕ) (r : Laid) : Type 0 where
-  pub says : (n : ℕ) (t : Tree) → HeldField s n (useOf u) x t → Emits d e m r t
+  pub says : (n : ℕ) (t : Tree) → HeldField false s n (useOf u) x t → Emits d e m r t

@@ -6,9 +6,12 @@ use cells::entry_of;
 use cells::read_cell;
 use cells::write_cell;
 ghost use mathlib.Core.Path.{_≡_};
+ghost use Rattle.calculus.specs.Syntax.{unit};
+ghost use Rattle.format.specs.Terms.{fromTerm};
 ghost use Rattle.cells.specs.Coded.{asCell, useOf};
 ghost use Rattle.emission.specs.Copies.{RenumberReady, renumber as renumberBy, MoveReady, MovesCell, RunReady, EmitsRun, BeginReady, Begins, EndReady, EmitsEnd};
-ghost use Rattle.emission.specs.Emits.{labelBy, laidOf, Within, LastReady, Finishes, ReferReady, referBy, RowReady, rowCell, FieldReady, EmitsField};
+ghost use Rattle.cells.specs.Held.{labelBy};
+ghost use Rattle.emission.specs.Emits.{Space, Emits, laidOf, Within, LastReady, Finishes, ReferReady, referBy, RowReady, rowCell, FieldReady, EmitsField};
 
 // The next free cell, or no room.
 pub enum Laid {
@@ -48,6 +51,24 @@ pub fn finish(d: &mut [u8], m: usize, t: Cell) -> Laid
     } else {
         Laid::Full
     }
+}
+
+// The top value, where there is room for it.
+pub fn finish_top(d: &mut [u8], m: usize) -> Laid
+    requires { ⌜ Space (now d) m ⌝ }
+    ensures { λ r. ⌜ Emits (now (d .entry)) (now (d .exit)) m r (fromTerm unit) ⌝ }
+{
+    finish(
+        d,
+        m,
+        Cell {
+            kind: 18,
+            label: 0,
+            a: 0,
+            b: 0,
+            c: 0,
+        },
+    )
 }
 
 // What a field holds for a tree that ends before cell next: 0 if unused, its number if plain, else the tree's last cell.

@@ -20,12 +20,9 @@ use Rattle.outcome.specs.declared.Outcome.the-variants.{Stopped}
 use Rattle.format.specs.Terms.{fromTerm}
 use Rattle.format.proofs.Trees.{term-cells}
 use Rattle.emission.proofs.Compose.{term-positive}
-use Rattle.emission.specs.Emits.{HeldField}
 use Rattle.emission.proofs.Fields.{term-field}
 use Rattle.layout.specs.Lays.{HereReady, LaysDown, SomeTree, Closes}
 use Rattle.layout.proofs.Laid.{lay-ready}
-use Rattle.cells.specs.Held.{HoldsTerm}
-use Rattle.format.specs.Table.{refers, term-sort}
 use Rattle.format.specs.Tree.{cells}
 use Rattle.running.specs.Turns.{Lies, StepReady, Runs}
 use Rattle.running.specs.declared.End.{End}
@@ -36,9 +33,6 @@ use Rattle.engine.proofs.Rows.{judge-refuses}
 
 -- ---- the root, laid down and run
 
-root-held : {s : List ℕ} {i : ℕ} {e : Term} → IsBytes s → HoldsTerm s i e → HeldField s (suc i) (refers term-sort) i (fromTerm e)
-root-held bytes h = term-field bytes h (omega arith)
-
 module _ {w : List ℕ} {i : ℕ} (bytes : IsBytes w) where
   root-small : (e : Term) → RootAt w i e → cells (fromTerm e) ≤ sizeLimit
   root-small e p = omega (arith, term-cells e, p .small)
@@ -47,13 +41,13 @@ module _ {w : List ℕ} {i : ℕ} (bytes : IsBytes w) where
   root-ready l p =
       record {
         long = omega (arith, p .root .long);
-        ready = lay-ready l (root-held bytes (p .root .holds)) (term-positive (p .term)) (root-small (p .term) (p .root));
+        ready = lay-ready l (term-field bytes (p .root .holds)) (term-positive (p .term)) (root-small (p .term) (p .root));
       }
 
   module _ {v : List ℕ} {n : ℕ} (f : LaysDown w v 3 i n) where
     root-lies : (e : Term) → RootAt w i e → Lies v n e
     root-lies e p =
-        record { tree = f .says (suc i) (fromTerm e) (root-held bytes (p .holds)) (term-positive e) (root-small e p); fits = p .fits }
+        record { tree = f .says (suc i) (fromTerm e) (term-field bytes (p .holds)) (term-positive e) (root-small e p); fits = p .fits }
 
     pub root-typed : {s : List ℕ} → 32768 ≤ length s → length v ≡ length w → SomeRoot w i → StepReady s v n
     root-typed l k p =

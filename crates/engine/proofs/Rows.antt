@@ -20,7 +20,8 @@ use Rattle.format.specs.Book.{Finding, firstBad, rowFault, cellFault, cellsForm
 use Rattle.format.specs.Book.{sortIs, hasSort, rootOf, count, follow, opened, WellFormed}
 use Rattle.format.proofs.Tests.{sortIs-says, cellFault-says, cellsForm-says, formFinding-says}
 use Rattle.format.proofs.Findings.{by-rows}
-use Rattle.format.proofs.Places.{Names, refusal-names}
+use Rattle.format.specs.Places.{Names}
+use Rattle.format.proofs.Places.{refusal-names}
 use Rattle.answers.specs.Answer.{faultNumber, reasonNumber, refused, Result, result}
 use Rattle.answers.specs.Engine.{workLength}
 use Rattle.answers.specs.Definition.{judge, afterForm, afterTyping, turnedBack}

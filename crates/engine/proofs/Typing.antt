@@ -1,23 +1,21 @@
 -- From a loaded book to what typing finds of its root, and from there to what both calls answer. Assumes nothing.
-use Prim.Native.Nat.{ℕ, zero, suc, _*_, _≤_, _<_}
+use Prim.Native.Nat.{ℕ, suc, _*_, _≤_}
 use mathlib.Core.Path.{_≡_, refl, _∙_, ap, subst}
-use mathlib.Core.Bool.{Bool, true, false}
-use mathlib.Core.List.{List, [], _∷_}
+use mathlib.Core.List.{List, []}
 use native.Mathlib.Omega.{arith}
-use borrow.Author.Tests.{ltb-true}
-use lib.Dec.{ltb}
 use lib.ListN.{length, take, replicate, length-replicate}
 use Rattle.calculus.specs.Syntax.{Ty, size}
 use Rattle.calculus.specs.Infer as Infer
 use Rattle.calculus.specs.Infer.{infer}
 use Rattle.calculus.proofs.Inference.{infer-says}
 use Rattle.calculus.proofs.Typing.{typed-size}
-use Rattle.format.specs.Cell.{IsBytes, Cell, cellAt}
-use Rattle.format.specs.Table.{refers, type-sort}
+use Rattle.format.specs.Cell.{IsBytes, Cell}
+use Rattle.format.specs.Table.{term-sort}
 use Rattle.format.specs.Tree.{Tree, cells}
 use Rattle.format.specs.Terms.{toTerm, fromType}
 use Rattle.format.proofs.Trees.{type-cells}
-use Rattle.format.specs.Book.{count, WellFormed, rootOf, follow, opened, book, sizeLimit}
+use Rattle.format.specs.Book.{count, WellFormed, rootOf, leadsTo, follow, opened, book, sizeLimit}
+use Rattle.format.proofs.Ways.{follow-alike}
 use Rattle.format.proofs.Tests.{opened-small, opened-fits}
 use Rattle.answers.specs.Answer.{Result, refused, accepted, reasonNumber}
 use Rattle.answers.specs.Definition.{afterTyping, turnedBack, shown, reported}
@@ -25,7 +23,6 @@ use Rattle.outcome.specs.Numbers.{refusalAnswer}
 use Rattle.outcome.specs.declared.Refusal.{Refusal}
 use Rattle.cells.specs.Held.{HoldsType, HoldsTerm, h-empty}
 use Rattle.loading.specs.Loaded.{Loaded}
-use Rattle.emission.specs.Emits.{HeldField}
 use Rattle.emission.proofs.Compose.{type-positive}
 use Rattle.emission.proofs.Fields.{type-field}
 use Rattle.layout.specs.Lays.{LiesTree, HereReady, LaysDown, SomeTree, Closes}
@@ -35,37 +32,17 @@ use Rattle.typing.specs.declared.Found.{Found}
 use Rattle.typing.specs.declared.Found.the-variants.{Typed, Refused}
 use Rattle.outcome.specs.declared.Outcome.{Outcome}
 use Rattle.outcome.specs.declared.Outcome.the-variants as Out
-use Rattle.cells.proofs.Held.{same-term}
+use Rattle.cells.proofs.Held.{holds, same-held}
 use Rattle.engine.specs.Inner.{TurnsBack, FindsRoot, finds, refuses, Formed, AfterTyping, RootAt, RunsRoot}
 use Rattle.engine.proofs.Parts.{cell-part, tree-part}
-
--- a way from i on through cell y
-abbrev through : List ℕ → ℕ → List ℕ → ℕ → ℕ
-through s i p y = elim (ltb y i) [ true ↦ follow s y p | false ↦ i ]
-
-through-alike : (s t p : List ℕ) (n i : ℕ) → i < n → ((j : ℕ) → j < n → follow s j p ≡ follow t j p) → (y : ℕ) → through s i p y ≡ through t i p y
-through-alike s t p n i h g y = go (ltb y i) refl
-  where
-    go : (x : Bool) → ltb y i ≡ x → _≡_ {A = ℕ} (elim x [ true ↦ follow s y p | false ↦ i ]) (elim x [ true ↦ follow t y p | false ↦ i ])
-    go true e = g y (omega (arith, ltb-true y i e))
-    go false e = refl
-
--- cells that refer alike are followed alike
-follow-alike : (s t : List ℕ) (n : ℕ) → ((i : ℕ) → i < n → cellAt s i .a ≡ cellAt t i .a) →
-    ((i : ℕ) → i < n → cellAt s i .b ≡ cellAt t i .b) → (p : List ℕ) (i : ℕ) → i < n → follow s i p ≡ follow t i p
-unfolding follow
-follow-alike s t n f g [] i h = refl
-follow-alike s t n f g (zero ∷ p) i h =
-    ap (through s i p) (f i h) ∙ through-alike s t p n i h (λ j k. follow-alike s t n f g p j k) (cellAt t i .a)
-follow-alike s t n f g (suc q ∷ p) i h =
-    ap (through s i p) (g i h) ∙ through-alike s t p n i h (λ j k. follow-alike s t n f g p j k) (cellAt t i .b)
 
 module _ (b s : List ℕ) (bytes : IsBytes b) (f : WellFormed b) (l : Loaded (take (8 * count b) b) s (count b)) where
   root-held : HoldsTerm s (rootOf b) (opened b)
   unfolding opened
   root-held =
-      subst (λ (t : Tree). HoldsTerm s (rootOf b) (toTerm t)) (tree-part b (count b) (rootOf b) (f .formed .rooted))
-      (l .terms (rootOf b) (f .formed .rooted) (rw (cell-part b (count b) (rootOf b) (f .formed .rooted)) (f .term)))
+      let i = rootOf b in
+      let low = f .formed .rooted in
+      subst (λ (t : Tree). HoldsTerm s i (toTerm t)) (tree-part b (count b) i low) (holds (l .held i low term-sort (rw (cell-part b (count b) i low) (f .term))))
 
   pub ready : Ready s (count b) 0 (rootOf b)
   ready =
@@ -82,10 +59,7 @@ module _ (b s : List ℕ) (bytes : IsBytes b) (f : WellFormed b) (l : Loaded (ta
 
   way-alike : (p : List ℕ) → follow s (rootOf b) p ≡ follow b (rootOf b) p
   way-alike p =
-      follow-alike s b (count b)
-      (λ i h. l .first i h ∙ ap (λ (t : Cell). t .a) (cell-part b (count b) i h))
-      (λ i h. l .second i h ∙ ap (λ (t : Cell). t .b) (cell-part b (count b) i h))
-      p (rootOf b) (f .formed .rooted)
+      follow-alike s b (count b) (λ i g h. l .leads i h g ∙ ap (λ (t : Cell). leadsTo i t g) (cell-part b (count b) i h)) p (rootOf b) (f .formed .rooted)
 
   -- what typing answers of the root: the book's cells are as they were
   pub root-found : {t : List ℕ} {r : Found} → Finds s t (count b) 0 (rootOf b) r → FindsRoot b t (rootOf b) r
@@ -94,13 +68,10 @@ module _ (b s : List ℕ) (bytes : IsBytes b) (f : WellFormed b) (l : Loaded (ta
       go : (x : Infer.Found) → infer [] (opened b) ≡ x → Answered s t (count b) (size (opened b)) (rootOf b) r x → FindsRoot b t (rootOf b) r
       go (Infer.found A) e a =
           let q : r ≡ Typed (a .0) (a .1) = cc in
-          finds q e (a .7) (same-term (a .5) (f .formed .rooted) root-held)
+          finds q e (a .7) (same-held (a .5) (f .formed .rooted) root-held)
       go (Infer.refused w p) e a =
           let q : r ≡ Refused (a .0) = cc in
           refuses q e (a .2 ∙ ap (λ (i : ℕ). refused (reasonNumber w) i) (way-alike p))
-
-type-held : {t : List ℕ} {c : ℕ} {A : Ty} → HoldsType t c A → HeldField t (suc c) (refers type-sort) c (fromType A)
-type-held h = type-field h (omega arith)
 
 -- what follows from what was found
 module _ {b w t : List ℕ} {i : ℕ} {r : Found} (p : Formed b w i) (bytes : IsBytes b) (d : FindsRoot b t i r) where
@@ -119,10 +90,10 @@ module _ {b w t : List ℕ} {i : ℕ} {r : Found} (p : Formed b w i) (bytes : Is
   pub type-ready : {s : List ℕ} {c k : ℕ} → 32768 ≤ length s → length t ≡ length w → r ≡ Typed c k → HereReady s t 2 c
   type-ready l h e =
       let a = found-of e in
-      record { long = omega (arith, h, p .work); ready = lay-ready l (type-held (a .2)) (type-positive (a .0)) (type-small (a .1)) }
+      record { long = omega (arith, h, p .work); ready = lay-ready l (type-field (a .2)) (type-positive (a .0)) (type-small (a .1)) }
 
   type-lies : {v : List ℕ} {c n : ℕ} (A : Ty) → infer [] (opened b) ≡ Infer.found A → HoldsType t c A → LaysDown t v 2 c n → LiesTree v n (fromType A)
-  type-lies {c = c} A e h y = y .says (suc c) (fromType A) (type-held h) (type-positive A) (type-small e)
+  type-lies {c = c} A e h y = y .says (suc c) (fromType A) (type-field h) (type-positive A) (type-small e)
 
   pub type-lain : {v : List ℕ} {c k n : ℕ} → length v ≡ length w → r ≡ Typed c k → LaysDown t v 2 c n → SomeTree v n
   type-lain h e y = let a = found-of e in record { work = h ∙ p .work; tree = fromType (a .0); lies = type-lies (a .0) (a .1) (a .2) y }

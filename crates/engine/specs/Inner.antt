@@ -75,9 +75,11 @@ pub record RootAt (w : List ℕ) (i : ℕ) (e : Term) : Type 0 where
   pub type : Ty
   pub typed : Typed [] e type
 
+-- Some term is such a root.
 pub record SomeRoot (w : List ℕ) (i : ℕ) : Type 0 where
   pub term : Term
   pub root : RootAt w i term
 
+-- The run of the root: the definition's answer and bytes.
 pub record RunsRoot (w v : List ℕ) (i limit : ℕ) (r : Outcome) : Type 0 where
   pub says : (e : Term) → RootAt w i e → Gives v r (told (evaluate sizeLimit limit 0 e))

@@ -62,6 +62,12 @@ rows = refl
 abbrev merged : List ℕ
 merged = top ++ one ++ cell 24 7 1 0 0 ++ cell 22 0 0 2 0 ++ trailer 4 3
 
-ways : map (follow merged 3) ([] ∷ (0 ∷ []) ∷ (1 ∷ []) ∷ (1 ∷ 0 ∷ []) ∷ []) ≡ (3 ∷ 0 ∷ 2 ∷ 1 ∷ [])
-unfolding follow cellAt cellBytes trailer
+-- field c of a merge is no reference
+ways : map (follow merged 3) ([] ∷ (0 ∷ []) ∷ (1 ∷ []) ∷ (1 ∷ 0 ∷ []) ∷ (2 ∷ []) ∷ []) ≡ (3 ∷ 0 ∷ 2 ∷ 1 ∷ 3 ∷ [])
+unfolding table rowIn rowOf follow cellAt cellBytes trailer
 ways = refl
+
+-- The top value as a function: its types are fields b and c.
+function : map (follow (top ++ int ++ cell 2 0 0 0 0 ++ cell 21 0 0 1 2 ++ trailer 4 3) 3) ((0 ∷ []) ∷ (1 ∷ []) ∷ (2 ∷ []) ∷ []) ≡ (0 ∷ 1 ∷ 2 ∷ [])
+unfolding table rowIn rowOf follow cellAt cellBytes trailer
+function = refl

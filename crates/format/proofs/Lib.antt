@@ -5,5 +5,6 @@ pub mod Tests
 pub mod Laying
 pub mod RoundTrip
 pub mod Assertions
+pub mod Ways
 pub mod Places
 pub mod Findings

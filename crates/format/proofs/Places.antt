@@ -1,22 +1,23 @@
 -- The cell that a way leads to holds the part of the term that the way leads to; so typing's refusals name a cell of the kind that document 01
 -- says. Assumes nothing.
-use Prim.Native.Nat.{ℕ, _<_}
+use Prim.Native.Nat.{ℕ, zero, suc, _<_}
 use mathlib.Core.Path.{_≡_, refl, sym, ap, subst, _∙_}
 use mathlib.Core.Option.{Option, none, some, Option·some-injective}
 use mathlib.Core.List.{List, [], _∷_, _++_}
 use native.Mathlib.Omega.{arith}
-use borrow.Author.Tests.{lt-ltb}
 use Rattle.calculus.specs.Syntax.{Term}
 use Rattle.calculus.specs.Infer.{Reason, unbound, not-function, no-field, conflict, mismatch, refused, infer}
-use Rattle.calculus.proofs.Places.{At, here, in-anno, in-left, in-right, in-body, in-first, in-second, in-fix, in-content, in-read}
-use Rattle.calculus.proofs.Places.{Checks, of-anno, of-argument, of-body, of-fix, Named, infer-names}
-use Rattle.format.specs.Table.{Sort, term-sort, Use, refers, Row, table, rowIn, rowOf}
+use Rattle.calculus.specs.Places.{At, here, in-anno, in-left, in-right, in-body, in-first, in-second, in-fix, in-content, in-read}
+use Rattle.calculus.specs.Places.{Checks, of-anno, of-argument, of-body, of-fix, Named}
+use Rattle.calculus.proofs.Places.{infer-names}
+use Rattle.format.specs.Table.{Sort, term-sort, Use, refers, Row, table, rowIn, rowOf, useIn}
 use Rattle.format.specs.Cell.{IsBytes, cellAt}
 use Rattle.format.specs.Tree.{Tree, node, branch, grow, treeAt}
 use Rattle.format.specs.Terms.{fromTerm}
-use Rattle.format.specs.Book.{count, rootOf, follow, opened, WellFormedCells, WellFormed}
-use Rattle.format.specs.Places.{Checking, by-anno, by-application, by-function, by-fixpoint}
+use Rattle.format.specs.Book.{count, rootOf, fieldIn, follow, opened, WellFormedCells, WellFormed}
+use Rattle.format.specs.Places.{Checking, by-anno, by-application, by-function, by-fixpoint, Names}
 use Rattle.format.proofs.Opening.{branch-lower, treeAt-grow}
+use Rattle.format.proofs.Ways.{leads-at, follow-on}
 use Rattle.format.proofs.Tests.{FieldOk, CellOk, cellFault-says, opened-tree}
 
 -- a cell has its tree's kind
@@ -34,43 +35,48 @@ record Leads (s : List ℕ) (i f j : ℕ) (t : Tree) : Type 0 where
   holds : treeAt s j ≡ t
   way : (p : List ℕ) → follow s i (f ∷ p) ≡ follow s j p
 
--- a field that passes 5 to 8 and names a cell
-leads : (s : List ℕ) (i f j : ℕ) (o : Sort) (u : Use) (t : Tree) → u ≡ refers o → FieldOk s i u j → branch (treeAt s) i u j ≡ t →
-    (j < i → (p : List ℕ) → follow s i (f ∷ p) ≡ follow s j p) → Leads s i f j t
-leads s i f j o u t v k b h =
-    let l = subst (λ (u : Use). FieldOk s i u j) v k in
-    record {
-      lower = l .0;
-      holds = sym (branch-lower (treeAt s) i j o (l .0)) ∙ ap (λ (u : Use). branch (treeAt s) i u j) (sym v) ∙ b;
-      way = h (l .0);
-    }
+-- the tree of field f
+abbrev third : ℕ → Tree → Tree → Tree → Tree
+third zero x y z = x
+third (suc zero) x y z = y
+third (suc (suc f)) x y z = z
 
 -- a cell, its tree, and the row of its kind
-module _ (s : List ℕ) (w : WellFormedCells s) (i k l : ℕ) (x y z : Tree) (r : Row) (below : i < count s) (e : treeAt s i ≡ node k l x y z) (row : rowOf k ≡ some r) where
+module _ (s : List ℕ) (w : WellFormedCells s) (f i k l : ℕ) (x y z : Tree) (r : Row) (below : i < count s) (e : treeAt s i ≡ node k l x y z) (row : rowOf k ≡ some r) where
   ok : CellOk s i
   ok = cellFault-says s i .0 (w .sound i below)
 
   same-row : ok .row ≡ r
   same-row = Option·some-injective (ok .row) r (sym (ok .found) ∙ ap rowOf (kind-is s i k l x y z e) ∙ row)
 
-  abbrev opened-field : Use → ℕ → Tree
-  opened-field u n = branch (treeAt s) i u n
+  abbrev opened-field : ℕ → Tree
+  opened-field f = branch (treeAt s) i (useIn (ok .row) f) (fieldIn (cellAt s i) f)
 
-  grown : node (cellAt s i .kind) (cellAt s i .label) (opened-field (ok .row .a) (cellAt s i .a)) (opened-field (ok .row .b) (cellAt s i .b)) (opened-field (ok .row .c) (cellAt s i .c)) ≡ node k l x y z
+  grown : node (cellAt s i .kind) (cellAt s i .label) (opened-field 0) (opened-field 1) (opened-field 2) ≡ node k l x y z
   unfolding grow
   grown = sym (treeAt-grow s i ∙ ap (grow (treeAt s) i (cellAt s i)) (ok .found)) ∙ e
 
-  a-leads : (o : Sort) → r .a ≡ refers o → Leads s i 0 (cellAt s i .a) x
-  unfolding follow
-  a-leads o u =
-      leads s i 0 (cellAt s i .a) o (ok .row .a) x (ap (λ (r : Row). r .a) same-row ∙ u) (ok .fields .a) (cc grown)
-      (λ h p. rw (lt-ltb (cellAt s i .a) i h, follow) refl)
+  passes : (f : ℕ) → FieldOk s i (useIn (ok .row) f) (fieldIn (cellAt s i) f)
+  passes zero = ok .fields .a
+  passes (suc zero) = ok .fields .b
+  passes (suc (suc f)) = ok .fields .c
 
-  b-leads : (o : Sort) → r .b ≡ refers o → Leads s i 1 (cellAt s i .b) y
-  unfolding follow
-  b-leads o u =
-      leads s i 1 (cellAt s i .b) o (ok .row .b) y (ap (λ (r : Row). r .b) same-row ∙ u) (ok .fields .b) (cc grown)
-      (λ h p. rw (lt-ltb (cellAt s i .b) i h, follow) refl)
+  opens : (f : ℕ) → opened-field f ≡ third f x y z
+  opens zero = cc grown
+  opens (suc zero) = cc grown
+  opens (suc (suc f)) = cc grown
+
+  -- a field that passes 5 to 8 and names a cell
+  leads : (o : Sort) → useIn r f ≡ refers o → Leads s i f (fieldIn (cellAt s i) f) (third f x y z)
+  leads o u =
+      let j = fieldIn (cellAt s i) f in
+      let v = ap (λ (r : Row). useIn r f) same-row ∙ u in
+      let l = subst (λ (u : Use). FieldOk s i u j) v (passes f) in
+      record {
+        lower = l .0;
+        holds = sym (branch-lower (treeAt s) i j o (l .0)) ∙ ap (λ (u : Use). branch (treeAt s) i u j) (sym v) ∙ opens f;
+        way = follow-on s i f j (leads-at i f (cellAt s i) (ok .row) o (ok .found) v (l .0));
+      }
 
 -- A way from cell i arrives at a cell of the book, which holds t, and can be gone on with.
 record Arrives (s : List ℕ) (i : ℕ) (p : List ℕ) (t : Tree) : Type 0 where
@@ -95,31 +101,23 @@ module _ (s : List ℕ) (w : WellFormedCells s) where
   arrives : {e f : Term} {p : List ℕ} → At e p f → (i : ℕ) → i < count s → treeAt s i ≡ fromTerm e → Arrives s i p (fromTerm f)
   unfolding follow fromTerm table rowIn rowOf
   arrives here i b t = record { holds = t; below = b; on = λ q. refl }
-  arrives (in-anno {p = p} h) i b t = onward p b (a-leads s w i 19 0 _ _ _ _ b t refl term-sort refl) (arrives h)
-  arrives (in-left {p = p} h) i b t = onward p b (a-leads s w i 20 0 _ _ _ _ b t refl term-sort refl) (arrives h)
-  arrives (in-right {p = p} h) i b t = onward p b (b-leads s w i 20 0 _ _ _ _ b t refl term-sort refl) (arrives h)
-  arrives (in-body {p = p} h) i b t = onward p b (a-leads s w i 21 0 _ _ _ _ b t refl term-sort refl) (arrives h)
-  arrives (in-first {p = p} h) i b t = onward p b (a-leads s w i 22 0 _ _ _ _ b t refl term-sort refl) (arrives h)
-  arrives (in-second {p = p} h) i b t = onward p b (b-leads s w i 22 0 _ _ _ _ b t refl term-sort refl) (arrives h)
-  arrives (in-fix {p = p} h) i b t = onward p b (a-leads s w i 23 0 _ _ _ _ b t refl term-sort refl) (arrives h)
-  arrives (in-content {l = l} {p = p} h) i b t = onward p b (a-leads s w i 24 l _ _ _ _ b t refl term-sort refl) (arrives h)
-  arrives (in-read {l = l} {p = p} h) i b t = onward p b (a-leads s w i 25 l _ _ _ _ b t refl term-sort refl) (arrives h)
+  arrives (in-anno {p = p} h) i b t = onward p b (leads s w 0 i 19 0 _ _ _ _ b t refl term-sort refl) (arrives h)
+  arrives (in-left {p = p} h) i b t = onward p b (leads s w 0 i 20 0 _ _ _ _ b t refl term-sort refl) (arrives h)
+  arrives (in-right {p = p} h) i b t = onward p b (leads s w 1 i 20 0 _ _ _ _ b t refl term-sort refl) (arrives h)
+  arrives (in-body {p = p} h) i b t = onward p b (leads s w 0 i 21 0 _ _ _ _ b t refl term-sort refl) (arrives h)
+  arrives (in-first {p = p} h) i b t = onward p b (leads s w 0 i 22 0 _ _ _ _ b t refl term-sort refl) (arrives h)
+  arrives (in-second {p = p} h) i b t = onward p b (leads s w 1 i 22 0 _ _ _ _ b t refl term-sort refl) (arrives h)
+  arrives (in-fix {p = p} h) i b t = onward p b (leads s w 0 i 23 0 _ _ _ _ b t refl term-sort refl) (arrives h)
+  arrives (in-content {l = l} {p = p} h) i b t = onward p b (leads s w 0 i 24 l _ _ _ _ b t refl term-sort refl) (arrives h)
+  arrives (in-read {l = l} {p = p} h) i b t = onward p b (leads s w 0 i 25 l _ _ _ _ b t refl term-sort refl) (arrives h)
 
   -- the cell j around a checked part: the part is its field a or b
   checks-at : {e f : Term} {n : ℕ} → Checks e n f → (j : ℕ) → j < count s → treeAt s j ≡ fromTerm e → Checking s j (follow s j (n ∷ []))
   unfolding follow fromTerm table rowIn rowOf
-  checks-at of-anno j b t = by-anno (kind-is s j 19 _ _ _ _ t) (a-leads s w j 19 0 _ _ _ _ b t refl term-sort refl .way [])
-  checks-at of-argument j b t = by-application (kind-is s j 20 _ _ _ _ t) (b-leads s w j 20 0 _ _ _ _ b t refl term-sort refl .way [])
-  checks-at of-body j b t = by-function (kind-is s j 21 _ _ _ _ t) (a-leads s w j 21 0 _ _ _ _ b t refl term-sort refl .way [])
-  checks-at of-fix j b t = by-fixpoint (kind-is s j 23 _ _ _ _ t) (a-leads s w j 23 0 _ _ _ _ b t refl term-sort refl .way [])
-
--- What rows 11 to 15 name: a variable, an application, a field read, a merge, a term that the cell around it checks.
-abbrev pub Names : List ℕ → Reason → ℕ → Type 0
-Names s unbound i = cellAt s i .kind ≡ 16
-Names s not-function i = cellAt s i .kind ≡ 20
-Names s no-field i = cellAt s i .kind ≡ 25
-Names s conflict i = cellAt s i .kind ≡ 22
-Names s mismatch i = (j : ℕ) × Checking s j i
+  checks-at of-anno j b t = by-anno (kind-is s j 19 _ _ _ _ t) (leads s w 0 j 19 0 _ _ _ _ b t refl term-sort refl .way [])
+  checks-at of-argument j b t = by-application (kind-is s j 20 _ _ _ _ t) (leads s w 1 j 20 0 _ _ _ _ b t refl term-sort refl .way [])
+  checks-at of-body j b t = by-function (kind-is s j 21 _ _ _ _ t) (leads s w 0 j 21 0 _ _ _ _ b t refl term-sort refl .way [])
+  checks-at of-fix j b t = by-fixpoint (kind-is s j 23 _ _ _ _ t) (leads s w 0 j 23 0 _ _ _ _ b t refl term-sort refl .way [])
 
 module _ (s : List ℕ) (w : WellFormedCells s) (i : ℕ) (b : i < count s) (e : Term) (t : treeAt s i ≡ fromTerm e) where
   named-cell : (r : Reason) (p : List ℕ) (f : Term) → At e p f → Named r e p f → Names s r (follow s i p)

@@ -1,5 +1,4 @@
--- A term or type of at most 4,095 cells whose labels, indices and numbers fit, laid down, passes the tests and opens to itself.
--- Assumes nothing.
+-- A term or type of at most 4,095 cells whose labels, indices and numbers fit, laid down, is as specs/RoundTrip says. Assumes nothing.
 use Prim.Native.Nat.{ℕ, _+_, _*_, _-_, _/_, _%_, _≤_, _<_}
 use native.Mathlib.Omega.{arith}
 use mathlib.Core.Path.{_≡_, refl, sym, ap, _∙_}
@@ -13,7 +12,8 @@ use Rattle.format.specs.Table.{Sort, type-sort, term-sort, Use, unused, 
 use Rattle.format.specs.Cell.{IsBytes, half, unsigned, Cell, cellAt, cellBytes}
 use Rattle.format.specs.Tree.{Tree, raw, cells, treeAt, refer, lay}
 use Rattle.format.specs.Terms.{fromType, fromTerm, toType, toTerm, TypeFits, TermFits}
-use Rattle.format.specs.Book.{sizeLimit, count, hasSort, WellFormedCells, WellFormed, opened, rootOf, trailer, book, typeBook, termBook}
+use Rattle.format.specs.Book.{sizeLimit, count, hasSort, WellFormedCells, opened, rootOf, trailer, book}
+use Rattle.format.specs.RoundTrip.{TermLaid, TypeLaid}
 use Rattle.format.proofs.Numbers.{unsigned-fits}
 use Rattle.format.proofs.Trees.{type-cells, term-cells, type-back, term-back}
 use Rattle.format.proofs.Laying.{blank, number, Good, leaf, cell, cell-back, length-lay, Laid, laid}
@@ -107,11 +107,6 @@ book-laid {s} {t} g h =
       opens = rw (book-root g) (root-opens (book-cells g));
     }
 
-pub record TermLaid (e : Term) : Type 0 where
-  pub bytes : IsBytes (termBook e)
-  pub well-formed : WellFormed (termBook e)
-  pub opens : opened (termBook e) ≡ e
-
 pub term-laid : (e : Term) → TermFits e → size e ≤ sizeLimit → TermLaid e
 unfolding opened
 term-laid e f h =
@@ -121,12 +116,6 @@ term-laid e f h =
       well-formed = record { formed = b .well-formed; term = b .sorted; small = rw (b .opens, term-cells e) h };
       opens = ap toTerm (b .opens) ∙ term-back e f;
     }
-
--- a type's book is turned back by row 9, and by no row before it
-pub record TypeLaid (A : Ty) : Type 0 where
-  pub bytes : IsBytes (typeBook A)
-  pub well-formed : WellFormedCells (typeBook A)
-  pub opens : toType (treeAt (typeBook A) (rootOf (typeBook A))) ≡ A
 
 pub type-laid : (A : Ty) → TypeFits A → size-type A ≤ sizeLimit → TypeLaid A
 type-laid A f h =

@@ -15,6 +15,7 @@ use Rattle.calculus.specs.Syntax.{Ty, int, top, arrow, inter, field}
 use Rattle.calculus.specs.Syntax.{Term, var, lit, unit, anno, app, lam, merge, fix, rcd, proj, size}
 use Rattle.calculus.proofs.Bools.{true-says, eqb-says, ltb-says, nltb-says, Test, _and_, passing, equal, less, at-most}
 use Rattle.format.specs.Table.{Sort, type-sort, term-sort, Use, unused, plain, refers, Row, table, rowIn, rowOf}
+pub use Rattle.format.specs.Table.{All}
 use Rattle.format.specs.Cell.{IsBytes, byte, pair, Cell, cellAt, half, signed}
 use Rattle.format.specs.Tree.{Tree, raw, node, cells, branch, grow, treeAt}
 use Rattle.format.specs.Terms.{fromType, fromTerm, toTerm, TypeFits, TermFits}
@@ -166,12 +167,12 @@ cellFault-says s i = (go (rowOf (cellAt s i .kind)) refl, λ h. rw (h .found) (r
 -- ---- what a book opens to
 
 -- the tree of a type or a term that fits
-abbrev Opens : Sort → Tree → Type 0
+abbrev pub Opens : Sort → Tree → Type 0
 Opens type-sort t = (A : Ty) × (fromType A ≡ t) × TypeFits A
 Opens term-sort t = (e : Term) × (fromTerm e ≡ t) × TermFits e
 
 -- a field of a cell, its reference opened
-abbrev Holds : Use → Tree → Type 0
+abbrev pub Holds : Use → Tree → Type 0
 Holds unused t = t ≡ raw 0
 Holds plain t = (x : ℕ) × (t ≡ raw x) × (x < 65536)
 Holds (refers o) t = Opens o t
@@ -184,7 +185,7 @@ holds s i opens plain x f h = (x, refl, f)
 holds s i opens (refers o) x f h = rw (branch-lower (treeAt s) i x o (h .0)) (opens o x (h .0) (h .1))
 
 -- a label, by its use
-abbrev Named : Use → ℕ → Type 0
+abbrev pub Named : Use → ℕ → Type 0
 Named unused x = x ≡ 0
 Named plain x = x < 256
 Named (refers o) x = Unit {0}
@@ -195,24 +196,19 @@ named s i plain x f h = f
 named s i (refers o) x f h = tt
 
 -- the parts of a cell's tree
-record Parts (r : Row) : Type 0 where
-  label : ℕ
-  ta : Tree
-  tb : Tree
-  tc : Tree
-  name : Named (r .label) label
-  a : Holds (r .a) ta
-  b : Holds (r .b) tb
-  c : Holds (r .c) tc
+pub record Parts (r : Row) : Type 0 where
+  pub label : ℕ
+  pub ta : Tree
+  pub tb : Tree
+  pub tc : Tree
+  pub name : Named (r .label) label
+  pub a : Holds (r .a) ta
+  pub b : Holds (r .b) tb
+  pub c : Holds (r .c) tc
 
 -- a cell with this row, its references opened, is a type or a term
-abbrev Reads : Row → Type 0
+abbrev pub Reads : Row → Type 0
 Reads r = (p : Parts r) → Opens (r .sort) (node (r .kind) (p .label) (p .ta) (p .tb) (p .tc))
-
--- something of every row of a list
-abbrev pub All : (Row → Type 0) → List Row → Type 0
-All P [] = Unit {0}
-All P (r ∷ rs) = P r × All P rs
 
 infixr 20 _also_
 pub _also_ : {P Q : Type 0} → P → Q → P × Q
@@ -241,7 +237,7 @@ number x y f g =
     cc)
 
 -- a cell of a kind is the tree of that kind's type or term: one line a kind
-rows : All Reads table
+pub rows : All Reads table
 unfolding table fromType fromTerm
 rows =
     (λ p. (int, cc, tt))

@@ -2,13 +2,13 @@
 -- opens to, and a tree laid down as a book of its own. Assumes nothing.
 use Prim.Native.Nat.{ℕ, zero, suc, _+_, _*_, _-_, _/_, _%_, _≤_, _<_}
 use mathlib.Core.Path.{_≡_}
-use mathlib.Core.Bool.{Bool, true, false, not, _&&_}
+use mathlib.Core.Bool.{Bool, true, false, not, cond, _&&_}
 use mathlib.Core.Option.{Option, none, some}
 use mathlib.Core.List.{List, [], _∷_, _++_}
 use lib.Dec.{eqb, ltb}
 use lib.ListN.{length}
 use Rattle.calculus.specs.Syntax.{Ty, Term}
-use Rattle.format.specs.Table.{Sort, type-sort, term-sort, Use, unused, plain, refers, Row, rowOf}
+use Rattle.format.specs.Table.{Sort, type-sort, term-sort, Use, unused, plain, refers, Row, rowOf, useIn}
 use Rattle.format.specs.Cell.{byte, pair, Cell, cellAt}
 use Rattle.format.specs.Tree.{Tree, cells, treeAt, lay}
 use Rattle.format.specs.Terms.{fromType, fromTerm, toTerm}
@@ -25,6 +25,7 @@ pub data Fault : Type 0 where
 abbrev pub count : List ℕ → ℕ
 count s = length s / 8 - 1
 
+-- Where the trailer begins.
 abbrev pub trailerAt : List ℕ → ℕ
 trailerAt s = 8 * count s
 
@@ -56,11 +57,13 @@ referenceOk i unused x = true
 referenceOk i plain x = true
 referenceOk i (refers s) x = ltb x i
 
+-- A kind with this row is of the sort; an unknown kind is of none.
 abbrev pub sortIs : Sort → Option Row → Bool
 sortIs s none = false
 sortIs type-sort (some r) = elim (r .sort) [ type-sort ↦ true | term-sort ↦ false ]
 sortIs term-sort (some r) = elim (r .sort) [ type-sort ↦ false | term-sort ↦ true ]
 
+-- Cell i is of the sort.
 abbrev pub hasSort : List ℕ → Sort → ℕ → Bool
 hasSort s t i = sortIs t (rowOf (cellAt s i .kind))
 
@@ -89,6 +92,7 @@ rowFault s i t (some r) =
     ∷ (everyField (sortOk s) r t, bad-sort)
     ∷ [])
 
+-- The first of rows 5 to 8 that cell i meets.
 unfoldable pub cellFault : List ℕ → ℕ → Option Fault
 cellFault s i = rowFault s i (cellAt s i) (rowOf (cellAt s i .kind))
 
@@ -97,6 +101,7 @@ pub record Finding : Type 0 where
   pub fault : Fault
   pub cell : ℕ
 
+-- The fault f, found at cell i.
 abbrev finding : Fault → ℕ → Option Finding
 finding f i = some (record { fault = f; cell = i })
 
@@ -146,14 +151,31 @@ pub record WellFormed (s : List ℕ) : Type 0 where
   pub term : hasSort s term-sort (rootOf s) ≡ true
   pub small : cells (treeAt s (rootOf s)) ≤ sizeLimit
 
-abbrev fieldOn : List ℕ → ℕ → ℕ → ℕ
-fieldOn s i zero = cellAt s i .a
-fieldOn s i (suc f) = cellAt s i .b
+-- Field f of a cell: 0 for a, 1 for b, 2 for c.
+abbrev pub fieldIn : Cell → ℕ → ℕ
+fieldIn t zero = t .a
+fieldIn t (suc zero) = t .b
+fieldIn t (suc (suc f)) = t .c
 
--- The cell at the end of a way from cell i, field by field: 0 for a, 1 for b. A reference that is not lower ends the way.
+-- The cell below i that a field of this use and number refers to.
+abbrev pub lowerOf : ℕ → Use → ℕ → Option ℕ
+lowerOf i unused x = none
+lowerOf i plain x = none
+lowerOf i (refers t) x = cond (ltb x i) (some x) none
+
+-- The same of field f of t, by the row of its kind.
+abbrev pub leadsBy : ℕ → Cell → Option Row → ℕ → Option ℕ
+leadsBy i t none f = none
+leadsBy i t (some r) f = lowerOf i (useIn r f) (fieldIn t f)
+
+-- "References go to lower-numbered cells": where field f of t, as cell i, leads.
+abbrev pub leadsTo : ℕ → Cell → ℕ → Option ℕ
+leadsTo i t f = leadsBy i t (rowOf (t .kind)) f
+
+-- The cell at the end of a way from cell i, field by field. A field that leads to no lower cell ends the way.
 unfoldable pub follow : List ℕ → ℕ → List ℕ → ℕ
 follow s i [] = i
-follow s i (f ∷ p) = elim (ltb (fieldOn s i f) i) [ true ↦ follow s (fieldOn s i f) p | false ↦ i ]
+follow s i (f ∷ p) = elim (leadsTo i (cellAt s i) f) [ none ↦ i | some j ↦ follow s j p ]
 
 -- The root of a book, sharing opened.
 unfoldable pub opened : List ℕ → Term
@@ -167,8 +189,10 @@ trailer n r = 0xf0 ∷ 1 ∷ n % 256 ∷ n / 256 ∷ r % 256 ∷ r / 256 ∷ 0 �
 unfoldable pub book : Tree → List ℕ
 book t = lay 0 t ++ trailer (cells t) (cells t - 1)
 
+-- A type laid down,
 abbrev pub typeBook : Ty → List ℕ
 typeBook A = book (fromType A)
 
+-- and a term.
 abbrev pub termBook : Term → List ℕ
 termBook e = book (fromTerm e)

@@ -11,6 +11,7 @@ use lib.ListN.{getD}
 abbrev pub IsBytes : List ℕ → Type 0
 IsBytes s = (i : ℕ) → getD s i 0 < 256
 
+-- The byte at i.
 abbrev pub byte : List ℕ → ℕ → ℕ
 byte s i = getD s i 0
 
@@ -26,6 +27,7 @@ pub record Cell : Type 0 where
   pub b : ℕ
   pub c : ℕ
 
+-- "Cells of 8 bytes, numbered from 0": cell i.
 unfoldable pub cellAt : List ℕ → ℕ → Cell
 cellAt s i =
     record {
@@ -36,6 +38,7 @@ cellAt s i =
       c = pair s (8 * i + 6);
     }
 
+-- The eight bytes of a cell.
 unfoldable pub cellBytes : Cell → List ℕ
 cellBytes t =
     t .kind
@@ -49,6 +52,7 @@ cellBytes t =
 unfoldable pub signed : ℕ → ℕ → ℤ
 signed h n = cond (ltb n h) (pos n) (negsuc (2 * h - suc n))
 
+-- The number as it is stored.
 unfoldable pub unsigned : ℕ → ℤ → ℕ
 unsigned h (pos n) = n
 unsigned h (negsuc n) = 2 * h - suc n

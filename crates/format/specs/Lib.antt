@@ -3,4 +3,5 @@ pub mod Cell
 pub mod Tree
 pub mod Terms
 pub mod Book
+pub mod RoundTrip
 pub mod Places

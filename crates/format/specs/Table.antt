@@ -1,10 +1,11 @@
 -- Document 01, "Bytes of a book": the table of kinds, as data. One row a kind, once for all readers. Assumes nothing.
-use Prim.Native.Nat.{ℕ}
-use mathlib.Core.Bool.{true, false}
+use Prim.Native.Nat.{ℕ, zero, suc}
+use mathlib.Core.Bool.{true, false, cond}
 use mathlib.Core.List.{List, [], _∷_}
 use mathlib.Core.Option.{Option, none, some}
 use lib.Dec.{eqb}
 
+-- "a type where a term belongs, or the reverse": what a cell is, and what a reference is to.
 pub data Sort : Type 0 where
   type-sort term-sort : Sort
 
@@ -13,6 +14,7 @@ pub data Use : Type 0 where
   unused plain : Use
   refers : Sort → Use
 
+-- "The table of kinds gives each cell's fields, once for all readers."
 pub record Row : Type 0 where
   pub kind : ℕ
   pub sort : Sort
@@ -21,12 +23,21 @@ pub record Row : Type 0 where
   pub b : Use
   pub c : Use
 
+-- What a kind makes of field f: 0 is a, 1 is b, 2 is c.
+abbrev pub useIn : Row → ℕ → Use
+useIn r zero = r .a
+useIn r (suc zero) = r .b
+useIn r (suc (suc f)) = r .c
+
+-- A row on one line;
 abbrev row : ℕ → Sort → Use → Use → Use → Use → Row
 row k s l a b c = record { kind = k; sort = s; label = l; a = a; b = b; c = c }
 
+-- a reference to a type,
 abbrev types : Use
 types = refers type-sort
 
+-- and to a term.
 abbrev terms : Use
 terms = refers term-sort
 
@@ -53,6 +64,12 @@ table =
     ∷ row 25 term-sort plain terms unused unused
     ∷ []
 
+-- Something of every element of a list: of a row, of a sample.
+abbrev pub All : {X : Type 0} → (X → Type 0) → List X → Type 0
+All P [] = Unit {0}
+All P (x ∷ xs) = P x × All P xs
+
+-- The first row of this kind.
 unfoldable pub rowIn : List Row → ℕ → Option Row
 rowIn [] k = none
 rowIn (r ∷ rs) k = elim (eqb k (r .kind)) [ true ↦ some r | false ↦ rowIn rs k ]
@@ -60,3 +77,7 @@ rowIn (r ∷ rs) k = elim (eqb k (r .kind)) [ true ↦ some r | false ↦ rowIn 
 -- The row of a kind; none for an unknown kind.
 unfoldable pub rowOf : ℕ → Option Row
 rowOf k = rowIn table k
+
+-- "Kinds 21 and 23 bind one variable in a." Of a term of this kind under k binders, the binders over field a.
+abbrev pub inside : ℕ → ℕ → ℕ
+inside kind k = cond (eqb kind 21) (suc k) (cond (eqb kind 23) (suc k) k)

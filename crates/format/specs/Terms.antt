@@ -8,9 +8,11 @@ use Rattle.calculus.specs.Syntax.{Term, var, lit, unit, anno, app, lam, merge, 
 use Rattle.format.specs.Cell.{half, signed, unsigned}
 use Rattle.format.specs.Tree.{Tree, raw, node}
 
+-- A field that the kind does not name.
 abbrev none : Tree
 none = raw 0
 
+-- A type's tree: kinds 1 to 5.
 unfoldable pub fromType : Ty → Tree
 fromType int = node 1 0 none none none
 fromType top = node 2 0 none none none
@@ -18,6 +20,7 @@ fromType (arrow A B) = node 3 0 (fromType A) (fromType B) none
 fromType (inter A B) = node 4 0 (fromType A) (fromType B) none
 fromType (field l A) = node 5 l (fromType A) none none
 
+-- A term's tree: kinds 16 to 25.
 unfoldable pub fromTerm : Term → Tree
 fromTerm (var n) = node 16 0 (raw n) none none
 fromTerm (lit z) = node 17 0 none (raw (unsigned half z % 65536)) (raw (unsigned half z / 65536))
@@ -30,6 +33,7 @@ fromTerm (fix e A) = node 23 0 (fromTerm e) (fromType A) none
 fromTerm (rcd l e) = node 24 l (fromTerm e) none none
 fromTerm (proj l e) = node 25 l (fromTerm e) none none
 
+-- The number of a field that is no reference.
 unfoldable pub plainOf : Tree → ℕ
 plainOf (raw x) = x
 plainOf (node k l a b c) = 0
@@ -71,6 +75,7 @@ TypeFits (arrow A B) = TypeFits A × TypeFits B
 TypeFits (inter A B) = TypeFits A × TypeFits B
 TypeFits (field l A) = (l < 256) × TypeFits A
 
+-- The same of a term.
 abbrev pub TermFits : Term → Type 0
 TermFits (var n) = n < 65536
 TermFits (lit z) = mag z < half

@@ -12,6 +12,11 @@ pub data Tree : Type 0 where
   raw : ℕ → Tree
   node : (kind label : ℕ) (a b c : Tree) → Tree
 
+-- the kind of a tree's root; 0 of a number
+unfoldable pub kindIn : Tree → ℕ
+kindIn (raw x) = 0
+kindIn (node k l a b c) = k
+
 -- "The size of a term or type is its count of cells with sharing opened, types included."
 unfoldable pub cells : Tree → ℕ
 cells (raw x) = 0
@@ -23,6 +28,7 @@ branch g i unused x = raw x
 branch g i plain x = raw x
 branch g i (refers s) x = elim (ltb x i) [ true ↦ g x | false ↦ raw x ]
 
+-- Cell i, its fields opened by the row of its kind. Of an unknown kind nothing is opened.
 unfoldable pub grow : (ℕ → Tree) → ℕ → Cell → Option Row → Tree
 grow g i t none = node (t .kind) (t .label) (raw (t .a)) (raw (t .b)) (raw (t .c))
 grow g i t (some r) = node (t .kind) (t .label) (branch g i (r .a) (t .a)) (branch g i (r .b) (t .b)) (branch g i (r .c) (t .c))

@@ -6,6 +6,7 @@ use native.Mathlib.Omega.{arith}
 use native.Mathlib.Nat.{zero-add}
 use mathlib.Core.Path.{_≡_, refl, _∙_, ap, subst}
 use mathlib.Core.Logic.{_⊎_, inl, inr}
+use mathlib.Core.Bool.{false}
 use mathlib.Core.List.{List, [], _++_, append-nil}
 use borrow.Rule.Slice.PartMut.{putMid, midOf, postOf, post-is}
 use lib.ListN.{length, take, drop, replicate, length-append, length-take, length-drop}
@@ -17,7 +18,8 @@ use Rattle.format.proofs.Laying.{length-lay}
 use Rattle.format.proofs.RoundTrip.{book-length}
 use Rattle.answers.specs.Engine.{workLength, zeros, laid}
 use Rattle.cells.specs.Coded.{useOf}
-use Rattle.emission.specs.Emits.{Emits, HeldField, EmitsField}
+use Rattle.cells.specs.Held.{HeldField}
+use Rattle.emission.specs.Emits.{Emits, EmitsField}
 use Rattle.emission.specs.declared.Laid.{Laid}
 use Rattle.emission.specs.declared.Laid.the-variants.{Next, Full}
 use Rattle.layout.specs.Lays.{LiesTree, LayReady, LaysDown}
@@ -51,13 +53,13 @@ whole-or-full {d} {e} {r} {t} h k m = go (decLe (cells t) sizeLimit)
     go (no u) = inr (omega arith, m .full (omega (arith, same)))
 
 -- a held tree that fits can be laid down
-pub lay-ready : {s d : List ℕ} {u x n : ℕ} {t : Tree} → 32768 ≤ length d → HeldField s n (useOf u) x t → 1 ≤ cells t → cells t ≤ sizeLimit →
+pub lay-ready : {s d : List ℕ} {u x n : ℕ} {t : Tree} → 32768 ≤ length d → HeldField false s n (useOf u) x t → 1 ≤ cells t → cells t ≤ sizeLimit →
     LayReady s d u x
 lay-ready {n = n} {t} h f k l =
     record { field = record { space = record { long = h; used = zero-le }; cell = n; tree = t; holds = f }; some = k; small = l }
 
 module _ {s d e : List ℕ} {u x : ℕ} {r : Laid} (p : LayReady s d u x) (q : EmitsField s d e u x 0 r) where
-  ends : {n : ℕ} (t : Tree) → HeldField s n (useOf u) x t → 1 ≤ cells t → WholeOrFull e r t
+  ends : {n : ℕ} (t : Tree) → HeldField false s n (useOf u) x t → 1 ≤ cells t → WholeOrFull e r t
   ends {n} t h k = whole-or-full (p .field .space .long) k (q .says n t h)
 
   pub not-full : r ≡ Full → ⊥

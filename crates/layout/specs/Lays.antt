@@ -1,13 +1,15 @@
 -- Laying a held tree down, and closing it as a book: what a call needs, and what it leaves. Assumes nothing.
 use Prim.Native.Nat.{ℕ, _*_, _≤_}
 use mathlib.Core.Path.{_≡_}
+use mathlib.Core.Bool.{false}
 use mathlib.Core.List.{List}
 use lib.ListN.{length, take}
 use Rattle.format.specs.Tree.{Tree, cells, lay}
 use Rattle.format.specs.Book.{sizeLimit, book}
 use Rattle.answers.specs.Engine.{laid}
 use Rattle.cells.specs.Coded.{useOf}
-use Rattle.emission.specs.Emits.{HeldField, FieldReady}
+use Rattle.cells.specs.Held.{HeldField}
+use Rattle.emission.specs.Emits.{FieldReady}
 
 -- The tree lies in the first n cells of the buffer, children first and the root last. Of the bytes behind it nothing is decided.
 pub record LiesTree (d : List ℕ) (n : ℕ) (t : Tree) : Type 0 where
@@ -23,8 +25,9 @@ pub record LayReady (s d : List ℕ) (u x : ℕ) : Type 0 where
   pub some : 1 ≤ cells (field .tree)
   pub small : cells (field .tree) ≤ sizeLimit
 
+-- Its tree lies in the first r cells.
 pub record LaysDown (s d : List ℕ) (u x r : ℕ) : Type 0 where
-  pub says : (n : ℕ) (t : Tree) → HeldField s n (useOf u) x t → 1 ≤ cells t → cells t ≤ sizeLimit → LiesTree d r t
+  pub says : (n : ℕ) (t : Tree) → HeldField false s n (useOf u) x t → 1 ≤ cells t → cells t ≤ sizeLimit → LiesTree d r t
 
 -- The same, to come to its own buffer by way of s.
 pub record HereReady (s w : List ℕ) (u x : ℕ) : Type 0 where

@@ -1,162 +1,122 @@
--- A cell that passes rows 5 to 8, over cells that are loaded, is loaded by writing it down. By kind in `rows` and `type-holds` alone.
--- Assumes nothing.
+-- A cell that passes rows 5 to 8, over cells that are loaded, is loaded by writing it down. Over kind and field. Assumes nothing.
 use Prim.Native.Nat.{ℕ, zero, suc, _+_, _*_, _≤_, _<_}
 use native.Mathlib.Decide.{decLt}
 use native.Mathlib.Omega.{arith}
 use mathlib.Core.Path.{_≡_, refl, ap, _∙_, sym}
-use mathlib.Core.Bool.{true}
+use mathlib.Core.Bool.{Bool, true, false}
+use mathlib.Core.Logic.{_⊎_, inl, inr}
 use mathlib.Core.Option.{some, Option·some-injective, Option·none-ne-some}
 use mathlib.Core.List.{List}
+use lib.Dec.{T}
 use lib.ListN.{length}
 use lib.Seq.{sets}
-use Rattle.calculus.specs.Syntax.{Ty}
-use Rattle.format.specs.Table.{Sort, type-sort, term-sort, Use, unused, plain, refers, Row, table, rowOf}
+use Rattle.format.specs.Table.{type-sort, term-sort, Use, unused, plain, refers, Row, table, rowOf}
 use Rattle.format.specs.Cell.{IsBytes, Cell, cellAt, cellBytes}
-use Rattle.format.specs.Tree.{Tree, raw, node, branch, grow, treeAt}
-use Rattle.format.specs.Terms.{plainOf, toType, toTerm}
-use Rattle.format.specs.Book.{hasSort}
-use Rattle.format.proofs.Tests.{FieldOk, CellOk, cellFault-says, sortIs-says, All, _also_, view, cell-fits}
+use Rattle.format.specs.Tree.{Tree, branch, grow, treeAt}
+use Rattle.format.specs.Terms.{toType}
+use Rattle.format.specs.Book.{lowerOf, leadsTo}
+use Rattle.format.proofs.Tests.{FieldOk, CellOk, cellFault-says, sortIs-says, cell-fits}
 use Rattle.format.proofs.Opening.{branch-lower, treeAt-grow}
 use Rattle.cells.specs.Coded.{CellFits, rowFrom}
 use Rattle.cells.specs.declared.Cell.{Cell as Struct}
 use Rattle.cells.specs.declared.Entry.{Entry}
-use Rattle.cells.specs.Held.{IsCell, mark, HoldsType, h-int, h-top, h-arrow, h-inter, h-field, Same}
-use Rattle.cells.specs.Held.{HoldsTerm, h-var, h-lit, h-unit, h-anno, h-app, h-lam, h-merge, h-fix, h-rcd, h-proj}
-use Rattle.cells.proofs.Held.{same-cell, same-type, same-term, Written, written}
+use Rattle.cells.specs.Held.{mark, labelBy, MarkIs, HeldField, f-unused, f-plain, f-refers, Fields, Same}
+use Rattle.cells.proofs.Held.{same-cell, same-field, below, row-passes, Written, written}
 use Rattle.loading.specs.Marks.{markBy, MarkReady}
 use Rattle.loading.specs.Loaded.{Loadable, Loaded, LoadsNext}
-use Rattle.loading.proofs.Marking.{TypeCell, t-int, t-top, t-arrow, t-inter, t-field, marked, small, mark-ready}
+use Rattle.loading.proofs.Marking.{Names, marked, small, mark-ready}
 
--- Field x of cell i, opened to the tree t: a reference holds what it opens to.
-abbrev Held : List ℕ → ℕ → Use → ℕ → Tree → Type 0
-Held s i unused x t = Unit {0}
-Held s i plain x t = t ≡ raw x
-Held s i (refers type-sort) x t = (x < i) × HoldsType s x (toType t)
-Held s i (refers term-sort) x t = (x < i) × HoldsTerm s x (toTerm t)
-
-record Fields (s : List ℕ) (i : ℕ) (r : Row) : Type 0 where
-  label : ℕ
-  a : ℕ
-  b : ℕ
-  c : ℕ
-  ta : Tree
-  tb : Tree
-  tc : Tree
-  held-a : Held s i (r .a) a ta
-  held-b : Held s i (r .b) b tb
-  held-c : Held s i (r .c) c tc
-
--- What cell t makes of the tree x at i. A type's mark is yet to come.
-abbrev Made : List ℕ → ℕ → Sort → Cell → Tree → Type 0
-Made s i type-sort t x = TypeCell s i t (toType x)
-Made s i term-sort t x = IsCell s i (t .kind) (t .label) (t .a) (t .b) (t .c) → HoldsTerm s i (toTerm x)
-
-abbrev Makes : List ℕ → ℕ → Row → Type 0
-Makes s i r =
-    (p : Fields s i r) →
-    Made s i (r .sort) (record { kind = r .kind; label = p .label; a = p .a; b = p .b; c = p .c })
-    (node (r .kind) (p .label) (p .ta) (p .tb) (p .tc))
-
--- one line a kind
-rows : (s : List ℕ) (i : ℕ) → All (Makes s i) table
-unfolding table toType toTerm plainOf
-rows s i =
-    (λ p. t-int refl)
-    also (λ p. t-top refl)
-    also (λ p. t-arrow refl (p .held-a .0) (p .held-b .0) (p .held-a .1) (p .held-b .1))
-    also (λ p. t-inter refl (p .held-a .0) (p .held-b .0) (p .held-a .1) (p .held-b .1))
-    also (λ p. t-field refl (p .held-a .0) (p .held-a .1))
-    also (λ p t. rw (p .held-a) (h-var t))
-    also (λ p t. h-lit t (rw (p .held-b, p .held-c)))
-    also (λ p t. h-unit t)
-    also (λ p t. h-anno t (p .held-a .0) (p .held-b .0) (p .held-a .1) (p .held-b .1))
-    also (λ p t. h-app t (p .held-a .0) (p .held-b .0) (p .held-a .1) (p .held-b .1))
-    also (λ p t. h-lam t (p .held-a .0) (p .held-b .0) (p .held-c .0) (p .held-a .1) (p .held-b .1) (p .held-c .1))
-    also (λ p t. h-merge t (p .held-a .0) (p .held-b .0) (p .held-a .1) (p .held-b .1))
-    also (λ p t. h-fix t (p .held-a .0) (p .held-b .0) (p .held-a .1) (p .held-b .1))
-    also (λ p t. h-rcd t (p .held-a .0) (p .held-a .1))
-    also (λ p t. h-proj t (p .held-a .0) (p .held-a .1))
-    also tt
-
-type-holds : {s : List ℕ} {i c : ℕ} {t : Cell} {A : Ty} → TypeCell s i t A → IsCell s i (t .kind) (t .label) (t .a) (t .b) c → c ≡ mark A
-    → HoldsType s i A
-type-holds (t-int k) is m = h-int (rw k at is) m
-type-holds (t-top k) is m = h-top (rw k at is) m
-type-holds (t-arrow k p q h j) is m = h-arrow (rw k at is) m p q h j
-type-holds (t-inter k p q h j) is m = h-inter (rw k at is) m p q h j
-type-holds (t-field k p h) is m = h-field (rw k at is) m p h
-
-branch-plain : (g : ℕ → Tree) (i x : ℕ) → branch g i plain x ≡ raw x
+-- a field, by its use: it holds what it opens to in the book
+held : {b s : List ℕ} {i : ℕ} → Loaded b s i → (u : Use) (x : ℕ) → FieldOk b i u x → HeldField true s i u x (branch (treeAt b) i u x)
 unfolding branch
-branch-plain g i x = refl
+held l unused x h = rw h f-unused
+held l plain x h = f-plain
+held {b} {i = i} l (refers o) x h = rw (branch-lower (treeAt b) i x o (h .0)) (below (l .held x (h .0) o (h .1)) (h .0))
 
-held : {b s : List ℕ} {i : ℕ} → Loaded b s i → (u : Use) (x : ℕ) → FieldOk b i u x → Held s i u x (branch (treeAt b) i u x)
-held l unused x h = tt
-held {b} {i = i} l plain x h = branch-plain (treeAt b) i x
-held {b} {i = i} l (refers type-sort) x h = (h .0, rw (branch-lower (treeAt b) i x type-sort (h .0)) (l .types x (h .0) (h .1)))
-held {b} {i = i} l (refers term-sort) x h = (h .0, rw (branch-lower (treeAt b) i x term-sort (h .0)) (l .terms x (h .0) (h .1)))
+label-kept : (b : List ℕ) (i : ℕ) (u : Use) (x : ℕ) → FieldOk b i u x → x ≡ labelBy u x
+label-kept b i unused x h = h
+label-kept b i plain x h = refl
+label-kept b i (refers o) x h = refl
 
-made : {b s : List ℕ} {i : ℕ} (k : CellOk b i) → Loaded b s i → Made s i (k .row .sort) (cellAt b i) (treeAt b i)
-unfolding rowOf grow
-made {b} {s} {i} k l =
+-- the tree of a cell that passes rows 5 to 8, by its row
+fields : {b s : List ℕ} {i : ℕ} (k : CellOk b i) → Loaded b s i → Fields true s i (cellAt b i .kind) (k .row) (cellAt b i) (treeAt b i)
+unfolding grow
+fields {b} {s} {i} k l =
     let r = k .row in
     let t = cellAt b i in
-    let v = view (Makes s i) table (rows s i) (t .kind) r (k .found) in
-    let m = v .1 (record {
-      label = t .label;
-      a = t .a;
-      b = t .b;
-      c = t .c;
-      ta = branch (treeAt b) i (r .a) (t .a);
-      tb = branch (treeAt b) i (r .b) (t .b);
-      tc = branch (treeAt b) i (r .c) (t .c);
+    record {
+      a = branch (treeAt b) i (r .a) (t .a);
+      b = branch (treeAt b) i (r .b) (t .b);
+      c = branch (treeAt b) i (r .c) (t .c);
+      is = rw (← label-kept b i (r .label) (t .label) (k .fields .label), treeAt-grow b i, k .found);
       held-a = held l (r .a) (t .a) (k .fields .a);
       held-b = held l (r .b) (t .b) (k .fields .b);
       held-c = held l (r .c) (t .c) (k .fields .c);
-    }) in
-    rw (treeAt-grow b i, k .found) (rw (← v .0) at m)
+    }
 
--- What the cell at i holds, by its sort.
-abbrev Holds : List ℕ → ℕ → Sort → Tree → Type 0
-Holds s i type-sort x = HoldsType s i (toType x)
-Holds s i term-sort x = HoldsTerm s i (toTerm x)
+-- ---- field c is kept, or the row does not name it
+
+abbrev Kept : Use → ℕ → ℕ → Type 0
+Kept u x y = (u ≡ unused) ⊎ (x ≡ y)
+
+held-third : {s : List ℕ} {i x y : ℕ} {u : Use} {t : Tree} → Kept u y x → HeldField true s i u x t → HeldField true s i u y t
+held-third (inl e) h = rw e (go (rw e at h))
+  where
+    go : {s : List ℕ} {i x y : ℕ} {t : Tree} → HeldField true s i unused x t → HeldField true s i unused y t
+    go f-unused = f-unused
+held-third (inr e) h = rw e h
+
+lower-kept : (i x y : ℕ) (u : Use) → Kept u x y → lowerOf i u x ≡ lowerOf i u y
+lower-kept i x y u (inl e) = rw e
+lower-kept i x y u (inr e) = rw e
+
+leads-third : (i : ℕ) (t : Cell) (c : ℕ) (r : Row) → rowOf (t .kind) ≡ some r → Kept (r .c) c (t .c) → (f : ℕ)
+    → leadsTo i (record { kind = t .kind; label = t .label; a = t .a; b = t .b; c = c }) f ≡ leadsTo i t f
+leads-third i t c r e h zero = rw e
+leads-third i t c r e h (suc zero) = rw e
+leads-third i t c r e h (suc (suc f)) = rw e (lower-kept i c (t .c) (r .c) h)
+
+-- no type names field c
+abbrev free? : Row → Bool
+free? r = elim (r .sort) [ type-sort ↦ elim (r .c) [ unused ↦ true | plain ↦ false | refers o ↦ false ] | term-sort ↦ true ]
+
+type-third : (k : ℕ) (r : Row) → rowOf k ≡ some r → r .sort ≡ type-sort → r .c ≡ unused
+unfolding table
+type-third k r e q = go (r .c) (rw q at (row-passes free? tt k r e .1))
+  where
+    go : (u : Use) → T (elim u [ unused ↦ true | plain ↦ false | refers o ↦ false ]) → u ≡ unused
+    go unused t = refl
+    go plain t = absurd t
+    go (refers o) t = absurd t
+
+-- ---- one cell more
 
 -- cells that are loaded stay so while they stay the same
 loaded-same : {b s s′ : List ℕ} {i : ℕ} → Loaded b s i → Same s s′ i → Loaded b s′ i
 loaded-same l q =
     record {
       long = q .long ∙ l .long;
-      types = λ j h f. same-type q h (l .types j h f);
-      terms = λ j h f. same-term q h (l .terms j h f);
-      first = λ j h. ap (λ (t : Cell). t .a) (same-cell q h) ∙ l .first j h;
-      second = λ j h. ap (λ (t : Cell). t .b) (same-cell q h) ∙ l .second j h;
-      kinds = λ j h. ap (λ (t : Cell). t .kind) (same-cell q h) ∙ l .kinds j h;
+      held = λ j h o f. same-field q h (l .held j h o f);
+      leads = λ j h f. ap (λ (t : Cell). leadsTo j t f) (same-cell q h) ∙ l .leads j h f;
     }
 
 -- what holds of the cells below i, and of i
 more : {P : ℕ → Type 0} {i : ℕ} → ((j : ℕ) → j < i → P j) → P i → (j : ℕ) → j < i + 1 → P j
 more {i = i} f p j h = elim (decLt j i) [ yes l ↦ f j l | no u ↦ let e : j ≡ i = omega (arith, u) in rw e p ]
 
--- the cell of a row's sort, asked for a sort
-asked : {b : List ℕ} {i : ℕ} (s : List ℕ) (k : CellOk b i) → Holds s i (k .row .sort) (treeAt b i) → (o : Sort) → hasSort b o i ≡ true
-    → Holds s i o (treeAt b i)
-asked s k h o e =
-    let r = k .row in
-    let q : r .sort ≡ o = sortIs-says o r .0 (rw (k .found) at e) in
-    rw q at h
-
+-- the cell written: its field c may be new
 loaded-more : {b s s′ : List ℕ} {i c : ℕ} (k : CellOk b i) → Loaded b s′ i
     → Written s s′ i (record { kind = cellAt b i .kind; label = cellAt b i .label; a = cellAt b i .a; b = cellAt b i .b; c = c })
-    → Holds s′ i (k .row .sort) (treeAt b i)
+    → Kept (k .row .c) c (cellAt b i .c) → MarkIs (k .row .sort) c (treeAt b i)
     → Loaded b s′ (i + 1)
-loaded-more {b} {s} {s′} {i} {c} k l w h =
+loaded-more {b} {s} {s′} {i} {c} k l w q m =
+    let n = fields k l in
+    let h : HeldField true s′ (suc i) (refers (k .row .sort)) i (treeAt b i)
+    = rw (n .is) (f-refers {n = suc i} {x = i} (omega arith) (w .there) (k .found) refl (refl, rw (n .is) at m) (n .held-a) (n .held-b) (held-third q (n .held-c))) in
     record {
       long = l .long;
-      types = more (l .types) (asked s′ k h type-sort);
-      terms = more (l .terms) (asked s′ k h term-sort);
-      first = more (l .first) (ap (λ (t : Cell). t .a) (w .there .is));
-      second = more (l .second) (ap (λ (t : Cell). t .b) (w .there .is));
-      kinds = more (l .kinds) (ap (λ (t : Cell). t .kind) (w .there .is));
+      held = more (l .held) (λ o e. rw (sortIs-says o (k .row) .0 (rw (k .found) at e)) at h);
+      leads = more (l .leads) (λ f. ap (λ (t : Cell). leadsTo i t f) (w .there .is) ∙ leads-third i (cellAt b i) c (k .row) (k .found) q f);
     }
 
 -- the sort of an entry of the code's table
@@ -191,8 +151,12 @@ module _ {b s : List ℕ} {i : ℕ} {t : Cell} {y : Entry} (n : Read b s i t y) 
   row : rowFrom (t .kind) y ≡ some (ok .row)
   row = n .row ∙ ap (λ (x : Cell). rowOf (x .kind)) (n .cell) ∙ ok .found
 
-  type-cell : y .sort ≡ 2 → TypeCell s i t (toType (treeAt b i))
-  type-cell q = rw (n .cell) (rw (type-row (t .kind) y (ok .row) row q) at (made ok (n .next .done)))
+  type-cell : y .sort ≡ 2 → Names s i type-sort t (treeAt b i)
+  type-cell q =
+      rw (n .cell) record { row = ok .row; found = ok .found; sort = type-row (t .kind) y (ok .row) row q; fields = fields ok (n .next .done) }
+
+  type-marked : {c : ℕ} → y .sort ≡ 2 → c ≡ markBy s t (t .kind) → c ≡ mark (toType (treeAt b i))
+  type-marked q h = h ∙ marked (t .kind) (type-cell q) refl
 
   pub ready : y .sort ≡ 2 → MarkReady s t
   ready q = mark-ready (type-cell q)
@@ -201,8 +165,16 @@ module _ {b s : List ℕ} {i : ℕ} {t : Cell} {y : Entry} (n : Read b s i t y) 
   fields-fit = rw (n .cell) (cell-fits b (n .bytes) i)
 
   third-fits : {c : ℕ} → NewThird s t y c → c < 65536
-  third-fits (of-type q h) = omega (arith, small (toType (treeAt b i)), h, marked (type-cell q))
+  third-fits (of-type q h) = omega (arith, small (toType (treeAt b i)), type-marked q h)
   third-fits (of-term q h) = rw h (fields-fit .3)
+
+  third-kept : {c : ℕ} → NewThird s t y c → Kept (ok .row .c) c (cellAt b i .c)
+  third-kept (of-type q h) = inl (type-third (cellAt b i .kind) (ok .row) (ok .found) (type-row (t .kind) y (ok .row) row q))
+  third-kept (of-term q h) = inr (h ∙ ap (λ (x : Cell). x .c) (n .cell))
+
+  third-marked : {c : ℕ} → NewThird s t y c → MarkIs (ok .row .sort) c (treeAt b i)
+  third-marked (of-type q h) = rw (type-row (t .kind) y (ok .row) row q) (type-marked q h)
+  third-marked (of-term q h) = rw (term-row (t .kind) y (ok .row) row q) tt
 
   pub room : 8 * i + 8 ≤ length s
   room = omega (arith, n .next .done .long, n .next .few)
@@ -210,38 +182,15 @@ module _ {b s : List ℕ} {i : ℕ} {t : Cell} {y : Entry} (n : Read b s i t y) 
   pub fits : {z : Struct} → z .a ≡ t .a → z .b ≡ t .b → NewThird s t y (z .c) → CellFits z
   fits p q h = record { a = rw p (fields-fit .1); b = rw q (fields-fit .2); c = third-fits h }
 
-  -- what the cell holds once it is written
-  holds : {s′ : List ℕ} {c : ℕ} → NewThird s t y c → Loaded b s′ i
-      → IsCell s′ i (cellAt b i .kind) (cellAt b i .label) (cellAt b i .a) (cellAt b i .b) c
-      → Holds s′ i (ok .row .sort) (treeAt b i)
-  holds {s′} {c} (of-type q h) l w =
-      let o = type-row (t .kind) y (ok .row) row q in
-      let k : TypeCell s′ i (cellAt b i) (toType (treeAt b i)) = rw o at (made ok l) in
-      rw o (type-holds k w (h ∙ marked (type-cell q)))
-  holds {s′} {c} (of-term q h) l w =
-      let o = term-row (t .kind) y (ok .row) row q in
-      let k : IsCell s′ i (cellAt b i .kind) (cellAt b i .label) (cellAt b i .a) (cellAt b i .b) (cellAt b i .c) → HoldsTerm s′ i (toTerm (treeAt b i))
-      = rw o at (made ok l) in
-      rw o (k (rw (h ∙ ap (λ (x : Cell). x .c) (n .cell)) at w))
-
   pub loaded : {s′ : List ℕ} {c : ℕ} → NewThird s t y c
       → s′ ≡ sets s (8 * i) (cellBytes (record { kind = t .kind; label = t .label; a = t .a; b = t .b; c = c })) → Loaded b s′ (i + 1)
   loaded h g =
       let w = rw (n .cell) at (written _ room g) in
-      let l = loaded-same (n .next .done) (w .same) in
-      loaded-more ok l w (holds h l (w .there))
+      loaded-more ok (loaded-same (n .next .done) (w .same)) w (third-kept h) (third-marked h)
 
 -- none is loaded at first
 pub loaded-none : {b s : List ℕ} {n : ℕ} → Loadable b s n → Loaded b s 0
-loaded-none l =
-    record {
-      long = l .long;
-      types = λ j h. absurd (omega arith);
-      terms = λ j h. absurd (omega arith);
-      first = λ j h. absurd (omega arith);
-      second = λ j h. absurd (omega arith);
-      kinds = λ j h. absurd (omega arith);
-    }
+loaded-none l = record { long = l .long; held = λ j h. absurd (omega arith); leads = λ j h. absurd (omega arith) }
 
 pub loads-next : {b s s′ : List ℕ} {n i : ℕ} → Loadable b s n → i < n → Loaded b s′ i → LoadsNext b s′ i
 loads-next {i = i} l h d = record { within = omega (arith, l .cells); few = omega (arith, l .few); sound = l .sound i h; done = d }

@@ -1,39 +1,57 @@
 -- The mark of a type from the marks of its parts. Assumes nothing.
 use Prim.Native.Nat.{ℕ, zero, suc, _≤_, _<_}
+use native.Mathlib.Decide.{ℕ-discrete}
 use native.Mathlib.Omega.{arith}
-use mathlib.Core.Path.{_≡_, refl}
+use mathlib.Core.Path.{_≡_, refl, sym, _∙_, subst}
 use mathlib.Core.Bool.{Bool, true, false, cond, _&&_}
+use mathlib.Core.Option.{some, Option·some-injective}
 use mathlib.Core.List.{List}
 use lib.Dec.{eqb}
 use borrow.Author.Tests.{eq-eqb, ne-eqb}
-use Rattle.calculus.specs.Syntax.{Ty, int, top, arrow, inter, field}
+use Rattle.calculus.specs.Syntax.{Ty}
 use Rattle.calculus.specs.Decide.{topLike?}
+use Rattle.format.specs.Table.{Sort, type-sort, refers, Row, table, rowIn, rowOf}
 use Rattle.format.specs.Cell.{IsBytes, Cell, cellAt}
+use Rattle.format.specs.Tree.{Tree}
+use Rattle.format.specs.Terms.{toType}
 use Rattle.format.proofs.Tests.{cell-fits}
-use Rattle.cells.specs.Held.{mark, HoldsType}
-use Rattle.cells.proofs.Held.{type-within, type-mark}
+use Rattle.cells.specs.Held.{mark, HeldField, Fields}
+use Rattle.cells.proofs.Held.{row-at, in-range}
 use Rattle.loading.specs.Marks.{markBy, MarkReady}
 
--- t as cell i: the type that it names, all its references to types that are held below i.
-pub data TypeCell (s : List ℕ) (i : ℕ) (t : Cell) : Ty → Type 0 where
-  t-int : t .kind ≡ 1 → TypeCell s i t int
-  t-top : t .kind ≡ 2 → TypeCell s i t top
-  t-arrow : {A B : Ty} → t .kind ≡ 3 → t .a < i → t .b < i → HoldsType s (t .a) A → HoldsType s (t .b) B → TypeCell s i t (arrow A B)
-  t-inter : {A B : Ty} → t .kind ≡ 4 → t .a < i → t .b < i → HoldsType s (t .a) A → HoldsType s (t .b) B → TypeCell s i t (inter A B)
-  t-field : {A : Ty} → t .kind ≡ 5 → t .a < i → HoldsType s (t .a) A → TypeCell s i t (field (t .label) A)
+-- t as cell i: the tree that it names by its row, all its references to cells that are held below i.
+pub record Names (s : List ℕ) (i : ℕ) (o : Sort) (t : Cell) (x : Tree) : Type 0 where
+  pub row : Row
+  pub found : rowOf (t .kind) ≡ some row
+  pub sort : row .sort ≡ o
+  pub fields : Fields true s i (t .kind) row t x
+
+-- its fields, by the row of its kind
+fields : {s : List ℕ} {i : ℕ} {o : Sort} {t : Cell} {x : Tree} (k : ℕ) (r : Row) → Names s i o t x → t .kind ≡ k → rowOf k ≡ some r → Fields true s i k r t x
+fields {s} {i} {t = t} {x = x} k r h f e =
+    let q : h .row ≡ r = Option·some-injective _ r (sym (h .found) ∙ rw f e) in
+    subst (λ (n : ℕ). Fields true s i n r t x) f (subst (λ (z : Row). Fields true s i (t .kind) z t x) q (h .fields))
+
+-- the mark of a part
+part-mark : {s : List ℕ} {i n : ℕ} {t : Tree} → HeldField true s i (refers type-sort) n t → cellAt s n .c ≡ mark (toType t)
+part-mark h = row-at h .marked .1
 
 -- both or none
-pub both-marked : (p q : Bool) → _≡_ {A = ℕ} (cond (eqb (cond p 1 0) 1) (cond q 1 0) 0) (cond (p && q) 1 0)
+both-marked : (p q : Bool) → _≡_ {A = ℕ} (cond (eqb (cond p 1 0) 1) (cond q 1 0) 0) (cond (p && q) 1 0)
 both-marked true q = refl
 both-marked false q = refl
 
-pub marked : {s : List ℕ} {i : ℕ} {t : Cell} {A : Ty} → TypeCell s i t A → markBy s t (t .kind) ≡ mark A
-unfolding topLike?
-marked (t-int k) = rw k
-marked (t-top k) = rw k
-marked (t-arrow k p q h j) = rw (k, type-mark j)
-marked (t-inter {A = A} {B = B} k p q h j) = rw (k, type-mark h, type-mark j) (both-marked (topLike? A) (topLike? B))
-marked (t-field k p h) = rw (k, type-mark h)
+pub marked : {s : List ℕ} {i : ℕ} {t : Cell} {x : Tree} (k : ℕ) → Names s i type-sort t x → t .kind ≡ k → markBy s t k ≡ mark (toType x)
+unfolding topLike? table rowIn rowOf toType
+marked {t = t} zero h f = absurd (omega (arith, f, in-range (t .kind) (h .row) (h .found) (h .sort)))
+marked (suc zero) h f = rw (fields 1 _ h f refl .is)
+marked (suc (suc zero)) h f = rw (fields 2 _ h f refl .is)
+marked (suc (suc (suc zero))) h f = let w = fields 3 _ h f refl in rw (w .is, part-mark (w .held-b))
+marked (suc (suc (suc (suc zero)))) h f =
+    let w = fields 4 _ h f refl in
+    rw (w .is, part-mark (w .held-a), part-mark (w .held-b)) (both-marked (topLike? (toType (w .a))) (topLike? (toType (w .b))))
+marked (suc (suc (suc (suc (suc zero))))) h f = let w = fields 5 _ h f refl in rw (w .is, part-mark (w .held-a))
+marked {t = t} (suc (suc (suc (suc (suc (suc k)))))) h f = absurd (omega (arith, f, in-range (t .kind) (h .row) (h .found) (h .sort)))
 
 one-or-none : (p : Bool) → cond p 1 0 ≤ 1
 one-or-none true = omega arith
@@ -43,12 +61,19 @@ pub small : (A : Ty) → mark A ≤ 1
 small A = one-or-none (topLike? A)
 
 -- the cells that are read lie within the buffer
-pub mark-ready : {s : List ℕ} {i : ℕ} {t : Cell} {A : Ty} → TypeCell s i t A → MarkReady s t
-mark-ready (t-int k) = record { first = λ a b. absurd (omega (arith, a, k)); second = λ a b. absurd (omega (arith, a, k)) }
-mark-ready (t-top k) = record { first = λ a b. absurd (omega (arith, a, k)); second = λ a b. absurd (omega (arith, a, k)) }
-mark-ready (t-arrow k p q h j) = record { first = λ a b. type-within h; second = λ a b. type-within j }
-mark-ready (t-inter k p q h j) = record { first = λ a b. type-within h; second = λ a b. type-within j }
-mark-ready (t-field k p h) = record { first = λ a b. type-within h; second = λ a b. absurd (omega (arith, b, k)) }
+pub mark-ready : {s : List ℕ} {i : ℕ} {t : Cell} {x : Tree} → Names s i type-sort t x → MarkReady s t
+unfolding table rowIn rowOf
+mark-ready {t = t} h =
+    record {
+      first = λ a b. elim (ℕ-discrete (t .kind) 4) [
+        | yes e ↦ row-at (fields 4 _ h e refl .held-a) .within
+        | no n ↦ row-at (fields 5 _ h (omega (arith, a, b, n)) refl .held-a) .within
+      ];
+      second = λ a b. elim (ℕ-discrete (t .kind) 3) [
+        | yes e ↦ row-at (fields 3 _ h e refl .held-b) .within
+        | no n ↦ row-at (fields 4 _ h (omega (arith, a, b, n)) refl .held-b) .within
+      ];
+    }
 
 -- the mark by its kind, as it is found
 pub by-second : (s : List ℕ) (t : Cell) {k : ℕ} {y : Cell} → k ≡ 3 → y ≡ cellAt s (t .b) → y .c ≡ markBy s t k

@@ -9,7 +9,7 @@ use Rattle.format.proofs.Tests.{All, _also_, view}
 use Rattle.cells.specs.Coded.{CellFits, useOf, rowFrom}
 use Rattle.cells.specs.declared.Cell.{Cell as Struct}
 use Rattle.cells.specs.declared.Entry.{Entry}
-use Rattle.emission.proofs.Emitting.{uses}
+use Rattle.cells.proofs.Rows.{uses}
 use Rattle.moving.specs.Moves.{rebase, Stands, Rebased, Between, OfRun, RebaseReady, CellReady}
 
 -- ---- a field

@@ -5,12 +5,14 @@ use native.Mathlib.Omega.{arith}
 use mathlib.Core.Bool.{Bool, true, false}
 use mathlib.Core.Path.{_≡_, ap, _∙_}
 use mathlib.Core.List.{List}
+use mathlib.Core.Option.{some}
 use lib.ListN.{length}
-use Rattle.format.specs.Table.{Sort, Use, refers}
+use Rattle.format.specs.Table.{Sort, type-sort, term-sort, Use, refers, Row, rowOf}
 use Rattle.format.specs.Cell.{Cell, cellAt}
 use Rattle.format.specs.Tree.{Tree}
-use Rattle.cells.specs.Held.{IsCell}
-use Rattle.emission.specs.Runs.{Run, r-unused, r-plain, r-refers, Marked}
+use Rattle.cells.specs.Held.{IsCell, Marked}
+use Rattle.cells.proofs.Held.{in-range}
+use Rattle.emission.specs.Runs.{Run, r-unused, r-plain, r-refers}
 use Rattle.emission.proofs.Runs.{grows}
 use Rattle.moving.specs.Moves.{rebase, Stands, Moved, Between, OfRun, ShiftReady, Shifts, PlaceReady}
 
@@ -74,15 +76,16 @@ named {t} {j} h p q =
       is = λ i. record { kind = p i; label = q i; a = cellAt t j .a; b = cellAt t j .b; c = cellAt t j .c };
     }
 
-marked-moved : (q : Bool) {k c d : ℕ} (t : Tree) → (k < 16 → d ≡ c) → Marked q k c t → Marked q k d t
-marked-moved true t e h = λ l. e l ∙ h l
-marked-moved false t e h = h
+marked-moved : (q : Bool) (o : Sort) {k c d : ℕ} (r : Row) (t : Tree) → rowOf k ≡ some r → (k < 16 → d ≡ c) → Marked q o r c t → Marked q o r d t
+marked-moved true type-sort {k} r t n e h = (h .0, e (omega (arith, in-range k r n (h .0) .1)) ∙ h .1)
+marked-moved true term-sort r t n e h = h
+marked-moved false o r t n e h = h
 
 pub moved : {q : Bool} {s t : List ℕ} {x y v w n e : ℕ} {u : Use} {f : Tree} → Moved s t v w e → v ≤ x → y ≤ e → Run q s x u n f y
     → Run q t (x - v + w) u (rebase v w u n) f (y - v + w)
 moved o a b r-unused = r-unused
 moved o a b r-plain = r-plain
-moved {q} {y = y} {v} {w} o a b (r-refers {i = i} p k m f g h z d) =
+moved {q} {y = y} {v} {w} o a b (r-refers {i = i} {o = u} {r = r} p k m f g h z d) =
     let c = o .cell i (omega (arith, grows f, grows g, grows h)) (omega (arith, z)) in
     let j = c .is .follows in
     let last : y - v + w ≡ suc (i - v + w) = omega (arith, grows f, grows g, grows h, z) in
@@ -94,7 +97,7 @@ moved {q} {y = y} {v} {w} o a b (r-refers {i = i} p k m f g h z d) =
     (renumber ((rw (p .is) at (j .second)) _ k) (moved o (omega (arith, grows f)) (omega (arith, grows h, z)) g))
     (renumber ((rw (p .is) at (j .third)) _ k) (moved o (omega (arith, grows f, grows g)) (omega (arith, z)) h))
     last
-    (marked-moved q _ (rw (p .is) at (c .is .marks)) d)
+    (marked-moved q u r _ k (rw (p .is) at (c .is .marks)) d)
 
 -- a run that `shift` has moved
 pub run-shifted : {w v : List ℕ} {q : Bool} {x y n i : ℕ} {o : Sort} {t : Tree} → Run q w x (refers o) i t (x + n) → Shifts w v x y n

@@ -96,6 +96,7 @@ pub record ShiftReady (w : List ℕ) (x y n : ℕ) : Type 0 where
   pub down : y ≤ x
   pub cells : (i : ℕ) → x ≤ i → i < x + n → OfRun (cellAt w i) x i
 
+-- They have moved; the cells before and behind are as they were.
 pub record Shifts (w v : List ℕ) (x y n : ℕ) : Type 0 where
   pub moved : Moved w v x y (x + n)
   pub kept : Kept w v y (x + n)
@@ -107,6 +108,7 @@ pub record ShiftCellReady (w : List ℕ) (x y i : ℕ) : Type 0 where
   pub down : y ≤ x
   pub cell : OfRun (cellAt w (x + i)) x (x + i)
 
+-- It has moved; all other cells are as they were.
 pub record ShiftsCell (w v : List ℕ) (x y i : ℕ) : Type 0 where
   pub wrote : Wrote w v (y + i)
   pub moved : MovedCell w v x y (x + i) (y + i)
@@ -119,6 +121,7 @@ pub record PlaceReady (s w : List ℕ) (x y n : ℕ) : Type 0 where
   pub inside : y + n ≤ 8192
   pub cells : (i : ℕ) → x ≤ i → i < x + n → OfRun (cellAt s i) x i
 
+-- They have come there; the cells before and behind are as they were.
 pub record Places (s w v : List ℕ) (x y n : ℕ) : Type 0 where
   pub placed : Placed s v x y (x + n)
   pub kept : Kept w v y (y + n)
@@ -131,6 +134,7 @@ pub record PlaceCellReady (s w : List ℕ) (x y i : ℕ) : Type 0 where
   pub inside : y + i < 8192
   pub cell : OfRun (cellAt s (x + i)) x (x + i)
 
+-- It has come there; all other cells are as they were.
 pub record PlacesCell (s w v : List ℕ) (x y i : ℕ) : Type 0 where
   pub wrote : Wrote w v (y + i)
   pub placed : PlacedCell s v x y (x + i) (y + i)

@@ -26,11 +26,13 @@ refusalAnswer (Projection i) = refused 13 i
 refusalAnswer (Merge i) = refused 14 i
 refusalAnswer (Mismatch i) = refused 15 i
 
+-- "value when the term is one; else spent ..; else no room ..": "Each carries the steps taken"
 abbrev pub stopAnswer : Stop → Answer
 stopAnswer (Value n) = stopped value n
 stopAnswer (Spent n) = stopped spent n
 stopAnswer (Room n) = stopped room n
 
+-- a refusal, an acceptance with the size of the type, or a stop
 abbrev pub answerOf : Outcome → Answer
 answerOf (Refused r) = refusalAnswer r
 answerOf (Accepted n) = accepted n

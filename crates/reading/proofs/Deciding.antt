@@ -6,7 +6,7 @@ use native.Mathlib.Decide.{ℕ-discrete}
 use mathlib.Core.Path.{_≡_, refl, sym, ap, ap₂, _∙_}
 use mathlib.Core.Bool.{Bool, true, false, _&&_, cond}
 use mathlib.Core.List.{List}
-use mathlib.Core.Option.{Option, none, some}
+use mathlib.Core.Option.{Option, none, some, Option·map, orElse}
 use mathlib.Core.Logic.{by-cases}
 use lib.Dec.{eqb}
 use borrow.Author.Tests.{eq-eqb, ne-eqb}
@@ -14,12 +14,15 @@ use Rattle.calculus.specs.Syntax.{Ty, int, top, arrow, inter, field}
 use Rattle.calculus.specs.Syntax.{Term, lam, rcd}
 use Rattle.calculus.specs.Subtyping.{TopLike, Ordinary}
 use Rattle.calculus.specs.Decide.{below?}
-use Rattle.calculus.specs.Evaluate.{within, orElse, mergeBoth, firstPart, castInt, castArrow, castField, cast}
+use Rattle.calculus.specs.Evaluate.{mergeBoth, firstPart, castInt, castArrow, castField, cast}
 use Rattle.calculus.proofs.Decisions.{topLike?-says, not-topLike}
 use Rattle.calculus.proofs.Tests.{cast-top, cast-arrow, cast-field, cast-merge}
+use Rattle.format.specs.Table.{type-sort}
 use Rattle.format.specs.Cell.{Cell, cellAt}
-use Rattle.cells.specs.Held.{HoldsType, h-int, h-top, h-arrow, h-inter, h-field}
-use Rattle.cells.proofs.Held.{kind-of, int-at, lit-at, type-one, term-one}
+use Rattle.format.specs.Tree.{kindIn}
+use Rattle.format.specs.Terms.{fromType}
+use Rattle.cells.specs.Held.{HoldsType}
+use Rattle.cells.proofs.Held.{kindOf, kind-of-held, int-at, lit-at, held-one}
 use Rattle.emission.specs.Runs.{RunsType, RunsTerm}
 use Rattle.emission.proofs.Runs.{holds-type, holds-term}
 use Rattle.emission.proofs.RunParts.{TwoTypes, OneType, FunctionAt, OneTerm, arrow-at, inter-at, field-at, lam-at, merge-at, rcd-at}
@@ -35,7 +38,7 @@ use Rattle.reading.proofs.Single.{single-int, single-arrow, single-fiel
 -- Under any type.
 
 some-both : (x y : Option Term) → isSome (mergeBoth x y) ≡ (isSome x && isSome y)
-unfolding mergeBoth within
+unfolding mergeBoth
 some-both none y = refl
 some-both (some e) none = refl
 some-both (some e) (some f) = refl
@@ -64,11 +67,15 @@ pub record Halves (s : List ℕ) (v a p q : ℕ) : Type 0 where
   pub smaller : (sizeAt s p < sizeAt s a) × (sizeAt s q < sizeAt s a)
 
 pub ordinary-at : {s : List ℕ} {a : ℕ} {A : Ty} → HoldsType s a A → (cellAt s a .kind ≡ 4 → ⊥) → Ordinary A
-ordinary-at (h-int p c) n = tt
-ordinary-at (h-top p c) n = tt
-ordinary-at (h-arrow p c u v x y) n = tt
-ordinary-at (h-inter p c u v x y) n = n (kind-of p)
-ordinary-at (h-field p c u x) n = tt
+unfolding fromType kindIn
+ordinary-at {A = A} h n = go A (λ k. n (kind-of-held h ∙ k))
+  where
+    go : (A : Ty) → (kindOf type-sort A ≡ 4 → ⊥) → Ordinary A
+    go int n = tt
+    go top n = tt
+    go (arrow A B) n = tt
+    go (inter A B) n = n refl
+    go (field l A) n = tt
 
 -- y stands in cell a
 module _ {s : List ℕ} {a : ℕ} {y : Cell} (is : y ≡ cellAt s a) (v : ℕ) where
@@ -151,10 +158,10 @@ pub record MergeHalves (s : List ℕ) (v a p q : ℕ) : Type 0 where
 module _ {s : List ℕ} {v a : ℕ} (p : ProperAt s v a) where
   -- the same of whatever the cell of the type holds
   is-ordinary : {A : Ty} → RunsType s a A → Ordinary A
-  is-ordinary k = rw (type-one (holds-type k) (holds-type (p .both .holds-type))) (p .ordinary)
+  is-ordinary k = rw (held-one (holds-type k) (holds-type (p .both .holds-type))) (p .ordinary)
 
   pub is-proper : {A : Ty} → RunsType s a A → ¬ TopLike A
-  is-proper k = rw (type-one (holds-type k) (holds-type (p .both .holds-type))) (p .proper)
+  is-proper k = rw (held-one (holds-type k) (holds-type (p .both .holds-type))) (p .proper)
 
   -- another value under the type
   under : {w : ℕ} {e : Term} → RunsTerm s w e → ProperAt s w a
@@ -208,7 +215,7 @@ module _ {s : List ℕ} {v a : ℕ} {r : Bool} (f : Readable s v a r) where
       where
         go : (e : Term) (A : Ty) → RunsTerm s v e → (o : Option Term) → cast A e ≡ o → true ≡ isSome o → PartBy s A (At v) o
         go e A h none q u = no-bool u
-        go e A h (some x) q u = (v, e, refl, h, q, rw (term-one (holds-term h) (holds-term (p .at .both .holds-value))) (p .single))
+        go e A h (some x) q u = (v, e, refl, h, q, rw (held-one (holds-term h) (holds-term (p .at .both .holds-value))) (p .single))
 
 -- The part of a value that can be read.
 
@@ -224,8 +231,7 @@ some-when : (t : Bool) (e : Term) → isSome (cond t (some e) none) ≡ t
 some-when true e = refl
 some-when false e = refl
 
-some-within : (t : Bool) (f : Term → Term) (o : Option Term) → isSome (cond t (within f o) none) ≡ (t && isSome o)
-unfolding within
+some-within : (t : Bool) (f : Term → Term) (o : Option Term) → isSome (cond t (Option·map f o) none) ≡ (t && isSome o)
 some-within true f none = refl
 some-within true f (some e) = refl
 some-within false f o = refl
@@ -240,11 +246,15 @@ record-reads l k A e n = rw (cast-field l A (rcd k e) n) (some-within (eqb l k) 
 
 pub field-left : {s : List ℕ} {a : ℕ} {A : Ty} → HoldsType s a A → Ordinary A → ¬ TopLike A → (cellAt s a .kind ≡ 1 → ⊥) → (cellAt s a .kind ≡ 3 → ⊥) →
     cellAt s a .kind ≡ 5
-field-left (h-int p c) o n f g = absurd (f (kind-of p))
-field-left (h-top p c) o n f g = absurd (n tt)
-field-left (h-arrow p c u v x y) o n f g = absurd (g (kind-of p))
-field-left (h-inter p c u v x y) o n f g = absurd o
-field-left (h-field p c u x) o n f g = kind-of p
+unfolding fromType kindIn
+field-left {A = A} h o n f g = kind-of-held h ∙ go A o n (λ k. f (kind-of-held h ∙ k)) (λ k. g (kind-of-held h ∙ k))
+  where
+    go : (A : Ty) → Ordinary A → ¬ TopLike A → (kindOf type-sort A ≡ 1 → ⊥) → (kindOf type-sort A ≡ 3 → ⊥) → kindOf type-sort A ≡ 5
+    go int o n f g = absurd (f refl)
+    go top o n f g = absurd (n tt)
+    go (arrow A B) o n f g = absurd (g refl)
+    go (inter A B) o n f g = absurd o
+    go (field l A) o n f g = refl
 
 -- the content at p of the record at v under that of the record type at a, which is the type at q
 pub record Contents (s : List ℕ) (v a p q : ℕ) : Type 0 where
@@ -268,7 +278,7 @@ module _ {s : List ℕ} {v a : ℕ} {x y : Cell} (g : CellsOf s v a x y) where
 
   -- the same of whatever they hold
   is-single : {e : Term} → RunsTerm s v e → NoMerge e
-  is-single h = rw (term-one (holds-term h) (holds-term own-value)) (g .given .single)
+  is-single h = rw (held-one (holds-term h) (holds-term own-value)) (g .given .single)
 
   not-top : {A B : Ty} → RunsType s a A → A ≡ B → ¬ TopLike B
   not-top k e = rw (← e) (is-proper (g .given .at) k)
@@ -324,7 +334,7 @@ module _ {s : List ℕ} {v a : ℕ} {x y : Cell} (g : CellsOf s v a x y) where
         rw (
           t .is,
           single-arrow (t .first) (t .second) e (not-top w (t .is)) (is-single h),
-          no-function (t .first) (t .second) (holds-term h) n,
+          no-function (holds-term h) (t .first) (t .second) n,
         )
         refl;
   }
@@ -373,7 +383,7 @@ module _ {s : List ℕ} {v a : ℕ} {x y : Cell} (g : CellsOf s v a x y) where
           rw (
             t .is,
             single-field _ (t .content) e (not-top w (t .is)) (is-single h),
-            no-record _ (cast (t .content)) (holds-term h) n,
+            no-record (holds-term h) _ (cast (t .content)) n,
           )
           refl;
     }

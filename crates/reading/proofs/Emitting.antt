@@ -1,5 +1,5 @@
 -- What the emission of a reading needs and leaves, call by call. Assumes nothing.
-use Prim.Native.Nat.{ℕ, _+_, _*_, _-_, _≤_, _<_}
+use Prim.Native.Nat.{ℕ, _+_, _*_, _≤_, _<_}
 use native.Mathlib.Numerals.{add-one}
 use native.Mathlib.Omega.{arith}
 use mathlib.Core.Path.{_≡_, refl, sym, ap, subst, _∙_}
@@ -8,32 +8,29 @@ use mathlib.Core.List.{List}
 use lib.ListN.{length}
 use mathlib.Core.Option.{some, Option·some-injective}
 use Rattle.calculus.specs.Syntax.{Ty, arrow}
-use Rattle.calculus.specs.Syntax.{Term, lam, rcd}
+use Rattle.calculus.specs.Syntax.{Term, unit, lam, merge, rcd}
 use Rattle.calculus.specs.Subtyping.{TopLike}
 use Rattle.calculus.specs.Evaluate.{cast}
 use Rattle.calculus.proofs.Decisions.{topLike?-says, not-topLike}
 use Rattle.calculus.proofs.Tests.{cast-top}
 use Rattle.format.specs.Cell.{IsBytes, Cell, cellAt}
 use Rattle.format.specs.Table.{type-sort, refers}
-use Rattle.format.specs.Tree.{Tree, cells}
+use Rattle.format.specs.Tree.{Tree, raw, node, kindIn}
 use Rattle.format.specs.Terms.{fromType, fromTerm}
 use Rattle.format.proofs.Tests.{number}
 use Rattle.emission.proofs.Emitting.{fields-fit}
-use Rattle.cells.specs.Held.{HoldsType, h-arrow, HoldsTerm, h-lam}
-use Rattle.cells.specs.Coded.{asCell}
-use Rattle.cells.specs.declared.Cell.{Cell as Struct}
-use Rattle.cells.proofs.Held.{kind-of, int-at, term-within}
+use Rattle.cells.specs.Held.{HoldsTerm}
+use Rattle.cells.proofs.Held.{kind-of-held, int-at, held-within}
 use Rattle.types.proofs.Heads.{top-like, not-top-like}
 use Rattle.emission.specs.Emits.{Space, Emits, LastReady, Finishes}
 use Rattle.emission.specs.Runs.{Run, RunsType, RunsTerm}
 use Rattle.emission.specs.Copies.{RunReady, EmitsRun, EndReady, EmitsEnd}
-use Rattle.emission.proofs.Copies.{term-ready, term-emits}
+use Rattle.emission.proofs.Copies.{run-ready, run-emits}
 use Rattle.emission.specs.declared.Laid.{Laid}
-use Rattle.emission.specs.declared.Laid.the-variants.{Next, Full}
-use Rattle.emission.proofs.Compose.{Placed, placed, no-room, placed-space, placed-length, refer-last, type-positive, term-positive}
-use Rattle.emission.proofs.Compose.{emits-node, emits-two, emits-one, emits-leaf, full-first, full-second, full-third}
+use Rattle.emission.proofs.Compose.{emits-leaf}
+use Rattle.emission.proofs.Chain.{of-none, of-type, of-term, Each, Chain}
 use Rattle.emission.proofs.Runs.{holds-type, holds-term}
-use Rattle.emission.proofs.RunParts.{lam-at, arrow-at, inter-at, field-at}
+use Rattle.emission.proofs.RunParts.{lam-at, arrow-at, inter-at, field-at, arrow-second, lam-second}
 use Rattle.reading.specs.Reads.{ProperAt, NoMerge, PartOf, ReadingReady, PartReady, EmitsReading, FunctionReady, EmitsFunction}
 use Rattle.reading.specs.declared.Part.{Part}
 use Rattle.reading.specs.declared.Part.the-variants.{At, Nothing}
@@ -41,27 +38,13 @@ use Rattle.reading.proofs.Sizes.{sizeAt, field-smaller}
 use Rattle.reading.proofs.Deciding.{ordinary-at, halves, is-proper, field-left, different}
 use Rattle.reading.proofs.Readings.{BothRead, both-read, number-read, function-read, record-read}
 
--- a tree that is not empty ends behind cell 0, and its last cell is a number of a field
-module _ {d e : List ℕ} {m x : ℕ} {t : Tree} (p : Placed d e m x t) (h : 1 ≤ cells t) where
-  ends : 1 ≤ x
-  ends = omega (arith, p .next)
-
-last-fits : {d e : List ℕ} {m x : ℕ} {t : Tree} → Placed d e m x t → x - 1 < 65536
-last-fits p = omega (arith, p .fits)
-
--- The last cell of a tree, t, that is to be written at z: the trees that it refers to have cells, it can be written, and then P holds of
--- the buffer and the answer.
-pub record Last (ends : Type 0) (P : List ℕ → Laid → Type 0) (f : List ℕ) (z : ℕ) (t : Struct) : Type 0 where
-  pub after : ends
-  pub ready : LastReady f t
-  pub leaves : {o : List ℕ} {u : Laid} → Finishes f o z (asCell t) u → P o u
-
 -- A function with the output type of a function type.
 
 -- t is the function's cell, y the type's
 pub record Begun (s d : List ℕ) (p a m : ℕ) (t y : Cell) : Type 0 where
   pub function : t ≡ cellAt s p
   pub type : y ≡ cellAt s a
+  pub bytes : IsBytes s
   pub ready : FunctionReady s d p a m
 
 -- the runs of the function's parts
@@ -70,123 +53,82 @@ record FunctionRuns (s : List ℕ) (t : Cell) (e : Term) (A : Ty) : Type 0 where
   input : Run true s (t .a + 1) (refers type-sort) (t .b) (fromType A) (t .b + 1)
 
 lam-kind : {s : List ℕ} {p : ℕ} {e : Term} {A B : Ty} → HoldsTerm s p (lam e A B) → cellAt s p .kind ≡ 21
-lam-kind (h-lam c u v w h k l) = kind-of c
-
-arrow-kind : {s : List ℕ} {a : ℕ} {C D : Ty} → HoldsType s a (arrow C D) → cellAt s a .kind ≡ 3
-arrow-kind (h-arrow c m u v h k) = kind-of c
+unfolding fromTerm kindIn
+lam-kind h = kind-of-held h
 
 function-parts : {s : List ℕ} {p : ℕ} {t : Cell} {e : Term} {A B : Ty} → t ≡ cellAt s p → RunsTerm s p (lam e A B) → FunctionRuns s t e A
-function-parts {e = e} {A} q r =
+function-parts {e = e} q r =
     let w = lam-at r (lam-kind (holds-term r)) in
     let eb : e ≡ w .body = cc (w .is) in
-    let ea : A ≡ w .input = cc (w .is) in
-    record { body = rw (q, eb) (w .holds-body); input = rw (q, ea, add-one, add-one) (w .run-input) }
+    record { body = rw (q, eb) (w .holds-body); input = rw (q, add-one, add-one) (lam-second r) }
 
 output-part : {s : List ℕ} {a : ℕ} {y : Cell} {C D : Ty} → y ≡ cellAt s a → RunsType s a (arrow C D)
     → Run true s (y .a + 1) (refers type-sort) (y .b) (fromType D) (y .b + 1)
-output-part {D = D} q r =
-    let w = arrow-at r (arrow-kind (holds-type r)) in
-    let ed : D ≡ w .second = cc (w .is) in
-    rw (q, ed, add-one, add-one) (w .run-second)
+output-part q r = rw (q, add-one, add-one) (arrow-second r)
+
+-- all that the cells p and a may be said to hold: a function and a function type
+abbrev pub Functions : List ℕ → ℕ → ℕ → Type 0
+Functions s p a = (e : Term) × (A : Ty) × (B : Ty) × (C : Ty) × (D : Ty) × RunsTerm s p (lam e A B) × RunsType s a (arrow C D)
+
+pub functions : {s d o : List ℕ} {p a m : ℕ} {r : Laid} → Each {W = Functions s p a} (λ w. fromTerm (lam (w .0) (w .1) (w .4))) d o m r
+    → EmitsFunction s d o p a m r
+functions q = record { says = λ e A B C D h k. q (e, A, B, C, D, h, k) }
+
+pub lam-tree : (e : Term) (A B : Ty) → fromTerm (lam e A B) ≡ node 21 0 (fromTerm e) (fromType A) (fromType B)
+unfolding fromTerm
+lam-tree e A B = refl
 
 module _ {s d : List ℕ} {p a m : ℕ} {t y : Cell} (g : Begun s d p a m t y) where
-  body-run : {e : Term} {A B : Ty} → RunsTerm s p (lam e A B) → RunsTerm s (t .a) e
-  body-run r = function-parts (g .function) r .body
+  abbrev pub function-chain : Chain (Functions s p a) (λ w. fromTerm (lam (w .0) (w .1) (w .4))) d m
+  function-chain =
+      let r = g .ready in
+      record {
+        space = r .space;
+        own = (r .body, r .input, r .output, r .first, r .second, r .holds-function, r .holds-type);
+        kind = 21;
+        label = 0;
+        a = of-term (λ w. w .0);
+        b = of-type (λ w. w .1);
+        c = of-type (λ w. w .4);
+        is = λ w. lam-tree (w .0) (w .1) (w .4);
+      }
 
-  input-run : {e : Term} {A B : Ty} → RunsTerm s p (lam e A B) → Run true s (t .a + 1) (refers type-sort) (t .b) (fromType A) (t .b + 1)
-  input-run r = function-parts (g .function) r .input
+  pub cells-fit : (t .a < 65536) × (t .b < 65536) × (y .a < 65536) × (y .b < 65536)
+  cells-fit = let f = fields-fit s p (g .bytes) (g .function) in let h = fields-fit s a (g .bytes) (g .type) in (f .0, f .1, h .0, h .1)
 
-  output-run : {C D : Ty} → RunsType s a (arrow C D) → Run true s (y .a + 1) (refers type-sort) (y .b) (fromType D) (y .b + 1)
-  output-run = output-part (g .type)
-
+  -- what each call needs, and says
   pub body-ready : EndReady s d (t .a) m
-  body-ready = term-ready (g .ready .space) (body-run (g .ready .holds-function))
+  body-ready = run-ready (function-parts (g .function) (g .ready .holds-function) .body .run) (g .ready .space)
 
-  module _ {f : List ℕ} {r : Laid} (q : EmitsEnd s d f (t .a) m r) where
-    body-emits : {e : Term} {A B : Ty} → RunsTerm s p (lam e A B) → Emits d f m r (fromTerm e)
-    body-emits h = term-emits q (body-run h)
+  pub body-each : {e : List ℕ} {r : Laid} → EmitsEnd s d e (t .a) m r → Each (function-chain .a .tree) d e m r
+  body-each q w = run-emits (function-parts (g .function) (w .5) .body .run) q
 
-    pub no-body : r ≡ Full → EmitsFunction s d f p a m Full
-    unfolding fromTerm
-    no-body j = record { says = λ e A B C D h k. full-first (no-room (body-emits h) j) refl }
+  module _ {f : List ℕ} {x : ℕ} where
+    type-run : {i n : ℕ} {o : Tree} → Run true s i (refers type-sort) n o (n + 1) → Space f x → RunReady s f i (n + 1) x
+    type-run {n = n} r h = record { space = h; marked = true; sort = type-sort; last = n; tree = _; run = r }
 
-    module _ {x : ℕ} (j : r ≡ Next x) where
-      body-placed : {e : Term} {A B : Ty} → RunsTerm s p (lam e A B) → Placed d f m x (fromTerm e)
-      body-placed h = placed (body-emits h) j
+    pub input-ready : Space f x → RunReady s f (t .a + 1) (t .b + 1) x
+    input-ready = type-run (function-parts (g .function) (g .ready .holds-function) .input)
 
-      own-body : Placed d f m x (fromTerm (g .ready .body))
-      own-body = body-placed (g .ready .holds-function)
+    pub input-each : {e : List ℕ} {r : Laid} → EmitsRun s f e (t .a + 1) (t .b + 1) x r → Each (function-chain .b .tree) f e x r
+    input-each q w = q .says true type-sort (t .b) _ (function-parts (g .function) (w .5) .input)
 
-      pub input-ready : RunReady s f (t .a + 1) (t .b + 1) x
-      input-ready =
-          record {
-            space = placed-space (g .ready .space) own-body;
-            marked = true;
-            sort = type-sort;
-            last = t .b;
-            tree = _;
-            run = input-run (g .ready .holds-function);
-          }
+    pub output-ready : Space f x → RunReady s f (y .a + 1) (y .b + 1) x
+    output-ready = type-run (output-part (g .type) (g .ready .holds-type))
 
-      module _ {f′ : List ℕ} {r′ : Laid} (q′ : EmitsRun s f f′ (t .a + 1) (t .b + 1) x r′) where
-        input-emits : {e : Term} {A B : Ty} → RunsTerm s p (lam e A B) → Emits f f′ x r′ (fromType A)
-        input-emits h = q′ .says true type-sort (t .b) _ (input-run h)
+    pub output-each : {e : List ℕ} {r : Laid} → EmitsRun s f e (y .a + 1) (y .b + 1) x r → Each (function-chain .c .tree) f e x r
+    output-each q w = q .says true type-sort (y .b) _ (output-part (g .type) (w .6))
 
-        pub no-input : r′ ≡ Full → EmitsFunction s d f′ p a m Full
-        unfolding fromTerm
-        no-input j′ = record { says = λ e A B C D h k. full-second (body-placed h) (no-room (input-emits h) j′) refl }
+-- All that the cells v and a may be said to hold: a value, its reading, and the type that it is read under.
 
-        module _ {x′ : ℕ} (j′ : r′ ≡ Next x′) where
-          input-placed : {e : Term} {A B : Ty} → RunsTerm s p (lam e A B) → Placed f f′ x x′ (fromType A)
-          input-placed h = placed (input-emits h) j′
+abbrev pub Readings : List ℕ → ℕ → ℕ → Type 0
+Readings s v a = (e : Term) × (x : Term) × (A : Ty) × RunsTerm s v e × RunsType s a A × (cast A e ≡ some x)
 
-          own-input : Placed f f′ x x′ (fromType (g .ready .input))
-          own-input = input-placed (g .ready .holds-function)
+pub readings : {s d o : List ℕ} {v a m : ℕ} {r : Laid} → Each {W = Readings s v a} (λ w. fromTerm (w .1)) d o m r → EmitsReading s d o v a m r
+readings q = record { says = λ e x A h k c. q (e, x, A, h, k, c) }
 
-          pub output-ready : RunReady s f′ (y .a + 1) (y .b + 1) x′
-          output-ready =
-              record {
-                space = placed-space (placed-space (g .ready .space) own-body) own-input;
-                marked = true;
-                sort = type-sort;
-                last = y .b;
-                tree = _;
-                run = output-run (g .ready .holds-type);
-              }
-
-          module _ {f″ : List ℕ} {r″ : Laid} (q″ : EmitsRun s f′ f″ (y .a + 1) (y .b + 1) x′ r″) where
-            output-emits : {C D : Ty} → RunsType s a (arrow C D) → Emits f′ f″ x′ r″ (fromType D)
-            output-emits k = q″ .says true type-sort (y .b) _ (output-run k)
-
-            pub no-output : r″ ≡ Full → EmitsFunction s d f″ p a m Full
-            unfolding fromTerm
-            no-output j″ = record { says = λ e A B C D h k. full-third (body-placed h) (input-placed h) (no-room (output-emits k) j″) refl }
-
-            module _ {x″ : ℕ} (j″ : r″ ≡ Next x″) where
-              output-placed : {C D : Ty} → RunsType s a (arrow C D) → Placed f′ f″ x′ x″ (fromType D)
-              output-placed k = placed (output-emits k) j″
-
-              own-output : Placed f′ f″ x′ x″ (fromType (g .ready .second))
-              own-output = output-placed (g .ready .holds-type)
-
-              pub function-last :
-                  Last ((1 ≤ x) × (1 ≤ x′) × (1 ≤ x″)) (λ o u. EmitsFunction s d o p a m u) f″ x″
-                  (record { kind = 21; label = 0; a = x - 1; b = x′ - 1; c = x″ - 1 })
-              unfolding fromTerm
-              function-last = record {
-                after = (ends own-body (term-positive (g .ready .body)), ends own-input (type-positive (g .ready .input)), ends own-output (type-positive (g .ready .second)));
-                ready = record {
-                  long = omega (arith, placed-length own-output, placed-length own-input, placed-length own-body, g .ready .space .long);
-                  fits = record { a = last-fits own-body; b = last-fits own-input; c = last-fits own-output };
-                };
-                leaves = λ l. record {
-                  says = λ e A B C D h k.
-                      let u = body-placed h in
-                      let v = input-placed h in
-                      let w = output-placed k in
-                      emits-node u v w (refer-last u (term-positive e)) (refer-last v (type-positive A)) (refer-last w (type-positive D)) l;
-                };
-              }
+abbrev pub ownReading : {s d : List ℕ} {v a m : ℕ} → ReadingReady s d v a m → Readings s v a
+ownReading g = (g .both .value, g .reading, g .both .type, g .both .holds-value, g .both .holds-type, g .reads)
 
 -- A reading under an intersection.
 
@@ -216,94 +158,63 @@ pub record Split (s d : List ℕ) (v a m : ℕ) (y : Cell) : Type 0 where
   pub kind : y .kind ≡ 4
   pub ready : ReadingReady s d v a m
 
-module _ {s d : List ℕ} {v a m : ℕ} {y : Cell} (g : Split s d v a m y) where
-  parts : {e x : Term} {A : Ty} → RunsType s a A → cast A e ≡ some x → HalvesRead s (y .a) (y .b) e x
-  parts = halves-read (g .is) (g .kind)
+pub merge-tree : (e f : Term) → fromTerm (merge e f) ≡ node 22 0 (fromTerm e) (fromTerm f) (raw 0)
+unfolding fromTerm
+merge-tree e f = refl
 
-  own : HalvesRead s (y .a) (y .b) (g .ready .both .value) (g .ready .reading)
-  own = parts (g .ready .both .holds-type) (g .ready .reads)
+module _ {s d : List ℕ} {v a m : ℕ} {y : Cell} (g : Split s d v a m y) where
+  pub parts : (w : Readings s v a) → HalvesRead s (y .a) (y .b) (w .0) (w .1)
+  parts w = halves-read (g .is) (g .kind) (w .4) (w .5)
+
+  abbrev pub merge-chain : Chain (Readings s v a) (λ w. fromTerm (w .1)) d m
+  merge-chain =
+      record {
+        space = g .ready .space;
+        own = ownReading (g .ready);
+        kind = 22;
+        label = 0;
+        a = of-term (λ w. parts w .read .first);
+        b = of-term (λ w. parts w .read .second);
+        c = of-none;
+        is = λ w. ap fromTerm (parts w .read .is) ∙ merge-tree (parts w .read .first) (parts w .read .second);
+      }
 
   pub smaller : (sizeAt s (y .a) < sizeAt s a) × (sizeAt s (y .b) < sizeAt s a)
   smaller = halves (g .is) v (g .ready .both) (g .kind) .smaller
 
+  own : HalvesRead s (y .a) (y .b) (g .ready .both .value) (g .ready .reading)
+  own = parts (ownReading (g .ready))
+
   -- the value under a half
-  half : {i n : ℕ} {o : List ℕ} {B : Ty} {x : Term} → Space o n → RunsType s i B → cast B (g .ready .both .value) ≡ some x → ReadingReady s o v i n
-  half {B = B} {x = x} w h c = record {
+  half : {i n : ℕ} {o : List ℕ} {B : Ty} {x : Term} → RunsType s i B → cast B (g .ready .both .value) ≡ some x → Space o n → ReadingReady s o v i n
+  half {B = B} {x = x} h c w = record {
     space = w;
     both = record { value = g .ready .both .value; type = B; holds-value = g .ready .both .holds-value; holds-type = h };
     reading = x;
     reads = c;
   }
 
-  pub first-ready : ReadingReady s d v (y .a) m
-  first-ready = half (g .ready .space) (own .holds-first) (own .read .reads-first)
+  module _ {f : List ℕ} {n : ℕ} where
+    pub first-ready : Space f n → ReadingReady s f v (y .a) n
+    first-ready = half (own .holds-first) (own .read .reads-first)
 
-  module _ {f : List ℕ} {r : Laid} (q : EmitsReading s d f v (y .a) m r) where
-    first-emits : {e x : Term} → RunsTerm s v e → (p : HalvesRead s (y .a) (y .b) e x) → Emits d f m r (fromTerm (p .read .first))
-    first-emits h p = q .says _ _ _ h (p .holds-first) (p .read .reads-first)
+    pub first-each : {o : List ℕ} {r : Laid} → EmitsReading s f o v (y .a) n r → Each (merge-chain .a .tree) f o n r
+    first-each q w = q .says _ _ _ (w .3) (parts w .holds-first) (parts w .read .reads-first)
 
-    pub no-first : r ≡ Full → EmitsReading s d f v a m Full
-    unfolding fromTerm
-    no-first j = record { says = λ e x A h k c. let p = parts k c in rw (p .read .is) (full-first (no-room (first-emits h p) j) refl) }
+    pub second-ready : Space f n → ReadingReady s f v (y .b) n
+    second-ready = half (own .holds-second) (own .read .reads-second)
 
-    module _ {z : ℕ} (j : r ≡ Next z) where
-      first-placed : {e x : Term} → RunsTerm s v e → (p : HalvesRead s (y .a) (y .b) e x) → Placed d f m z (fromTerm (p .read .first))
-      first-placed h p = placed (first-emits h p) j
-
-      own-first : Placed d f m z (fromTerm (own .read .first))
-      own-first = first-placed (g .ready .both .holds-value) own
-
-      pub second-ready : ReadingReady s f v (y .b) z
-      second-ready = half (placed-space (g .ready .space) own-first) (own .holds-second) (own .read .reads-second)
-
-      module _ {f′ : List ℕ} {r′ : Laid} (q′ : EmitsReading s f f′ v (y .b) z r′) where
-        second-emits : {e x : Term} → RunsTerm s v e → (p : HalvesRead s (y .a) (y .b) e x) → Emits f f′ z r′ (fromTerm (p .read .second))
-        second-emits h p = q′ .says _ _ _ h (p .holds-second) (p .read .reads-second)
-
-        pub no-second : r′ ≡ Full → EmitsReading s d f′ v a m Full
-        unfolding fromTerm
-        no-second j′ = record {
-          says = λ e x A h k c. let p = parts k c in rw (p .read .is) (full-second (first-placed h p) (no-room (second-emits h p) j′) refl);
-        }
-
-        module _ {z′ : ℕ} (j′ : r′ ≡ Next z′) where
-          second-placed : {e x : Term} → RunsTerm s v e → (p : HalvesRead s (y .a) (y .b) e x) → Placed f f′ z z′ (fromTerm (p .read .second))
-          second-placed h p = placed (second-emits h p) j′
-
-          own-second : Placed f f′ z z′ (fromTerm (own .read .second))
-          own-second = second-placed (g .ready .both .holds-value) own
-
-          pub merge-last :
-              Last ((1 ≤ z) × (1 ≤ z′)) (λ o u. EmitsReading s d o v a m u) f′ z′ (record { kind = 22; label = 0; a = z - 1; b = z′ - 1; c = 0 })
-          unfolding fromTerm
-          merge-last = record {
-            after = (ends own-first (term-positive (own .read .first)), ends own-second (term-positive (own .read .second)));
-            ready = record {
-              long = omega (arith, placed-length own-second, placed-length own-first, g .ready .space .long);
-              fits = record { a = last-fits own-first; b = last-fits own-second; c = omega arith };
-            };
-            leaves = λ l. record {
-              says = λ e x A h k c.
-                  let p = parts k c in
-                  let u = first-placed h p in
-                  let w = second-placed h p in
-                  rw (p .read .is) (emits-two u w (refer-last u (term-positive (p .read .first))) (refer-last w (term-positive (p .read .second))) l);
-            };
-          }
+    pub second-each : {o : List ℕ} {r : Laid} → EmitsReading s f o v (y .b) n r → Each (merge-chain .b .tree) f o n r
+    second-each q w = q .says _ _ _ (w .3) (parts w .holds-second) (parts w .read .reads-second)
 
 -- A reading under a top-like type that is no intersection.
 
 module _ {s d : List ℕ} {v a m : ℕ} {y : Cell} (is : y ≡ cellAt s a) (g : ReadingReady s d v a m) where
-  pub top-last : LastReady d (record { kind = 18; label = 0; a = 0; b = 0; c = 0 })
-  top-last = record { long = g .space .long; fits = record { a = omega arith; b = omega arith; c = omega arith } }
-
-  pub emits-top : {o : List ℕ} {u : Laid} → (y .kind ≡ 4 → ⊥) → y .c ≡ 1 → Finishes d o m (record { kind = 18; label = 0; a = 0; b = 0; c = 0 }) u →
-      EmitsReading s d o v a m u
-  unfolding fromTerm
+  pub emits-top : {o : List ℕ} {u : Laid} → (y .kind ≡ 4 → ⊥) → y .c ≡ 1 → Emits d o m u (fromTerm unit) → EmitsReading s d o v a m u
   emits-top n t l = record {
     says = λ e x A h k c.
         let w = cast-top A e (ordinary-at (holds-type k) (rw is at n)) (topLike?-says A .0 (top-like (holds-type k) y is t)) in
-        rw (Option·some-injective _ _ (sym c ∙ w)) (emits-leaf (g .space .used) l);
+        rw (Option·some-injective _ _ (sym c ∙ w)) l;
   }
 
   pub part-ready : (y .kind ≡ 4 → ⊥) → (y .c ≡ 1 → ⊥) → PartReady s d v a m
@@ -361,6 +272,10 @@ pub record RecordPart (s : List ℕ) (i j l : ℕ) (x : Term) : Type 0 where
   pub reads : cast type value ≡ some content
   pub is : x ≡ rcd l content
 
+pub rcd-tree : (l : ℕ) (e : Term) → fromTerm (rcd l e) ≡ node 24 l (fromTerm e) (raw 0) (raw 0)
+unfolding fromTerm
+rcd-tree l e = refl
+
 -- y is the type's cell, p the part that was found
 pub record Found (s d : List ℕ) (v a m : ℕ) (p : ℕ) (y : Cell) : Type 0 where
   pub bytes : IsBytes s
@@ -378,7 +293,7 @@ module _ {s d : List ℕ} {v a m p : ℕ} {y : Cell} (g : Found s d v a m p y) w
   own-part = by-part (g .ready .ready .both .holds-value) (g .ready .ready .both .holds-type) (g .ready .ready .reads)
 
   pub part-within : 8 * p + 8 ≤ length s
-  part-within = term-within (holds-term (own-part .holds))
+  part-within = held-within (holds-term (own-part .holds))
 
   still-proper : {A B : Ty} → RunsType s a A → A ≡ B → ¬ TopLike B
   still-proper k e = rw (← e) (is-proper (proper-at (g .ready)) k)
@@ -439,73 +354,67 @@ module _ {s d : List ℕ} {v a m p : ℕ} {y : Cell} (g : Found s d v a m p y) w
         rw (w .is) (q .says (w .body) (w .input) (w .output) (w .first) (w .second) (w .holds) (w .holds-type));
   }
 
-  -- a record; t is its cell
-  module _ {t : Cell} (at : t ≡ cellAt s p) (not-int : y .kind ≡ 1 → ⊥) (not-arrow : y .kind ≡ 3 → ⊥) where
-    is-field : cellAt s a .kind ≡ 5
-    is-field =
-        field-left (holds-type (g .ready .ready .both .holds-type)) (g .ready .ordinary) (g .ready .proper) (rw (g .is) at not-int) (rw (g .is) at not-arrow)
+-- the part is a record; t is its cell
+pub record Recorded (s d : List ℕ) (v a m p : ℕ) (y t : Cell) : Type 0 where
+  pub found : Found s d v a m p y
+  pub cell : t ≡ cellAt s p
+  pub not-int : y .kind ≡ 1 → ⊥
+  pub not-arrow : y .kind ≡ 3 → ⊥
 
-    record-part : {A : Ty} {e x : Term} → RunsTerm s v e → RunsType s a A → cast A e ≡ some x → RecordPart s (t .a) (y .a) (t .label) x
-    record-part h k c = rw (g .is, at)
-        (let w = by-part h k c in
-        let f = field-at k is-field in
-        let r = record-read (w .holds) (w .single) _ (f .content) (still-proper k (f .is)) (under w (f .is)) in
-        record {
-          value = r .held .term;
-          type = f .content;
-          content = r .content;
-          holds-value = r .held .holds;
-          holds-type = f .holds;
-          reads = r .reads;
-          is = r .is;
-        })
+module _ {s d : List ℕ} {v a m p : ℕ} {y t : Cell} (g : Recorded s d v a m p y t) where
+  is-field : cellAt s a .kind ≡ 5
+  is-field =
+      let f = g .found in
+      field-left (holds-type (f .ready .ready .both .holds-type)) (f .ready .ordinary) (f .ready .proper) (rw (f .is) at (g .not-int))
+      (rw (f .is) at (g .not-arrow))
 
-    own-record : RecordPart s (t .a) (y .a) (t .label) (g .ready .ready .reading)
-    own-record = record-part (g .ready .ready .both .holds-value) (g .ready .ready .both .holds-type) (g .ready .ready .reads)
+  pub record-part : (w : Readings s v a) → RecordPart s (t .a) (y .a) (t .label) (w .1)
+  record-part w = rw (g .found .is, g .cell)
+      (let h = by-part (g .found) (w .3) (w .4) (w .5) in
+      let f = field-at (w .4) is-field in
+      let r = record-read (h .holds) (h .single) _ (f .content) (still-proper (g .found) (w .4) (f .is)) (under h (f .is)) in
+      record {
+        value = r .held .term;
+        type = f .content;
+        content = r .content;
+        holds-value = r .held .holds;
+        holds-type = f .holds;
+        reads = r .reads;
+        is = r .is;
+      })
 
-    pub content-smaller : sizeAt s (y .a) < sizeAt s a
-    content-smaller = rw (g .is) (let h = g .ready .ready .both .holds-type in let f = field-at h is-field in field-smaller h (f .is) (f .holds))
+  abbrev pub record-chain : Chain (Readings s v a) (λ w. fromTerm (w .1)) d m
+  record-chain =
+      record {
+        space = g .found .ready .ready .space;
+        own = ownReading (g .found .ready .ready);
+        kind = 24;
+        label = t .label;
+        a = of-term (λ w. record-part w .content);
+        b = of-none;
+        c = of-none;
+        is = λ w. ap fromTerm (record-part w .is) ∙ rcd-tree (t .label) (record-part w .content);
+      }
 
-    pub content-ready : ReadingReady s d (t .a) (y .a) m
-    content-ready = record {
-      space = g .ready .ready .space;
-      both = record {
-        value = own-record .value;
-        type = own-record .type;
-        holds-value = own-record .holds-value;
-        holds-type = own-record .holds-type;
-      };
-      reading = own-record .content;
-      reads = own-record .reads;
-    }
+  own-record : RecordPart s (t .a) (y .a) (t .label) (g .found .ready .ready .reading)
+  own-record = record-part (ownReading (g .found .ready .ready))
 
-    module _ {f : List ℕ} {r : Laid} (q : EmitsReading s d f (t .a) (y .a) m r) where
-      content-emits : {x : Term} (w : RecordPart s (t .a) (y .a) (t .label) x) → Emits d f m r (fromTerm (w .content))
-      content-emits w = q .says (w .value) (w .content) (w .type) (w .holds-value) (w .holds-type) (w .reads)
+  pub content-smaller : sizeAt s (y .a) < sizeAt s a
+  content-smaller = rw (g .found .is) (let h = g .found .ready .ready .both .holds-type in let f = field-at h is-field in field-smaller h (f .is) (f .holds))
 
-      pub no-content : r ≡ Full → EmitsReading s d f v a m Full
-      unfolding fromTerm
-      no-content j = record { says = λ e x A h k c. let w = record-part h k c in rw (w .is) (full-first (no-room (content-emits w) j) refl) }
+  pub content-ready : ReadingReady s d (t .a) (y .a) m
+  content-ready = record {
+    space = g .found .ready .ready .space;
+    both = record {
+      value = own-record .value;
+      type = own-record .type;
+      holds-value = own-record .holds-value;
+      holds-type = own-record .holds-type;
+    };
+    reading = own-record .content;
+    reads = own-record .reads;
+  }
 
-      module _ {z : ℕ} (j : r ≡ Next z) where
-        content-placed : {x : Term} (w : RecordPart s (t .a) (y .a) (t .label) x) → Placed d f m z (fromTerm (w .content))
-        content-placed w = placed (content-emits w) j
-
-        own-content : Placed d f m z (fromTerm (own-record .content))
-        own-content = content-placed own-record
-
-        pub record-last : Last (1 ≤ z) (λ o u. EmitsReading s d o v a m u) f z (record { kind = 24; label = t .label; a = z - 1; b = 0; c = 0 })
-        unfolding fromTerm
-        record-last = record {
-          after = ends own-content (term-positive (own-record .content));
-          ready = record {
-            long = omega (arith, placed-length own-content, g .ready .ready .space .long);
-            fits = record { a = last-fits own-content; b = omega arith; c = omega arith };
-          };
-          leaves = λ l. record {
-            says = λ e x A h k c.
-                let w = record-part h k c in
-                let i = content-placed w in
-                rw (w .is) (emits-one i (refer-last i (term-positive (w .content))) l);
-          };
-        }
+  pub content-each : {o : List ℕ} {r : Laid} → EmitsReading s d o (t .a) (y .a) m r → Each (record-chain .a .tree) d o m r
+  content-each q w =
+      let p = record-part w in q .says (p .value) (p .content) (p .type) (p .holds-value) (p .holds-type) (p .reads)

@@ -4,7 +4,7 @@ use native.Mathlib.Decide.{ℕ-discrete}
 use mathlib.Core.Path.{_≡_, refl, sym, ap, _∙_}
 use mathlib.Core.Bool.{Bool, true, false, _&&_, cond}
 use mathlib.Core.List.{List}
-use mathlib.Core.Option.{Option, none, some, Option·some-injective, Option·none-ne-some}
+use mathlib.Core.Option.{Option, none, some, Option·map, Option·some-injective, Option·none-ne-some}
 use mathlib.Core.Logic.{by-cases}
 use lib.Dec.{eqb}
 use borrow.Author.Tests.{eqb-true}
@@ -12,7 +12,7 @@ use Rattle.calculus.specs.Syntax.{Ty, int, arrow, inter, field}
 use Rattle.calculus.specs.Syntax.{Term, lit, lam, merge, rcd}
 use Rattle.calculus.specs.Subtyping.{TopLike}
 use Rattle.calculus.specs.Decide.{below?}
-use Rattle.calculus.specs.Evaluate.{within, mergeBoth, castInt, castArrow, castField, cast}
+use Rattle.calculus.specs.Evaluate.{mergeBoth, castInt, castArrow, castField, cast}
 use Rattle.format.specs.Cell.{cellAt, half, signed}
 use Rattle.cells.proofs.Held.{lit-at}
 use Rattle.emission.specs.Runs.{RunsTerm}
@@ -33,7 +33,7 @@ no-answer : {X : Type 0} {x : Term} → none ≡ some x → X
 no-answer {x = x} e = absurd (Option·none-ne-some x e)
 
 pub both-read : (A B : Ty) (e x : Term) → cast (inter A B) e ≡ some x → BothRead A B e x
-unfolding cast mergeBoth within
+unfolding cast mergeBoth
 both-read A B e x = go (cast A e) (cast B e) refl refl
   where
     go : (o q : Option Term) → cast A e ≡ o → cast B e ≡ q → mergeBoth o q ≡ some x → BothRead A B e x
@@ -53,11 +53,10 @@ pub record WithinRead (l k : ℕ) (o : Option Term) (x : Term) : Type 0 where
   pub reads : o ≡ some content
   pub is : x ≡ rcd l content
 
-within-some : {x : Term} (l k : ℕ) (o : Option Term) → cond (eqb l k) (within (rcd l) o) none ≡ some x → WithinRead l k o x
-unfolding within
+within-some : {x : Term} (l k : ℕ) (o : Option Term) → cond (eqb l k) (Option·map (rcd l) o) none ≡ some x → WithinRead l k o x
 within-some {x} l k o = go (eqb l k) refl o refl
   where
-    go : (t : Bool) → eqb l k ≡ t → (q : Option Term) → o ≡ q → cond t (within (rcd l) q) none ≡ some x → WithinRead l k o x
+    go : (t : Bool) → eqb l k ≡ t → (q : Option Term) → o ≡ q → cond t (Option·map (rcd l) q) none ≡ some x → WithinRead l k o x
     go true e none f h = no-answer h
     go true e (some w) f h = record { content = w; same = eqb-true l k e; reads = f; is = sym (Option·some-injective _ _ h) }
     go false e q f h = no-answer h
@@ -92,7 +91,7 @@ module _ {s : List ℕ} {i : ℕ} {f x : Term} (h : RunsTerm s i f) (n : NoMerge
       (λ k.
       let z = lam-at h k in
       record { function = z; holds = rw (z .is) at h; is = when-some (below? C (z .input) && below? (z .output) D) (rw (z .is) at g) })
-      (λ k. no-answer (sym (no-function C D (holds-term h) k) ∙ g))
+      (λ k. no-answer (sym (no-function (holds-term h) C D k) ∙ g))
 
   pub record-read : (l : ℕ) (A : Ty) → ¬ TopLike A → cast (field l A) f ≡ some x → RecordRead s i f x A
   unfolding castField
@@ -103,4 +102,4 @@ module _ {s : List ℕ} {i : ℕ} {f x : Term} (h : RunsTerm s i f) (n : NoMerge
       let z = rcd-at h k in
       let w = within-some l (cellAt s i .label) (cast A (z .term)) (rw (z .is) at g) in
       record { held = z; content = w .content; reads = w .reads; is = w .is ∙ ap (λ m. rcd m (w .content)) (w .same) })
-      (λ k. no-answer (sym (no-record l (cast A) (holds-term h) k) ∙ g))
+      (λ k. no-answer (sym (no-record (holds-term h) l (cast A) k) ∙ g))

@@ -14,10 +14,12 @@ use Rattle.emission.specs.declared.Laid.{Laid}
 use Rattle.reading.specs.declared.Part.{Part}
 use Rattle.reading.specs.declared.Part.the-variants.{At, Nothing}
 
+-- There is an answer.
 abbrev pub isSome : Option Term → Bool
 isSome none = false
 isSome (some x) = true
 
+-- A value at v and a type at a.
 pub record ValueAndType (s : List ℕ) (v a : ℕ) : Type 0 where
   pub value : Term
   pub type : Ty
@@ -34,6 +36,7 @@ pub record ProperAt (s : List ℕ) (v a : ℕ) : Type 0 where
   pub ordinary : Ordinary (both .type)
   pub proper : ¬ TopLike (both .type)
 
+-- A value that has no halves to be read from.
 abbrev pub NoMerge : Term → Type 0
 NoMerge f = (g h : Term) → ¬ (f ≡ merge g h)
 
@@ -47,6 +50,7 @@ abbrev pub PartBy : (s : List ℕ) (A : Ty) → Part → Option Term → Type 0
 PartBy s A r none = r ≡ Nothing
 PartBy s A r (some x) = (p : ℕ) × (f : Term) × (r ≡ At p) × RunsTerm s p f × (cast A f ≡ some x) × NoMerge f
 
+-- That part; none if the value cannot be read.
 pub record FindsPart (s : List ℕ) (v a : ℕ) (r : Part) : Type 0 where
   pub says : (e : Term) (A : Ty) → RunsTerm s v e → RunsType s a A → PartBy s A r (cast A e)
 
@@ -67,6 +71,7 @@ pub record PartReady (s d : List ℕ) (v a m : ℕ) : Type 0 where
   pub ordinary : Ordinary (ready .both .type)
   pub proper : ¬ TopLike (ready .both .type)
 
+-- The reading is emitted.
 pub record EmitsReading (s d t : List ℕ) (v a m : ℕ) (r : Laid) : Type 0 where
   pub says : (e x : Term) (A : Ty) → RunsTerm s v e → RunsType s a A → cast A e ≡ some x → Emits d t m r (fromTerm x)
 

@@ -5,6 +5,7 @@ use emission::Laid;
 use emission::emit_run;
 use emission::emit_run_to;
 use emission::finish;
+use emission::finish_top;
 use types::subtype;
 ghost use Rattle.reading.specs.Reads.{ValueAndType, Readable, ProperAt, SingleAt, FindsPart, PartOf};
 ghost use Rattle.reading.specs.Reads.{ReadingReady, PartReady, EmitsReading, FunctionReady, EmitsFunction};
@@ -131,17 +132,7 @@ pub fn emit_reading(s: &[u8], d: &mut [u8], v: usize, a: usize, m: usize) -> Lai
 {
     let t = read_cell(s, a);
     if t.c == 1 && t.kind != 4 {
-        return finish(
-            d,
-            m,
-            Cell {
-                kind: 18,
-                label: 0,
-                a: 0,
-                b: 0,
-                c: 0,
-            },
-        );
+        return finish_top(d, m);
     }
     if t.kind != 4 {
         return emit_part(s, d, v, a, m);

@@ -1,17 +1,21 @@
 -- The successor of a redex, by its kind: what a value makes of it. Assumes nothing.
 use Prim.Native.Nat.{ℕ, _*_, _+_, _≤_, _<_}
+use native.Mathlib.Decide.{ℕ-discrete}
 use native.Mathlib.Omega.{arith}
-use mathlib.Core.Path.{_≡_, refl, sym}
+use mathlib.Core.Path.{_≡_, refl, sym, _∙_}
 use mathlib.Core.Bool.{true}
-use mathlib.Core.Option.{Option, none, some, Option·some-injective, Option·none-ne-some}
+use mathlib.Core.Option.{Option, none, some, Option·map, Option·some-injective, Option·none-ne-some}
 use mathlib.Core.List.{List}
 use lib.ListN.{length}
 use Rattle.calculus.specs.Syntax.{Ty, Term, unit, anno, app, fix, put}
 use Rattle.calculus.specs.Decide.{value?}
-use Rattle.calculus.specs.Evaluate.{within, cast, apply, next}
+use Rattle.calculus.specs.Evaluate.{cast, apply, next}
 use Rattle.format.specs.Cell.{Cell, cellAt}
-use Rattle.cells.specs.Held.{HoldsTerm, h-var, h-lit, h-unit, h-anno, h-app, h-lam, h-merge, h-fix, h-rcd, h-proj}
-use Rattle.cells.proofs.Held.{kind-of, term-within}
+use Rattle.format.specs.Tree.{kindIn}
+use Rattle.format.specs.Terms.{fromTerm}
+use Rattle.cells.specs.Held.{HoldsTerm}
+use Rattle.cells.proofs.Held.{kind-of, kind-of-held, held-within}
+use Rattle.cells.proofs.Forms.{form-else}
 use Rattle.emission.specs.Runs.{RunsType, RunsTerm}
 use Rattle.emission.proofs.Runs.{holds-term}
 use Rattle.emission.proofs.RunParts.{lam-at}
@@ -23,8 +27,7 @@ record Within (f : Term → Term) (o : Option Term) (g : Term) : Type 0 where
   answers : o ≡ some to
   is : g ≡ f to
 
-within-some : (f : Term → Term) (o : Option Term) {g : Term} → within f o ≡ some g → Within f o g
-unfolding within
+within-some : (f : Term → Term) (o : Option Term) {g : Term} → Option·map f o ≡ some g → Within f o g
 within-some f none {g} h = absurd (Option·none-ne-some g h)
 within-some f (some x) {g} h = record { to = x; answers = refl; is = sym (Option·some-injective (f x) g h) }
 
@@ -49,10 +52,11 @@ module _ {g : Term} where
 pub redex-within : {s : List ℕ} {i : ℕ} {e : Term} → Redex s i e → 8 * i + 8 ≤ length s
 redex-within (at-anno p _ _ _ _ _) = p .within
 redex-within (at-app p _ _ _ _ _ _) = p .within
-redex-within (at-fix r) = term-within (holds-term r)
+redex-within (at-fix r) = held-within (holds-term r)
 
 fix-kind : {s : List ℕ} {i : ℕ} {e : Term} {A : Ty} → HoldsTerm s i (fix e A) → cellAt s i .kind ≡ 23
-fix-kind (h-fix p _ _ _ _) = kind-of p
+unfolding fromTerm kindIn
+fix-kind h = kind-of-held h
 
 -- an annotated value: g is its reading
 pub record Read (s : List ℕ) (i : ℕ) (g : Term) : Type 0 where
@@ -118,31 +122,25 @@ pub record Applied (s : List ℕ) (j : ℕ) (t : Cell) (v g : Term) : Type 0 whe
 pub applied : {s : List ℕ} {j : ℕ} {t : Cell} {e v g : Term} → t ≡ cellAt s j → RunsTerm s j e → (t .kind ≡ 18 → ⊥) → apply e v ≡ some g
     → Applied s j t v g
 unfolding apply
-applied {s} {j} {t} {v = v} {g} c r n h = go (holds-term r) r h
-  where
-    go : {e : Term} → HoldsTerm s j e → RunsTerm s j e → apply e v ≡ some g → Applied s j t v g
-    go (h-var p) r h = no-answer h
-    go (h-lit p z) r h = no-answer h
-    go (h-unit p) r h = absurd (n (rw (c, p .is)))
-    go (h-anno p u w x y) r h = no-answer h
-    go (h-app p u w x y) r h = no-answer h
-    go (h-lam {e = e} {A = A} {B = B} p u w o x y z) r h =
-        let q = within-some (λ x. anno (put 0 x e) B) (cast A v) h in
-        let f = lam-at r (kind-of p) in
-        record {
-          body = f .body;
-          input = f .input;
-          output = f .output;
-          reading = q .to;
-          lower = rw c (f .body-lower);
-          input-lower = rw (c, p .is) w;
-          holds-body = rw c (f .holds-body);
-          holds-input = rw c (f .holds-input);
-          holds-output = rw c (f .holds-output);
-          reads = cc (f .is, q .answers);
-          is = cc (f .is, q .is);
-        }
-    go (h-merge p u w x y) r h = no-answer h
-    go (h-fix p u w x y) r h = no-answer h
-    go (h-rcd p u x) r h = no-answer h
-    go (h-proj p u x) r h = no-answer h
+applied {s} {j} {t} {e} {v} c r n h =
+    elim (ℕ-discrete (cellAt s j .kind) 21) [
+      | yes k ↦
+          let w = lam-at r k in
+          let a = within-some (λ x. anno (put 0 x (w .body)) (w .output)) (cast (w .input) v) (rw (w .is) at h) in
+          rw c record {
+            body = w .body;
+            input = w .input;
+            output = w .output;
+            reading = a .to;
+            lower = w .body-lower;
+            input-lower = w .input-lower;
+            holds-body = w .holds-body;
+            holds-input = w .holds-input;
+            holds-output = w .holds-output;
+            reads = a .answers;
+            is = a .is;
+          }
+      | no u ↦
+          let k = kind-of-held (holds-term r) in
+          no-answer (sym (form-else e (λ m i. refl) (λ m. absurd (n (rw c (k ∙ m)))) (λ m. absurd (u (k ∙ m))) (λ m l b. refl)) ∙ h)
+    ]

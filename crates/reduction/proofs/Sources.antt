@@ -12,7 +12,7 @@ use Rattle.format.specs.Terms.{fromTerm}
 use Rattle.emission.specs.Emits.{Emits, Within}
 use Rattle.emission.specs.Copies.{RunReady, EmitsRun}
 use Rattle.emission.specs.declared.Laid.{Laid}
-use Rattle.emission.proofs.Copies.{ends-within}
+use Rattle.emission.proofs.Copies.{end-within}
 use Rattle.emission.proofs.Ends.{emits-within}
 use Rattle.reading.specs.Reads.{ReadingReady, EmitsReading}
 use Rattle.reduction.specs.Steps.{SourceLow, sourceOf, Puts, reads, stands, SourceReady, EmitsSource}
@@ -52,7 +52,7 @@ module _ {s d : List ℕ} {m : ℕ} {p : Source} where
       where
         go : {x : Term} → Puts s p x → 8 * p .term + 8 ≤ length s
         go (reads o h k c) = absurd (n o)
-        go {x} (stands _ h) = ends-within (record { sort = term-sort; tree = fromTerm x; run = h })
+        go (stands _ h) = end-within h
 
     pub standing-ready : SourceReady s d m p → RunReady s d (p .under) (p .term + 1) m
     standing-ready r = go (r .puts)

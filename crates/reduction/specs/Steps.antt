@@ -1,10 +1,9 @@
 -- Contraction on cells: what a call needs, and what it answers and leaves. Assumes nothing.
 use Prim.Native.Nat.{ℕ, suc, _+_, _/_, _%_, _≤_, _<_}
 use mathlib.Core.Path.{_≡_}
-use mathlib.Core.Bool.{true, cond}
+use mathlib.Core.Bool.{true}
 use mathlib.Core.Option.{some}
 use mathlib.Core.List.{List}
-use lib.Dec.{eqb}
 use Rattle.calculus.specs.Syntax.{Ty, Term, anno, app, fix, put}
 use Rattle.calculus.specs.Decide.{value?}
 use Rattle.calculus.specs.Evaluate.{cast, next}
@@ -25,6 +24,7 @@ pub record SourceLow (p : Source) : Type 0 where
   pub term : p .term < 8192
   pub under : p .under < 8192
 
+-- The source that a number stands for.
 abbrev pub sourceOf : ℕ → Source
 sourceOf q = record { reading = q / 67108864; term = q / 8192 % 8192; under = q % 8192 }
 
@@ -33,17 +33,15 @@ pub data Puts (s : List ℕ) (p : Source) (x : Term) : Type 0 where
   reads : {v : Term} {A : Ty} → p .reading ≡ 1 → RunsTerm s (p .term) v → RunsType s (p .under) A → cast A v ≡ some x → Puts s p x
   stands : p .reading ≡ 0 → Run true s (p .under) (refers term-sort) (p .term) (fromTerm x) (suc (p .term)) → Puts s p x
 
+-- Something is put in, and there is a buffer for it.
 pub record SourceReady (s d : List ℕ) (m : ℕ) (p : Source) : Type 0 where
   pub space : Space d m
   pub put-in : Term
   pub puts : Puts s p put-in
 
+-- What is put in is emitted.
 pub record EmitsSource (s d t : List ℕ) (m : ℕ) (p : Source) (r : Laid) : Type 0 where
   pub says : (x : Term) → Puts s p x → Emits d t m r (fromTerm x)
-
--- How many binders a variable skips in field a of a term of this kind, where it skips k outside: a function and a fixpoint bind one.
-abbrev pub inside : ℕ → ℕ → ℕ
-inside kind k = cond (eqb kind 21) (suc k) (cond (eqb kind 23) (suc k) k)
 
 -- The tree of a field n of a body's cell i: a term has x put in for the variable that skips k binders, all else is as it stands.
 pub data PutField (s : List ℕ) (i k : ℕ) (x : Term) : Use → ℕ → Tree → Type 0 where
@@ -60,9 +58,11 @@ pub record FieldPutReady (s d : List ℕ) (u n k m : ℕ) (p : Source) : Type 0 
   pub tree : Tree
   pub holds : PutField s cell k (source .put-in) (useOf u) n tree
 
+-- The tree of the field is emitted.
 pub record EmitsPutField (s d t : List ℕ) (u n k m : ℕ) (p : Source) (r : Laid) : Type 0 where
   pub says : (i : ℕ) (x : Term) (f : Tree) → Puts s p x → PutField s i k x (useOf u) n f → Emits d t m r f
 
+-- A body at i, and what is put in for its variable that skips k binders.
 pub record PutReady (s d : List ℕ) (i k m : ℕ) (p : Source) : Type 0 where
   pub source : SourceReady s d m p
   pub small : k + i < 131072
@@ -74,6 +74,7 @@ pub record VariableReady (s d : List ℕ) (i k m : ℕ) (p : Source) : Type 0 wh
   pub ready : PutReady s d i k m p
   pub kind : cellAt s i .kind ≡ 16
 
+-- The body with that put in is emitted.
 pub record EmitsPut (s d t : List ℕ) (i k m : ℕ) (p : Source) (r : Laid) : Type 0 where
   pub says : (e x : Term) → RunsTerm s i e → Puts s p x → Emits d t m r (fromTerm (put k x e))
 
@@ -84,6 +85,7 @@ pub record OpenedReady (s d : List ℕ) (i a m : ℕ) (p : Source) : Type 0 wher
   pub type : Ty
   pub holds : RunsType s a type
 
+-- The body with that put in, annotated, is emitted.
 pub record EmitsOpened (s d t : List ℕ) (i a m : ℕ) (p : Source) (r : Laid) : Type 0 where
   pub says : (e x : Term) (A : Ty) → RunsTerm s i e → Puts s p x → RunsType s a A → Emits d t m r (fromTerm (anno (put 0 x e) A))
 
@@ -108,5 +110,6 @@ pub record ContractAt (s d : List ℕ) (i m k : ℕ) : Type 0 where
   pub ready : ContractReady s d i m
   pub kind : cellAt s i .kind ≡ k
 
+-- The successor is emitted.
 pub record Contracts (s d t : List ℕ) (i m : ℕ) (r : Laid) : Type 0 where
   pub says : (e f : Term) → Redex s i e → next e ≡ some f → Emits d t m r (fromTerm f)

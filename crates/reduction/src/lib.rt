@@ -1,5 +1,6 @@
 // Contraction: what a redex becomes, emitted into another buffer as far as there is room.
 use cells::Cell;
+use cells::binders;
 use cells::entry_of;
 use cells::read_cell;
 use emission::Laid;
@@ -9,11 +10,12 @@ use emission::emit_run_to;
 use emission::end_of;
 use emission::finish;
 use emission::finish_row;
+use emission::finish_top;
 use reading::emit_reading;
 ghost use mathlib.Core.Path.{_≡_};
 ghost use Prim.Native.Nat.{_<_};
 ghost use Rattle.emission.specs.Emits.{laidOf};
-ghost use Rattle.reduction.specs.Steps.{SourceLow, sourceOf, SourceReady, EmitsSource, inside};
+ghost use Rattle.reduction.specs.Steps.{SourceLow, sourceOf, SourceReady, EmitsSource};
 ghost use Rattle.reduction.specs.Steps.{FieldPutReady, EmitsPutField, PutReady, VariableReady, EmitsPut, OpenedReady, EmitsOpened};
 ghost use Rattle.reduction.specs.Steps.{ContractReady, ContractAt, Contracts};
 
@@ -123,17 +125,6 @@ fn emit_put(s: &[u8], d: &mut [u8], i: usize, k: usize, q: usize, m: usize) -> u
     end_of(r)
 }
 
-// How many binders a variable skips in field a: a function and a fixpoint bind one.
-fn binders(kind: u8, k: usize) -> usize
-    requires { ⌜ k < 131072 ⌝ }
-    ensures { λ r. ⌜ r ≡ inside kind k ⌝ }
-{
-    match kind {
-        21 | 23 => k + 1,
-        _ => k,
-    }
-}
-
 // A body with the source put in for variable 0, annotated with the type at a.
 fn emit_opened(s: &[u8], d: &mut [u8], body: usize, p: Source, a: usize, m: usize) -> Laid
     requires { ⌜ OpenedReady (now s) (now d) body a m p ⌝ }
@@ -168,17 +159,7 @@ fn next_apply(s: &[u8], d: &mut [u8], i: usize, m: usize) -> Laid
     let t = read_cell(s, i);
     let f = read_cell(s, t.a);
     if f.kind == 18 {
-        return finish(
-            d,
-            m,
-            Cell {
-                kind: 18,
-                label: 0,
-                a: 0,
-                b: 0,
-                c: 0,
-            },
-        );
+        return finish_top(d, m);
     }
     let argument = Source {
         reading: 1,

@@ -2,6 +2,7 @@
 use Prim.Native.Nat.{ℕ, _+_, _*_}
 use Rattle.answers.specs.Answer.{Answer, refused, accepted, stopped, Stop, value, spent, room}
 
+-- the tags of value, spent and no room
 abbrev stopTag : Stop → ℕ
 stopTag value = 33
 stopTag spent = 34
@@ -31,5 +32,6 @@ tagPlace = 4294967296
 abbrev pub secondPlace : ℕ
 secondPlace = 1099511627776
 
+-- all in one number
 abbrev pub packed : Answer → ℕ
 packed a = secondOf a * secondPlace + tagOf a * tagPlace + valueOf a

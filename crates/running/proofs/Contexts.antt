@@ -1,16 +1,14 @@
 -- A step inside is the term's step, and the term is no value. Assumes nothing.
-use Prim.Native.Nat.{ℕ}
 use mathlib.Core.Path.{_≡_, refl, sym, ap, _∙_}
-use mathlib.Core.Bool.{Bool, true, false}
-use mathlib.Core.Option.{Option, none, some, Option·some-injective, Option·none-ne-some}
+use mathlib.Core.Bool.{false}
+use mathlib.Core.Option.{Option, none, some, Option·map, Option·some-injective, Option·none-ne-some}
 use mathlib.Core.List.{List, [], _∷_}
-use Rattle.calculus.specs.Syntax.{Ty, Term, anno, app, merge, rcd, proj}
+use Rattle.calculus.specs.Syntax.{Term, rcd}
 use Rattle.calculus.specs.Decide.{value?}
-use Rattle.calculus.specs.Evaluate.{next, within}
-use Rattle.format.specs.Tree.{Tree, raw, node}
-use Rattle.format.specs.Terms.{fromType, fromTerm}
-use Rattle.running.specs.Waiting.{Frame, first, second, plug, fill}
-use Rattle.running.specs.Contexts.{Around, anno-of, app-left, app-right, merge-left, merge-right, rcd-of, proj-of, within1, whole, Proper, AllProper, p-none, p-more, frame, frames}
+use Rattle.calculus.specs.Evaluate.{next}
+use Rattle.format.specs.Terms.{fromTerm}
+use Rattle.running.specs.Waiting.{plug, fill}
+use Rattle.running.specs.Contexts.{Around, anno-of, app-left, app-right, merge-left, merge-right, rcd-of, proj-of, within1, whole, Proper, AllProper, p-more, frame, frames}
 
 stays : (f : Around) (e : Term) → Proper f → value? e ≡ false → value? (within1 f e) ≡ false
 unfolding within1 value?
@@ -23,13 +21,13 @@ stays (rcd-of l) e p h = h
 stays (proj-of l) e p h = refl
 
 steps : (f : Around) (e x : Term) → Proper f → value? e ≡ false → next e ≡ some x → next (within1 f e) ≡ some (within1 f x)
-unfolding within1 next within
+unfolding within1 next
 steps (anno-of A) e x p h n = rw (h, next, n) refl
 steps (app-left f) e x p h n = rw (h, next, n) refl
 steps (app-right v) e x p h n = rw (p, next, h, n) refl
 steps (merge-left f) e x p h n = rw (h, next, n) refl
 steps (merge-right v) e x p h n = rw (p, next, n) refl
-steps (rcd-of l) e x p h n = ap (within (rcd l)) n
+steps (rcd-of l) e x p h n = ap (Option·map (rcd l)) n
 steps (proj-of l) e x p h n = rw (h, next, n) refl
 
 pub no-value : (k : List Around) (e : Term) → AllProper k → value? e ≡ false → value? (whole k e) ≡ false
@@ -43,13 +41,13 @@ next-whole [] e x p h n = n
 next-whole (f ∷ k) e x (p-more p q) h n = next-whole k (within1 f e) (within1 f x) q (stays f e p h) (steps f e x p h n)
 
 stuck : (f : Around) (e : Term) → Proper f → value? e ≡ false → next e ≡ none → next (within1 f e) ≡ none
-unfolding within1 next within
+unfolding within1 next
 stuck (anno-of A) e p h n = rw (h, next, n) refl
 stuck (app-left f) e p h n = rw (h, next, n) refl
 stuck (app-right v) e p h n = rw (p, next, h, n) refl
 stuck (merge-left f) e p h n = rw (h, next, n) refl
 stuck (merge-right v) e p h n = rw (p, next, n) refl
-stuck (rcd-of l) e p h n = ap (within (rcd l)) n
+stuck (rcd-of l) e p h n = ap (Option·map (rcd l)) n
 stuck (proj-of l) e p h n = rw (h, next, n) refl
 
 next-none : (k : List Around) (e : Term) → AllProper k → value? e ≡ false → next e ≡ none → next (whole k e) ≡ none

@@ -4,15 +4,14 @@ use native.Mathlib.Decide.{decLe}
 use native.Mathlib.Omega.{arith}
 use mathlib.Core.Path.{_≡_, refl, sym, ap, _∙_, subst, subst⁻¹}
 use mathlib.Core.Bool.{true, false}
-use mathlib.Core.Logic.{_⊎_, inl, inr}
-use mathlib.Core.List.{List, [], _++_, append-assoc}
+use mathlib.Core.List.{List, append-assoc}
 use mathlib.Core.Option.{some}
 use lib.Dec.{T}
 use lib.ListN.{length, take, drop}
 use lib.Seq.{sets, sets-eq, length-take-le}
-use Rattle.calculus.specs.Syntax.{Ty, Term, var, lit, unit, anno, app, lam, merge, fix, rcd, proj, size}
+use Rattle.calculus.specs.Syntax.{Ty, Term, anno, app, fix, proj, size}
 use Rattle.calculus.specs.Decide.{value?}
-use Rattle.calculus.specs.Evaluate.{next, cast}
+use Rattle.calculus.specs.Evaluate.{next}
 use Rattle.calculus.specs.Step.{Step, s-anno, s-cast}
 use Rattle.calculus.proofs.Bools.{T-true}
 use Rattle.calculus.proofs.Tests.{value?-says}
@@ -21,28 +20,27 @@ use Rattle.calculus.proofs.Soundness.{value-no-step}
 use Rattle.calculus.proofs.Evaluation.{next-sound}
 use Rattle.format.specs.Table.{term-sort, refers, rowOf, rowIn, table}
 use Rattle.format.specs.Cell.{Cell, cellAt}
-use Rattle.format.specs.Tree.{Tree, cells, lay, refer}
+use Rattle.format.specs.Tree.{cells, lay}
 use Rattle.format.specs.Terms.{fromTerm, TermFits}
 use Rattle.format.specs.Book.{sizeLimit}
 use Rattle.format.proofs.Trees.{term-cells}
 use Rattle.format.proofs.Laying.{Part, length-lay, root-last}
 use Rattle.format.proofs.RoundTrip.{term-good}
-use Rattle.cells.specs.Held.{IsCell}
-use Rattle.emission.specs.Emits.{Space, Emits}
-use Rattle.emission.specs.Runs.{Run, RunsTerm, RunsType}
+use Rattle.emission.specs.Emits.{Emits}
+use Rattle.emission.specs.Runs.{Run}
 use Rattle.emission.specs.declared.Laid.{Laid}
 use Rattle.emission.specs.declared.Laid.the-variants as Out
-use Rattle.emission.proofs.Runs.{grows, counts, parts}
+use Rattle.emission.proofs.Runs.{grows, parts}
 use Rattle.emission.proofs.LaidRuns.{laid-run}
 use Rattle.moving.specs.Moves.{Kept, PlaceReady, Places}
 use Rattle.moving.proofs.Runs.{place-ready}
-use Rattle.moving.proofs.PlacedRuns.{run-placed-term}
+use Rattle.moving.proofs.PlacedRuns.{run-placed}
 use Rattle.reduction.specs.Steps as Reduction
 use Rattle.running.specs.Waiting.{Waits, around}
-use Rattle.running.specs.Contexts.{Around, whole, AllProper, frames}
-use Rattle.running.specs.Places.{IsAhead, IsDone, IsRedex, RedexParts, of-anno, of-app, of-fix, of-proj, Standing, Runnable, Ready}
+use Rattle.running.specs.Contexts.{Around, whole, frames}
+use Rattle.running.specs.Places.{RedexParts, of-anno, of-app, of-fix, of-proj, Standing, Runnable}
 use Rattle.running.specs.Places.{HereBy, h-became, h-elsewhere, ReadsHere, ContractingAnno}
-use Rattle.running.specs.Places.{Becomes, Laid as LaidDown, Installing, Installs, Contracting, Emitting, ContractsTo, c-to, c-full, Contracts}
+use Rattle.running.specs.Places.{Becomes, Laid as LaidDown, Installing, Installs, Emitting, ContractsTo, c-to, c-full, Contracts}
 use Rattle.running.specs.declared.Place.{Place}
 use Rattle.running.specs.declared.Focus.{Focus}
 use Rattle.running.specs.declared.Focus.the-variants.{Ahead, Done, Redex}
@@ -54,7 +52,7 @@ use Rattle.running.proofs.Contexts.{Inside, next-inside, next-whole}
 use Rattle.running.proofs.Waiting.{kept-waits, waiting, waits-right}
 use Rattle.running.proofs.Going.{ends, at-run}
 use Rattle.running.proofs.Entering.{kindOf, kind-of, Kind, k-anno, term-kind}
-use Rattle.running.proofs.Ranges.{last, redex-range}
+use Rattle.running.proofs.Ranges.{last, redex-range, redex-low, kind-at, kind-not}
 use Rattle.running.proofs.Standing.{goes, focus-fits, successor-fits}
 use Rattle.running.proofs.Projecting.{size-whole, redex-value}
 
@@ -84,10 +82,10 @@ module _ {s w : List ℕ} {p : Place} {kind m end : ℕ} (i : Installing s w p k
   last-within = omega (arith, last-some, i .small, i .long)
 
   -- what an annotation refers to
-  pub inside-within : (t : Cell) → t ≡ cellAt s (end - 1) → t .kind ≡ 19 → 8 * t .a + 8 ≤ length s
-  inside-within t e k =
-      let l = anno-low (i .laid .run) (term-kind (i .term) (i .laid .run) (sym (ap (λ (c : Cell). c .kind) e) ∙ k)) in
-      omega (arith, l, ap (λ (c : Cell). c .a) e, i .small, i .long)
+  pub inside-within : {t : Cell} {a : ℕ} → t ≡ cellAt s (end - 1) → t .kind ≡ 19 → a ≡ t .a → 8 * a + 8 ≤ length s
+  inside-within e k o =
+      let l = anno-low (i .laid .run) (term-kind (i .term) (i .laid .run) (kind-at e k)) in
+      omega (arith, o, l, ap (λ (c : Cell). c .a) e, i .small, i .long)
 
   cut : {K : List Around} {h : Term} → LaidDown s w p kind m end K h → Run false s m (refers term-sort) (end - 1) (fromTerm h) (m + (end - m))
   cut b = at-run refl refl (omega (arith, ordered)) (b .run)
@@ -121,7 +119,7 @@ module _ {s w : List ℕ} {p : Place} {kind m end : ℕ} (i : Installing s w p k
                 proper = b .proper;
                 at = record {
                   value = b .value k;
-                  run = at-run refl (omega (arith, ends (b .run), last (b .run), ordered)) refl (run-placed-term x h (cut b));
+                  run = at-run refl (omega (arith, ends (b .run), last (b .run), ordered)) refl (run-placed x (term-good h (b .fits)) (cut b));
                   waits = subst (λ (n : ℕ). Waits v (p .up) (p .start) n (frames K)) (omega arith) (around-kept K (x .kept) (omega arith) (omega (arith, far)) (b .waits));
                   apart = omega (arith, far);
                 };
@@ -142,7 +140,7 @@ module _ {s w : List ℕ} {p : Place} {kind m end : ℕ} (i : Installing s w p k
                 proper = b .proper;
                 at = record {
                   begins = refl;
-                  run = at-run refl (omega (arith, ends (b .run), last (b .run), ordered, far)) (omega (arith, far)) (run-placed-term x h (cut b));
+                  run = at-run refl (omega (arith, ends (b .run), last (b .run), ordered, far)) (omega (arith, far)) (run-placed x (term-good h (b .fits)) (cut b));
                   waits = around-kept K (x .kept) (omega (arith, far)) (omega (arith, far)) (b .waits);
                   apart = omega (arith, far);
                 };
@@ -234,17 +232,27 @@ module _ {w : List ℕ} (p : Place) {e : Term} (s : Standing w (Redex p) e) (r :
       go (of-fix {e = x} {A = A} z y) q = absurd (omega (arith, k, kind-of (fix x A) y))
       go (of-proj c v a z) q = absurd (omega (arith, k, ap (λ (q : Cell). q .kind) (c .is)))
 
+pub emit-ready : {s w : List ℕ} {p : Place} {t : Cell} → Emitting s w p t → Reduction.ContractReady w s (p .root) (p .start + 8191 - p .root)
+emit-ready {p = p} d =
+    let y = d .contracting .ready in
+    let a = successor-of p (y .standing) (y .runnable) in
+    record {
+      space = record { long = d .contracting .long; used = around-small p (y .standing) (y .runnable) };
+      low = redex-low (y .standing .at);
+      term = y .standing .focus;
+      redex = redex-at p (y .standing) (y .runnable) (kind-not (d .cell) (d .kind));
+      successor = a .0;
+      steps = a .1;
+    }
+
 -- the two answers of emission
-module _ {s s′ w : List ℕ} {p : Place} (c : Contracting s w p) (t : Cell) (cell : t ≡ cellAt w (p .root)) (k : t .kind ≡ 25 → ⊥) {o : Laid}
+module _ {s s′ w : List ℕ} {p : Place} {t : Cell} (d : Emitting s w p t) {o : Laid}
     (x : Reduction.Contracts w s s′ (p .root) (p .start + 8191 - p .root) o) where
   abbrev m : ℕ
   m = p .start + 8191 - p .root
 
-  kind-root : cellAt w (p .root) .kind ≡ 25 → ⊥
-  kind-root h = k (ap (λ (q : Cell). q .kind) cell ∙ h)
-
   emits-after : {e g : Term} (st : Standing w (Redex p) e) (r : Runnable e) (n : next e ≡ some g) → Emits s s′ m o (fromTerm (within-of p st r n .to))
-  emits-after st r n = let i = within-of p st r n in x .says (st .focus) (i .to) (redex-at p st r kind-root) (i .steps)
+  emits-after st r n = let i = within-of p st r n in x .says (st .focus) (i .to) (redex-at p st r (kind-not (d .cell) (d .kind))) (i .steps)
 
   pub contracts-full : o ≡ Out.Full → Contracts w w p Full
   contracts-full q = record { says = go }
@@ -268,34 +276,36 @@ module _ {s s′ w : List ℕ} {p : Place} (c : Contracting s w p) (t : Cell) (c
         by (yes l) =
             let a = emits-after st r n .fits l in
             let z : end ≡ m + cells (fromTerm h) = cc in
-            let y = emitted-run s m h (fits-after p st r n) (c .long) l (a .1) in (
+            let y = emitted-run s m h (fits-after p st r n) (d .contracting .long) l (a .1) in (
               z,
               omega (arith, z, l),
               record {
                 proper = st .proper;
                 waits = st .at .waits;
                 run = at-run refl (omega (arith, z)) (sym z) y;
-                value = λ v. value-after p st r n (sym (ap (λ (q : Cell). q .kind) cell) ∙ v);
+                fits = fits-after p st r n;
+                value = λ v. value-after p st r n (kind-at (d .cell) v);
               },
             )
         by (no l) = let a = emits-after st r n .full (omega (arith, l)) in let z : _≡_ {A = ℕ} 0 1 = cc in absurd (omega arith)
 
-    pub installing : length s′ ≡ length s → Installing s′ w p (t .kind) m end
-    installing l =
-        let y = c .ready in
+    pub installing : {kind : ℕ} → length s′ ≡ length s → kind ≡ t .kind → Installing s′ w p kind m end
+    installing l i =
+        let y = d .contracting .ready in
         let st = y .standing in
         let a = successor-of p st (y .runnable) in
         let n : next (y .term) ≡ some (whole (st .around) (a .0)) = ap next (st .is) ∙ next-whole (st .around) (st .focus) (a .0) (st .proper) (redex-value (st .at .parts)) (a .1) in
         let b = became-after st (y .runnable) n in
-        record {
-          long = omega (arith, l, c .long);
+        subst (λ (k : ℕ). Installing s′ w p k m end) (sym i)
+        (record {
+          long = omega (arith, l, d .contracting .long);
           buffer = st .long;
           around = omega (arith, redex-range (st .at) .root);
           small = b .1;
           within = st .around;
           term = within-of p st (y .runnable) n .to;
           laid = b .2;
-        }
+        })
 
     pub contracts-next : {v : List ℕ} {y : Focus} → Installs s′ w v p (t .kind) m end y → Contracts w v p (To y)
     contracts-next {v} {y} z = record { says = go }
@@ -308,9 +318,6 @@ module _ {s s′ w : List ℕ} {p : Place} (c : Contracting s w p) (t : Cell) (c
 
 pub contracts-here : {w v : List ℕ} {p : Place} {y : Focus} → Becomes w v p y → Contracts w v p (To y)
 contracts-here x = record { says = λ e g st r n. let a = x .says e g st r n in c-to (omega (arith, a .1, r .small)) refl (a .0) }
-
-pub kind-not : {t u : Cell} {n : ℕ} → t ≡ u → (t .kind ≡ n → ⊥) → (u .kind ≡ n → ⊥)
-kind-not e h q = h (ap (λ (c : Cell). c .kind) e ∙ q)
 
 -- ---- an annotated value, in place or not
 

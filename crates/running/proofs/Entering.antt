@@ -1,33 +1,26 @@
 -- A focus that is to come: what it becomes by the kind of its cell. Assumes nothing.
-use Prim.Native.Nat.{ℕ, suc, _+_, _*_, _-_, _≤_, _<_}
+use Prim.Native.Nat.{ℕ, suc, _<_}
 use native.Mathlib.Omega.{arith}
 use mathlib.Core.Path.{_≡_, refl, sym, ap, _∙_, subst}
-use mathlib.Core.Bool.{Bool, true, false}
-use mathlib.Core.Logic.{_⊎_, inl, inr}
-use mathlib.Core.List.{List, [], _∷_}
-use mathlib.Core.Option.{Option, none, some, Option·none-ne-some}
+use mathlib.Core.Bool.{Bool, true}
+use mathlib.Core.List.{List, _∷_}
+use mathlib.Core.Option.{some}
 use lib.IntN.{ℤ}
 use Rattle.calculus.specs.Syntax.{Ty, Term, var, lit, unit, anno, app, lam, merge, fix, rcd, proj}
 use Rattle.calculus.specs.Decide.{value?}
-use Rattle.calculus.specs.Evaluate.{next}
 use Rattle.format.specs.Table.{Sort, term-sort, unused, refers, Row, rowOf, rowIn, table}
 use Rattle.format.specs.Cell.{Cell, cellAt}
 use Rattle.format.specs.Tree.{Tree}
-use Rattle.format.specs.Terms.{fromType, fromTerm}
+use Rattle.format.specs.Terms.{fromTerm}
 use Rattle.cells.specs.Held.{IsCell}
 use Rattle.emission.specs.Runs.{Run}
-use Rattle.emission.proofs.Runs.{grows, Parts, parts}
-use Rattle.moving.specs.Moves.{Kept, Wrote}
+use Rattle.emission.proofs.Runs.{Parts, parts}
+use Rattle.moving.specs.Moves.{Wrote}
 use Rattle.running.specs.Waiting.{Frame, first, Waits}
-use Rattle.running.specs.Contexts.{Around, anno-of, app-left, merge-left, rcd-of, proj-of, within1, whole, Proper, AllProper, p-more, frame, frames}
-use Rattle.running.specs.Places.{IsAhead, IsDone, IsRedex, of-fix, FocusIs, Standing, Runnable, Moves}
+use Rattle.running.specs.Contexts.{Around, anno-of, app-left, merge-left, rcd-of, proj-of, within1, Proper, frame, frames}
+use Rattle.running.specs.Places.{IsAhead, IsRedex, of-fix}
 use Rattle.running.specs.declared.Place.{Place}
-use Rattle.running.specs.declared.Focus.{Focus}
-use Rattle.running.specs.declared.Focus.the-variants.{Ahead, Done, Redex, Whole}
-use Rattle.running.proofs.Contexts.{no-value, next-inside}
-use Rattle.running.proofs.Waiting.{kept-waits}
-use Rattle.running.proofs.Going.{AheadTree, descends}
-use Rattle.running.proofs.Standing.{goes}
+use Rattle.running.proofs.Going.{descends}
 
 -- the kind of a term's cell
 unfoldable pub kindOf : Term → ℕ

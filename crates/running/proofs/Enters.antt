@@ -1,19 +1,18 @@
 -- What the functions that enter a focus say: the term stands as it did, its focus moved. Assumes nothing.
-use Prim.Native.Nat.{ℕ, suc, _+_, _-_, _≤_, _<_}
+use Prim.Native.Nat.{ℕ, suc, _+_, _*_, _-_}
 use native.Mathlib.Omega.{arith}
 use mathlib.Core.Path.{_≡_, refl, sym, ap, _∙_, subst}
 use mathlib.Core.Bool.{true}
 use mathlib.Core.Logic.{_⊎_, inl, inr}
-use mathlib.Core.List.{List, [], _∷_}
-use lib.ListN.{length}
+use mathlib.Core.List.{List, _∷_}
+use lib.Seq.{sets}
 use Rattle.calculus.specs.Syntax.{Term, var}
 use Rattle.calculus.specs.Decide.{value?}
-use Rattle.format.specs.Cell.{Cell, cellAt}
+use Rattle.format.specs.Cell.{Cell, cellAt, cellBytes}
 use Rattle.format.specs.Table.{term-sort, refers}
 use Rattle.format.specs.Terms.{fromTerm}
-use Rattle.cells.specs.Held.{IsCell}
 use Rattle.emission.specs.Runs.{Run}
-use Rattle.moving.specs.Moves.{Kept, ShiftReady, Shifts, Wrote}
+use Rattle.moving.specs.Moves.{Kept, ShiftReady, Shifts}
 use Rattle.moving.proofs.Runs.{shift-ready, run-shifted}
 use Rattle.running.specs.Contexts.{Around, whole, AllProper, p-more}
 use Rattle.running.specs.Places.{IsAhead, IsDone, Standing, Runnable, GoesOn, Taking, Descending}
@@ -22,7 +21,7 @@ use Rattle.running.specs.declared.Focus.the-variants.{Ahead, Done, Redex
 use Rattle.running.proofs.Waiting.{kept-waits}
 use Rattle.running.proofs.Going.{at-run}
 use Rattle.running.proofs.Standing.{no-variable}
-use Rattle.running.proofs.Ranges.{ahead-range, above-some}
+use Rattle.running.proofs.Ranges.{ahead-range, above-some, stored, root-within}
 use Rattle.running.proofs.Entering.{kindOf, kind-of, Kind, k-var, term-kind, value-lit, value-unit, value-lam, enters-fix, Descends, enters-part}
 
 -- the cells of the focus
@@ -35,9 +34,9 @@ focus-cells {w} {p} s =
 abbrev pub taken : Place → Place
 taken p = record { left = p .left + (p .root + 1 - p .right); start = p .start; right = p .root + 1; root = p .root; up = p .up }
 
-pub enters-value : {w v : List ℕ} (p : Place) → Taking w p → length v ≡ length w → Shifts w v (p .right) (p .left) (p .root + 1 - p .right) →
+pub enters-value : {w v : List ℕ} {p : Place} → Taking w p → Shifts w v (p .right) (p .left) (p .root + 1 - p .right) →
     GoesOn w v (Ahead p) (Done (taken p))
-enters-value {w} {v} p t n x =
+enters-value {w} {v} {p} t x =
     let r = ahead-range (t .ready .standing .at) in
     record { moves = record { says = λ e s _. go s }; falls = omega (arith, r .right, r .root) }
   where
@@ -68,10 +67,10 @@ enters-value {w} {v} p t n x =
             }
 
     go : {e : Term} → Standing w (Ahead p) e → Standing v (Done (taken p)) e
-    go s = record { long = n ∙ s .long; around = s .around; focus = s .focus; is = s .is; proper = s .proper; at = done (s .at) }
+    go s = record { long = x .kept .long ∙ s .long; around = s .around; focus = s .focus; is = s .is; proper = s .proper; at = done (s .at) }
 
-pub enters-redex : {w : List ℕ} (p : Place) → cellAt w (p .root) .kind ≡ 23 → GoesOn w w (Ahead p) (Redex p)
-enters-redex {w} p k =
+pub enters-redex : {w : List ℕ} {p : Place} → cellAt w (p .root) .kind ≡ 23 → GoesOn w w (Ahead p) (Redex p)
+enters-redex k =
     record {
       moves = record {
         says = λ e s _.
@@ -94,21 +93,22 @@ not-16 K i p r (k-var {n}) = no-variable K (var n) i p r refl
 abbrev below : Place → ℕ → Place
 below p a = record { left = p .left; start = p .start; right = p .right; root = a; up = p .root }
 
-pub enters-below : {w v : List ℕ} (p : Place) (t : Cell) → Descending w p t → length v ≡ length w → Wrote w v (p .root) →
-    IsCell v (p .root) (t .kind) (t .label) (p .up) (t .b) 0 → GoesOn w v (Ahead p) (Ahead (below p (t .a)))
+pub enters-below : {w v : List ℕ} {p q : Place} {t : Cell} → Descending w p t →
+    v ≡ sets w (8 * p .root) (cellBytes (record { kind = t .kind; label = t .label; a = p .up; b = t .b; c = 0 })) → q ≡ below p (t .a) → GoesOn w v (Ahead p) (Ahead q)
 unfolding whole
-enters-below {w} {v} p t d n x y =
+enters-below {w} {v} {p} {t = t} d o i =
     let r = ahead-range (d .ready .standing .at) in
     let u = above-some (ahead-range (go (d .ready .standing) (d .ready .runnable) .at) .up) (λ h. absurd (omega (arith, h, r .apart, r .right))) in
-    record { moves = record { says = λ e s r. go s r }; falls = omega (arith, u .0) }
+    subst (λ (z : Place). GoesOn w v (Ahead p) (Ahead z)) (sym i) (record { moves = record { says = λ e s r. go s r }; falls = omega (arith, u .0) })
   where
     go : {e : Term} → Standing w (Ahead p) e → Runnable e → Standing v (Ahead (below p (t .a))) e
     go s r =
+        let x = stored _ (root-within s) o in
         let k : t .kind ≡ kindOf (s .focus) = ap (λ (c : Cell). c .kind) (d .cell) ∙ kind-of (s .focus) (s .at .run) in
-        let c : Descends v p (s .around) (s .focus) (t .a) = enters-part p x (s .focus) t (s .at) (d .cell) y (λ h. not-16 (s .around) (s .is) (s .proper) r (term-kind (s .focus) (s .at .run) (kind-of (s .focus) (s .at .run) ∙ h)))
+        let c : Descends v p (s .around) (s .focus) (t .a) = enters-part p (x .wrote) (s .focus) t (s .at) (d .cell) (x .there) (λ h. not-16 (s .around) (s .is) (s .proper) r (term-kind (s .focus) (s .at .run) (kind-of (s .focus) (s .at .run) ∙ h)))
         (λ h. d .no-number (k ∙ h)) (λ h. d .no-top (k ∙ h)) (λ h. d .no-function (k ∙ h)) (λ h. d .no-fixpoint (k ∙ h)) in
         record {
-          long = n ∙ s .long;
+          long = x .wrote .long ∙ s .long;
           around = c .around ∷ s .around;
           focus = c .part;
           is = s .is ∙ ap (whole (s .around)) (c .is);

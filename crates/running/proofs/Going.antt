@@ -9,9 +9,8 @@ use lib.ListN.{length}
 use Rattle.format.specs.Table.{Sort, term-sort, Use, unused, plain, refers, Row, rowOf}
 use Rattle.format.specs.Cell.{Cell, cellAt}
 use Rattle.format.specs.Tree.{Tree, raw, node, cells}
-use Rattle.cells.specs.Held.{IsCell}
-use Rattle.emission.specs.Emits.{labelBy}
-use Rattle.emission.specs.Runs.{Marked, Run, r-unused, r-plain, r-refers}
+use Rattle.cells.specs.Held.{IsCell, labelBy}
+use Rattle.emission.specs.Runs.{Run, r-unused, r-plain, r-refers}
 use Rattle.emission.proofs.Runs.{grows, kept-run}
 use Rattle.moving.specs.Moves.{Kept, Wrote}
 use Rattle.running.specs.Waiting.{Frame, first, second, Waits, w-none, w-first, w-second}
@@ -113,7 +112,7 @@ elsewhere {q} {s} {v} {t = t} y m e r = as-use (sym e) (go (as-use e r))
 -- over: the one part is done, and the cell follows it
 pub closes-one : {w v : List ℕ} {start last right j u k l m b c x d₁ d₂ : ℕ} {t g h : Tree} {K : List Frame} {r : Row} → IsCell w j k l u b c → rowOf k ≡ some r
     → m ≡ labelBy (r .label) l → r .a ≡ refers term-sort → r .b ≡ unused → r .c ≡ unused → Run true w right (r .b) b g x → Run true w x (r .c) c h j
-    → Waits w u start (suc j) K → Run true w start (refers term-sort) last t (suc last) → suc last < right → 16 ≤ k → Wrote w v (suc last)
+    → Waits w u start (suc j) K → Run true w start (refers term-sort) last t (suc last) → suc last < right → r .sort ≡ term-sort → Wrote w v (suc last)
     → IsCell v (suc last) k l last d₁ d₂ → DoneTree v start (suc last) (suc j) u (node k m t g h) K
 closes-one {start = start} {last} {right} {j} {x = x} {d₁} {d₂} p e m s o n g h q t l y d c =
     let end : x ≡ j = nothing (as-use n h) in
@@ -128,7 +127,7 @@ closes-one {start = start} {last} {right} {j} {x = x} {d₁} {d₂} p e m s o n 
           (elsewhere (suc last) d₁ o g)
           (elsewhere (suc last) d₂ n h)
           refl
-          (λ f. absurd (omega (arith, f, y)));
+          (y, tt);
       waits = kept-waits (wrote-kept d (omega (arith, grows t)) (omega (arith, l, end, begin))) q;
       apart = omega (arith, l, end, begin);
     }
@@ -136,7 +135,7 @@ closes-one {start = start} {last} {right} {j} {x = x} {d₁} {d₂} p e m s o n 
 -- over: both parts are done
 pub closes-both : {w v : List ℕ} {start last j u o k l m a c : ℕ} {f t : Tree} {K : List Frame} {r : Row} → IsCell w j k l a u c → rowOf k ≡ some r
     → m ≡ labelBy (r .label) l → r .a ≡ refers term-sort → r .b ≡ refers term-sort → r .c ≡ unused → Run true w o (refers term-sort) a f start
-    → Waits w u o (suc j) K → Run true w start (refers term-sort) last t (suc last) → suc last < j → 16 ≤ k → Wrote w v (suc last)
+    → Waits w u o (suc j) K → Run true w start (refers term-sort) last t (suc last) → suc last < j → r .sort ≡ term-sort → Wrote w v (suc last)
     → IsCell v (suc last) k l a last 0 → DoneTree v o (suc last) (suc j) u (node k m f t (raw 0)) K
 closes-both {start = start} {last} {j} p e m s b n f q t l y d c =
     record {
@@ -149,7 +148,7 @@ closes-both {start = start} {last} {j} p e m s b n f q t l y d c =
           (as-use (sym b) (wrote-run d (omega arith) t))
           (as-use (sym n) r-unused)
           refl
-          (λ z. absurd (omega (arith, z, y)));
+          (y, tt);
       waits = kept-waits (wrote-kept d (omega (arith, grows f, grows t)) (omega (arith, l))) q;
       apart = omega (arith, l);
     }

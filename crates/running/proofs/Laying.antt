@@ -1,6 +1,5 @@
 -- A term that lies in the work buffer comes to its place, and from its place it is laid down again. Assumes nothing.
 use Prim.Native.Nat.{ℕ, suc, _+_, _*_, _-_, _≤_, _<_}
-use native.Mathlib.Nat.{zero-add}
 use native.Mathlib.Omega.{arith}
 use mathlib.Core.Path.{_≡_, refl, sym, ap, _∙_, subst}
 use mathlib.Core.Bool.{true, false}
@@ -12,24 +11,23 @@ use Rattle.calculus.specs.Typing.{Typed}
 use Rattle.format.specs.Table.{term-sort, unused, refers, Row, rowOf, rowIn, table}
 use Rattle.format.specs.Tree.{Tree, cells, lay}
 use Rattle.format.specs.Terms.{fromTerm}
-use Rattle.format.specs.Book.{sizeLimit}
 use Rattle.format.proofs.Trees.{term-cells}
 use Rattle.format.proofs.Laying.{Part, root-last}
 use Rattle.format.proofs.RoundTrip.{term-good}
-use Rattle.emission.specs.Emits.{HeldField, f-unused, f-refers}
+use Rattle.cells.specs.Held.{HeldField, f-unused, f-refers}
 use Rattle.emission.specs.Runs.{Run}
-use Rattle.emission.proofs.Runs.{grows, held}
+use Rattle.emission.proofs.Runs.{grows, bare}
 use Rattle.emission.proofs.LaidRuns.{laid-run}
 use Rattle.emission.proofs.Compose.{term-positive}
 use Rattle.layout.specs.Lays.{LaysDown, HereReady}
 use Rattle.layout.proofs.Laid.{lay-ready}
-use Rattle.moving.specs.Moves.{PlaceReady, Places}
+use Rattle.moving.specs.Moves.{PlaceReady, Places, Copies}
 use Rattle.moving.proofs.Runs.{place-ready}
-use Rattle.moving.proofs.PlacedRuns.{run-placed-term}
+use Rattle.moving.proofs.PlacedRuns.{run-placed}
 use Rattle.running.specs.Waiting.{fill, Waits, w-none}
 use Rattle.running.specs.Contexts.{Around, whole, p-none, frames}
-use Rattle.running.specs.Places.{IsAhead, IsDone, IsRedex, RedexParts, of-anno, of-app, of-fix, of-proj, Standing, Runnable, Ready, Held, Unwinding, Unwinds, Holds}
-use Rattle.running.specs.Turns.{Lies, TypedLies, StepReady, Laying, LaysWhole}
+use Rattle.running.specs.Places.{IsAhead, IsDone, IsRedex, RedexParts, of-anno, of-app, of-fix, of-proj, Standing, Runnable, Ready, Settles, Held, Unwinding, Unwinds, Holds}
+use Rattle.running.specs.Turns.{Lies, TypedLies, StepReady, Starts, Laying, LaysWhole}
 use Rattle.running.specs.declared.Place.{Place}
 use Rattle.running.specs.declared.Focus.{Focus}
 use Rattle.running.specs.declared.Focus.the-variants.{Ahead, Done, Redex, Whole}
@@ -50,7 +48,7 @@ module _ {w : List ℕ} {n : ℕ} {e : Term} (l : Lies w n e) where
       record { before = []; after = drop (8 * n) s; starts = refl; split = sym (take-append-drop (8 * n) s) ∙ ap (λ (x : List ℕ). x ++ drop (8 * n) s) (q ∙ l .tree .lies) } in
       at-run refl (omega (arith, root-last 0 g, c)) (omega (arith, c)) (laid-run 0 g part)
 
-  pub start-place : (s : List ℕ) → 32768 ≤ length s → length w ≡ 65536 → take (8 * n) s ≡ take (8 * n) w → PlaceReady s w 0 (8192 - n) n
+  start-place : (s : List ℕ) → 32768 ≤ length s → length w ≡ 65536 → take (8 * n) s ≡ take (8 * n) w → PlaceReady s w 0 (8192 - n) n
   start-place s h k q = place-ready w (8192 - n) (omega (arith, h, l .tree .small)) k (omega (arith, l .tree .small)) (omega (arith, l .tree .small)) (lies-run s q)
 
   pub lies-runnable : {A : Ty} → Typed [] e A → Runnable e
@@ -60,7 +58,7 @@ module _ {w : List ℕ} {n : ℕ} {e : Term} (l : Lies w n e) where
 abbrev pub first : ℕ → Place
 first n = record { left = 0; start = 0; right = 8192 - n; root = 8191; up = 0 }
 
-pub starts-ahead : {s w v : List ℕ} {n : ℕ} {e : Term} → Lies w n e → length v ≡ 65536 → take (8 * n) s ≡ take (8 * n) w → Places s w v 0 (8192 - n) n → Standing v (Ahead (first n)) e
+starts-ahead : {s w v : List ℕ} {n : ℕ} {e : Term} → Lies w n e → length v ≡ 65536 → take (8 * n) s ≡ take (8 * n) w → Places s w v 0 (8192 - n) n → Standing v (Ahead (first n)) e
 unfolding whole frames
 starts-ahead {s} {w} {v} {n} {e} l h q x =
     record {
@@ -71,36 +69,57 @@ starts-ahead {s} {w} {v} {n} {e} l h q x =
       proper = p-none;
       at = record {
         begins = refl;
-        run = at-run refl (omega (arith, l .tree .small, l .tree .some)) (omega (arith, l .tree .small)) (run-placed-term x e (lies-run l s q));
+        run = at-run refl (omega (arith, l .tree .small, l .tree .some)) (omega (arith, l .tree .small)) (run-placed x (term-good e (l .fits)) (lies-run l s q));
         waits = w-none;
         apart = omega (arith, l .tree .small);
       };
     }
+
+module _ {s t w : List ℕ} {n : ℕ} (d : StepReady s w n) (c : Copies w s t (8 * n)) where
+  pub place-start : PlaceReady t w 0 (8192 - n) n
+  place-start = start-place (d .at .lies) t (omega (arith, c .long, d .long)) (d .work) (c .first)
+
+  module _ {v : List ℕ} (x : Places t w v 0 (8192 - n) n) where
+    standing-first : {e : Term} → Lies w n e → Standing v (Ahead (first n)) e
+    standing-first l = starts-ahead l (x .kept .long ∙ d .work) (c .first) x
+
+    pub ready-first : Ready v (Ahead (first n))
+    ready-first =
+        let a = d .at in
+        record { term = a .term; standing = standing-first (a .lies); runnable = lies-runnable (a .lies) (a .typed) }
+
+    pub starts : {u : List ℕ} {r : Focus} → length u ≡ length v → Settles v u (Ahead (first n)) r → Starts w u n r
+    starts k y =
+        record {
+          long = k ∙ x .kept .long ∙ d .work;
+          settled = y .settled;
+          says = λ e A l t. y .moves .says e (standing-first l) (lies-runnable l t);
+        }
 
 -- ---- from its place
 
 held-ahead : {w : List ℕ} {p : Place} {K : List Around} {f : Term} → IsAhead w p K f → Held w (p .up) (p .root) K (fromTerm f)
 held-ahead {p = p} a =
     let r = ahead-range a in
-    record { begin = p .start; end = suc (p .root); waits = a .waits; low = omega (arith, r .begins, r .apart, r .right); holds = held (omega arith) (a .run) }
+    record { begin = p .start; end = suc (p .root); waits = a .waits; low = omega (arith, r .begins, r .apart, r .right); holds = bare (omega arith) (a .run) }
 
 held-done : {w : List ℕ} {p : Place} {K : List Around} {f : Term} → IsDone w p K f → Held w (p .up) (p .left - 1) K (fromTerm f)
 held-done {p = p} d =
     let r = done-range d in
-    record { begin = p .start; end = p .right; waits = d .waits; low = omega (arith, r .start, r .apart); holds = held (omega (arith, r .apart)) (d .run) }
+    record { begin = p .start; end = p .right; waits = d .waits; low = omega (arith, r .start, r .apart); holds = bare (omega (arith, r .apart)) (d .run) }
 
-held-parts : {w : List ℕ} {p : Place} {f : Term} → p .left < p .right → p .right ≤ p .root → RedexParts w p f → HeldField w (suc (p .root)) (refers term-sort) (p .root) (fromTerm f)
+held-parts : {w : List ℕ} {p : Place} {f : Term} → p .left < p .right → p .right ≤ p .root → RedexParts w p f → HeldField false w (suc (p .root)) (refers term-sort) (p .root) (fromTerm f)
 unfolding fromTerm table rowIn rowOf
 held-parts {p = p} l r (of-anno c v a b) =
     let z : p .root < suc (p .root) = omega arith in
-    f-refers z c refl refl (held (omega (arith, l, r)) a) (held (omega arith) b) f-unused
+    f-refers z c refl refl tt (bare (omega (arith, l, r)) a) (bare (omega arith) b) f-unused
 held-parts {p = p} l r (of-app c v u a b e) =
     let z : p .root < suc (p .root) = omega arith in
-    f-refers z c refl refl (held (omega (arith, l, r, grows b)) a) (held (omega (arith, l, r)) b) f-unused
-held-parts l r (of-fix e x) = held (omega arith) x
+    f-refers z c refl refl tt (bare (omega (arith, l, r, grows b)) a) (bare (omega (arith, l, r)) b) f-unused
+held-parts l r (of-fix e x) = bare (omega arith) x
 held-parts {p = p} l r (of-proj c v a e) =
     let z : p .root < suc (p .root) = omega arith in
-    f-refers z c refl refl (held (omega (arith, l, r)) a) f-unused f-unused
+    f-refers z c refl refl tt (bare (omega (arith, l, r)) a) f-unused f-unused
 
 held-redex : {w : List ℕ} {p : Place} {K : List Around} {f : Term} → IsRedex w p K f → Held w (p .up) (p .root) K (fromTerm f)
 held-redex {p = p} d =
@@ -118,9 +137,9 @@ unwinding s h = record { long = s .long; around = s .around; tree = fromTerm (s 
 
 -- the whole tree is the term's
 whole-tree : {w v : List ℕ} {x : Focus} {e : Term} {up child r : ℕ} (s : Standing w x e) → Held w up child (s .around) (fromTerm (s .focus)) → Unwinds w v up child r →
-    HeldField v 8192 (refers term-sort) r (fromTerm e)
+    HeldField false v 8192 (refers term-sort) r (fromTerm e)
 whole-tree {v = v} {r = r} s h u =
-    subst (HeldField v 8192 (refers term-sort) r) (framed (s .around) (s .focus) ∙ ap fromTerm (sym (s .is))) (u .says (s .around) (fromTerm (s .focus)) h)
+    subst (HeldField false v 8192 (refers term-sort) r) (framed (s .around) (s .focus) ∙ ap fromTerm (sym (s .is))) (u .says (s .around) (fromTerm (s .focus)) h)
 
 module _ {w : List ℕ} {x : Focus} (y : Ready w x) where
   at : {z : Focus} → x ≡ z → Standing w z (y .term)
@@ -142,7 +161,7 @@ module _ {w : List ℕ} {x : Focus} (y : Ready w x) where
   whole-some q = done-range (at q .at .1) .some
 
 module _ {w v : List ℕ} {x : Focus} {r : ℕ} where
-  turned : {z : Focus} → x ≡ z → ((e : Term) → Standing w z e → HeldField v 8192 (refers term-sort) r (fromTerm e)) → Holds w v x r
+  turned : {z : Focus} → x ≡ z → ((e : Term) → Standing w z e → HeldField false v 8192 (refers term-sort) r (fromTerm e)) → Holds w v x r
   turned q h = record { says = λ e s. h e (subst (λ (z : Focus). Standing w z e) q s) }
 
   pub holds-ahead : {p : Place} → x ≡ Ahead p → Unwinds w v (p .up) (p .root) r → Holds w v x r
@@ -158,11 +177,11 @@ pub holds-whole : {w : List ℕ} {x : Focus} {p : Place} → x ≡ Whole p → H
 unfolding whole
 holds-whole {w} {x} {p} q = record { says = λ e s. go (subst (λ (z : Focus). Standing w z e) q s) }
   where
-    go : {e : Term} → Standing w (Whole p) e → HeldField w 8192 (refers term-sort) (p .left - 1) (fromTerm e)
+    go : {e : Term} → Standing w (Whole p) e → HeldField false w 8192 (refers term-sort) (p .left - 1) (fromTerm e)
     go {e} s =
         let d = s .at .1 in
         let f : e ≡ s .focus = s .is ∙ ap (λ (K : List Around). whole K (s .focus)) (s .at .0) in
-        subst (λ (g : Term). HeldField w 8192 (refers term-sort) (p .left - 1) (fromTerm g)) (sym f) (held (omega (arith, d .apart, waits-right (d .waits))) (d .run))
+        subst (λ (g : Term). HeldField false w 8192 (refers term-sort) (p .left - 1) (fromTerm g)) (sym f) (bare (omega (arith, d .apart, waits-right (d .waits))) (d .run))
 
 -- ---- laid down
 

@@ -1,19 +1,17 @@
 -- What the functions that leave a value say: the term stands as it did, its focus moved. Assumes nothing.
-use Prim.Native.Nat.{ℕ, suc, _+_, _-_, _≤_, _<_}
+use Prim.Native.Nat.{ℕ, _+_, _-_, _≤_}
 use native.Mathlib.Omega.{arith}
-use mathlib.Core.Path.{_≡_, refl, sym, ap, _∙_, subst}
-use mathlib.Core.Bool.{true}
+use mathlib.Core.Path.{_≡_, refl, ap, _∙_, subst}
 use mathlib.Core.Logic.{_⊎_, inl, inr}
 use mathlib.Core.List.{List, [], _∷_}
-use lib.ListN.{length}
 use Rattle.calculus.specs.Syntax.{Term}
-use Rattle.format.specs.Table.{Row, rowOf, rowIn, table}
+use Rattle.format.specs.Table.{rowOf, rowIn, table}
 use Rattle.format.specs.Cell.{Cell, cellAt}
 use Rattle.cells.specs.Held.{IsCell}
 use Rattle.moving.specs.Moves.{Wrote}
 use Rattle.running.specs.Waiting.{Waits, w-none}
-use Rattle.running.specs.Contexts.{Around, anno-of, app-left, app-right, merge-left, merge-right, rcd-of, proj-of, within1, whole, AllProper, p-none, p-more, frame, frames}
-use Rattle.running.specs.Places.{IsDone, Standing, Runnable, Ready, Moves, GoesOn, Waiting, WaitingOne, WaitingFirst, WaitingSecond}
+use Rattle.running.specs.Contexts.{Around, anno-of, app-left, app-right, merge-left, merge-right, rcd-of, proj-of, within1, whole, AllProper, p-more, frame, frames}
+use Rattle.running.specs.Places.{IsDone, Standing, Moves, GoesOn, Waiting, WaitingOne}
 use Rattle.running.specs.declared.Place.{Place}
 use Rattle.running.specs.declared.Focus.the-variants.{Ahead, Done, Redex, Whole}
 use Rattle.running.proofs.Leaving.{waits-first, waits-second, waits-none, closed, redexed, onward}
@@ -54,8 +52,8 @@ waiting-kind (rcd-of l) K h = let q = waits-first h refl in (ap (λ (c : Cell). 
 waiting-kind (proj-of l) K h = let q = waits-first h refl in (ap (λ (c : Cell). c .kind) (q .cell .is), ap (λ (c : Cell). c .c) (q .cell .is) ∙ q .unused refl)
 
 -- no cell waits: the value is the whole term
-pub leaves-whole : {w : List ℕ} (p : Place) → p .up ≡ 0 → GoesOn w w (Done p) (Whole p)
-leaves-whole {w} p h = record { moves = record { says = λ e s _. go s }; falls = omega arith }
+pub leaves-whole : {w : List ℕ} {p : Place} → p .up ≡ 0 → GoesOn w w (Done p) (Whole p)
+leaves-whole {w} {p} h = record { moves = record { says = λ e s _. go s }; falls = omega arith }
   where
     go : {e : Term} → Standing w (Done p) e → Standing w (Whole p) e
     go s =
@@ -84,10 +82,10 @@ module _ {w : List ℕ} (p : Place) (t : Cell) (some : p .up ≡ 0 → ⊥) (cel
   unfolding frames
   nobody d = some (none-waits (d .waits))
 
-  pub single-done : {v : List ℕ} → t .kind ≡ 24 → length v ≡ length w → Wrote w v (p .left) → IsCell v (p .left) (t .kind) (t .label) (p .left - 1) (t .b) 0 →
+  pub single-done : {v : List ℕ} → t .kind ≡ 24 → Wrote w v (p .left) → IsCell v (p .left) (t .kind) (t .label) (p .left - 1) (t .b) 0 →
       Moves w v (Done p) (Done (closed p (p .start) (t .a)))
   unfolding whole within1 kindFor
-  single-done {v} k n x y = record { says = λ e s r. go (s .around) s (s .is) (s .proper) (s .at) }
+  single-done {v} k x y = record { says = λ e s r. go (s .around) s (s .is) (s .proper) (s .at) }
     where
       go : {e : Term} (K : List Around) (s : Standing w (Done p) e) → e ≡ whole K (s .focus) → AllProper K → IsDone w p K (s .focus) →
           Standing v (Done (closed p (p .start) (t .a))) e
@@ -98,49 +96,49 @@ module _ {w : List ℕ} (p : Place) (t : Cell) (some : p .up ≡ 0 → ⊥) (cel
       go (merge-left f ∷ K) s i a d = absurd (omega (arith, k, kind-is (merge-left f) K d .0))
       go (merge-right f ∷ K) s i a d = absurd (omega (arith, k, kind-is (merge-right f) K d .0))
       go (rcd-of l ∷ K) s i (p-more _ a) d =
-          record { long = n ∙ s .long; around = K; focus = _; is = i; proper = a; at = leaves-record p (s .focus) t d cell x y }
+          record { long = x .long ∙ s .long; around = K; focus = _; is = i; proper = a; at = leaves-record p (s .focus) t d cell x y }
       go (proj-of l ∷ K) s i a d = absurd (omega (arith, k, kind-is (proj-of l) K d .0))
 
-  pub single-redex : {v : List ℕ} → (t .kind ≡ 20 → ⊥) → (t .kind ≡ 22 → ⊥) → (t .kind ≡ 24 → ⊥) → length v ≡ length w → Wrote w v (p .up) → IsCell v (p .up) (t .kind) (t .label) (p .left - 1) (t .b) 0 →
+  pub single-redex : {v : List ℕ} → (t .kind ≡ 20 → ⊥) → (t .kind ≡ 22 → ⊥) → (t .kind ≡ 24 → ⊥) → Wrote w v (p .up) → IsCell v (p .up) (t .kind) (t .label) (p .left - 1) (t .b) 0 →
       Moves w v (Done p) (Redex (redexed p (p .start) (t .a)))
   unfolding whole within1 kindFor
-  single-redex {v} k20 k22 k24 n x y = record { says = λ e s r. go (s .around) s (s .is) (s .proper) (s .at) }
+  single-redex {v} k20 k22 k24 x y = record { says = λ e s r. go (s .around) s (s .is) (s .proper) (s .at) }
     where
       go : {e : Term} (K : List Around) (s : Standing w (Done p) e) → e ≡ whole K (s .focus) → AllProper K → IsDone w p K (s .focus) →
           Standing v (Redex (redexed p (p .start) (t .a))) e
       go [] s i a d = absurd (nobody d)
       go (anno-of A ∷ K) s i (p-more _ a) d =
-          record { long = n ∙ s .long; around = K; focus = _; is = i; proper = a; at = leaves-anno p (s .focus) t d cell x y }
+          record { long = x .long ∙ s .long; around = K; focus = _; is = i; proper = a; at = leaves-anno p (s .focus) t d cell x y }
       go (app-left f ∷ K) s i a d = absurd (k20 (kind-is (app-left f) K d .0))
       go (app-right f ∷ K) s i a d = absurd (k20 (kind-is (app-right f) K d .0))
       go (merge-left f ∷ K) s i a d = absurd (k22 (kind-is (merge-left f) K d .0))
       go (merge-right f ∷ K) s i a d = absurd (k22 (kind-is (merge-right f) K d .0))
       go (rcd-of l ∷ K) s i a d = absurd (k24 (kind-is (rcd-of l) K d .0))
       go (proj-of l ∷ K) s i (p-more _ a) d =
-          record { long = n ∙ s .long; around = K; focus = _; is = i; proper = a; at = leaves-proj p (s .focus) t d cell x y }
+          record { long = x .long ∙ s .long; around = K; focus = _; is = i; proper = a; at = leaves-proj p (s .focus) t d cell x y }
 
-  pub second-on : {v : List ℕ} → (t .kind ≡ 20) ⊎ (t .kind ≡ 22) → t .c ≡ 0 → length v ≡ length w → Wrote w v (p .up) → IsCell v (p .up) (t .kind) (t .label) (p .left - 1) (t .a) (p .start + 1) →
+  pub second-on : {v : List ℕ} → (t .kind ≡ 20) ⊎ (t .kind ≡ 22) → t .c ≡ 0 → Wrote w v (p .up) → IsCell v (p .up) (t .kind) (t .label) (p .left - 1) (t .a) (p .start + 1) →
       Moves w v (Done p) (Ahead (onward p (t .b)))
   unfolding whole within1 kindFor frame rowOf rowIn table
-  second-on {v} k z n x y = record { says = λ e s r. go (s .around) s (s .is) (s .proper) (s .at) }
+  second-on {v} k z x y = record { says = λ e s r. go (s .around) s (s .is) (s .proper) (s .at) }
     where
       go : {e : Term} (K : List Around) (s : Standing w (Done p) e) → e ≡ whole K (s .focus) → AllProper K → IsDone w p K (s .focus) →
           Standing v (Ahead (onward p (t .b))) e
       go [] s i a d = absurd (nobody d)
       go (anno-of A ∷ K) s i a d = absurd (neither k (λ h. omega (arith, h, kind-is (anno-of A) K d .0)) (λ h. omega (arith, h, kind-is (anno-of A) K d .0)))
       go (app-left f ∷ K) s i (p-more _ a) d =
-          record { long = n ∙ s .long; around = app-right (s .focus) ∷ K; focus = _; is = i; proper = p-more (d .value) a; at = leaves-first p (s .focus) f (app-left f) (app-right (s .focus)) t d refl refl refl refl refl refl cell x y }
+          record { long = x .long ∙ s .long; around = app-right (s .focus) ∷ K; focus = _; is = i; proper = p-more (d .value) a; at = leaves-first p (s .focus) f (app-left f) (app-right (s .focus)) t d refl refl refl refl refl refl cell x y }
       go (app-right f ∷ K) s i a d = absurd (omega (arith, z, kind-is (app-right f) K d .1))
       go (merge-left f ∷ K) s i (p-more _ a) d =
-          record { long = n ∙ s .long; around = merge-right (s .focus) ∷ K; focus = _; is = i; proper = p-more (d .value) a; at = leaves-first p (s .focus) f (merge-left f) (merge-right (s .focus)) t d refl refl refl refl refl refl cell x y }
+          record { long = x .long ∙ s .long; around = merge-right (s .focus) ∷ K; focus = _; is = i; proper = p-more (d .value) a; at = leaves-first p (s .focus) f (merge-left f) (merge-right (s .focus)) t d refl refl refl refl refl refl cell x y }
       go (merge-right f ∷ K) s i a d = absurd (omega (arith, z, kind-is (merge-right f) K d .1))
       go (rcd-of l ∷ K) s i a d = absurd (neither k (λ h. omega (arith, h, kind-is (rcd-of l) K d .0)) (λ h. omega (arith, h, kind-is (rcd-of l) K d .0)))
       go (proj-of l ∷ K) s i a d = absurd (neither k (λ h. omega (arith, h, kind-is (proj-of l) K d .0)) (λ h. omega (arith, h, kind-is (proj-of l) K d .0)))
 
-  pub both-done : {v : List ℕ} → t .kind ≡ 22 → (t .c ≡ 0 → ⊥) → length v ≡ length w → Wrote w v (p .left) → IsCell v (p .left) (t .kind) (t .label) (t .a) (p .left - 1) 0 →
+  pub both-done : {v : List ℕ} → t .kind ≡ 22 → (t .c ≡ 0 → ⊥) → Wrote w v (p .left) → IsCell v (p .left) (t .kind) (t .label) (t .a) (p .left - 1) 0 →
       Moves w v (Done p) (Done (closed p (t .c - 1) (t .b)))
   unfolding whole within1 kindFor
-  both-done {v} k z n x y = record { says = λ e s r. go (s .around) s (s .is) (s .proper) (s .at) }
+  both-done {v} k z x y = record { says = λ e s r. go (s .around) s (s .is) (s .proper) (s .at) }
     where
       go : {e : Term} (K : List Around) (s : Standing w (Done p) e) → e ≡ whole K (s .focus) → AllProper K → IsDone w p K (s .focus) →
           Standing v (Done (closed p (t .c - 1) (t .b))) e
@@ -150,14 +148,14 @@ module _ {w : List ℕ} (p : Place) (t : Cell) (some : p .up ≡ 0 → ⊥) (cel
       go (app-right f ∷ K) s i a d = absurd (omega (arith, k, kind-is (app-right f) K d .0))
       go (merge-left f ∷ K) s i a d = absurd (z (kind-is (merge-left f) K d .1))
       go (merge-right f ∷ K) s i (p-more h a) d =
-          record { long = n ∙ s .long; around = K; focus = _; is = i; proper = a; at = leaves-merge p (s .focus) t d h cell x y }
+          record { long = x .long ∙ s .long; around = K; focus = _; is = i; proper = a; at = leaves-merge p (s .focus) t d h cell x y }
       go (rcd-of l ∷ K) s i a d = absurd (omega (arith, k, kind-is (rcd-of l) K d .0))
       go (proj-of l ∷ K) s i a d = absurd (omega (arith, k, kind-is (proj-of l) K d .0))
 
-  pub both-redex : {v : List ℕ} → t .kind ≡ 20 → (t .c ≡ 0 → ⊥) → length v ≡ length w → Wrote w v (p .up) → IsCell v (p .up) (t .kind) (t .label) (t .a) (p .left - 1) 0 →
+  pub both-redex : {v : List ℕ} → t .kind ≡ 20 → (t .c ≡ 0 → ⊥) → Wrote w v (p .up) → IsCell v (p .up) (t .kind) (t .label) (t .a) (p .left - 1) 0 →
       Moves w v (Done p) (Redex (redexed p (t .c - 1) (t .b)))
   unfolding whole within1 kindFor
-  both-redex {v} k z n x y = record { says = λ e s r. go (s .around) s (s .is) (s .proper) (s .at) }
+  both-redex {v} k z x y = record { says = λ e s r. go (s .around) s (s .is) (s .proper) (s .at) }
     where
       go : {e : Term} (K : List Around) (s : Standing w (Done p) e) → e ≡ whole K (s .focus) → AllProper K → IsDone w p K (s .focus) →
           Standing v (Redex (redexed p (t .c - 1) (t .b))) e
@@ -165,11 +163,15 @@ module _ {w : List ℕ} (p : Place) (t : Cell) (some : p .up ≡ 0 → ⊥) (cel
       go (anno-of A ∷ K) s i a d = absurd (omega (arith, k, kind-is (anno-of A) K d .0))
       go (app-left f ∷ K) s i a d = absurd (z (kind-is (app-left f) K d .1))
       go (app-right f ∷ K) s i (p-more h a) d =
-          record { long = n ∙ s .long; around = K; focus = _; is = i; proper = a; at = leaves-app p (s .focus) t d h cell x y }
+          record { long = x .long ∙ s .long; around = K; focus = _; is = i; proper = a; at = leaves-app p (s .focus) t d h cell x y }
       go (merge-left f ∷ K) s i a d = absurd (omega (arith, k, kind-is (merge-left f) K d .0))
       go (merge-right f ∷ K) s i a d = absurd (omega (arith, k, kind-is (merge-right f) K d .0))
       go (rcd-of l ∷ K) s i a d = absurd (omega (arith, k, kind-is (rcd-of l) K d .0))
       go (proj-of l ∷ K) s i a d = absurd (omega (arith, k, kind-is (proj-of l) K d .0))
+
+-- a cell of neither kind with two parts
+pub waiting-one : {w : List ℕ} {p : Place} {t : Cell} → Waiting w p t → ((t .kind ≡ 20) ⊎ (t .kind ≡ 22) → ⊥) → WaitingOne w p t
+waiting-one d h = record { waiting = d; no-app = λ k. h (inl k); no-merge = λ k. h (inr k) }
 
 pub other : {X Y : Type 0} → X ⊎ Y → (Y → ⊥) → X
 other (inl x) h = x

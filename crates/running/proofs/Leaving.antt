@@ -12,8 +12,7 @@ use Rattle.format.specs.Table.{Sort, type-sort, term-sort, Use, unused, refers,
 use Rattle.format.specs.Cell.{Cell, cellAt}
 use Rattle.format.specs.Tree.{Tree, raw, node}
 use Rattle.format.specs.Terms.{fromType, fromTerm}
-use Rattle.cells.specs.Held.{IsCell}
-use Rattle.emission.specs.Emits.{labelBy}
+use Rattle.cells.specs.Held.{IsCell, labelBy}
 use Rattle.emission.specs.Runs.{Run, r-unused}
 use Rattle.emission.proofs.Runs.{grows, counts}
 use Rattle.moving.specs.Moves.{Kept, Wrote}
@@ -112,7 +111,7 @@ module _ {w v : List ℕ} (p : Place) {K : List Around} where
       let i : p .right ≡ p .up = nothing (q .second) ∙ nothing (q .third) in
       let c : DoneTree v (p .start) (suc (p .left - 1)) (suc (p .up)) (q .u) (fromTerm (rcd l f)) (frames K)
       = closes-one (q .cell) refl (q .label) refl refl refl (q .second) (q .third) (q .rest)
-      (at-run refl refl n (d .run)) (omega (arith, n, d .apart)) (omega arith) (subst (Wrote w v) n x)
+      (at-run refl refl n (d .run)) (omega (arith, n, d .apart)) refl (subst (Wrote w v) n x)
       (subst (λ (z : ℕ). IsCell v z 24 (q .l) (p .left - 1) (q .b) 0) n (rw s at y)) in
       rw s (done-of p (d .value) refl (subst (λ (z : ℕ). DoneTree v (p .start) (suc (p .left - 1)) (suc z) (q .u) (fromTerm (rcd l f)) (frames K)) (sym i) c)
       (omega (arith, n)))
@@ -178,7 +177,7 @@ module _ {w v : List ℕ} (p : Place) {K : List Around} where
       let i = q .here in
       let c : DoneTree v (q .o) (suc (p .left - 1)) (suc (p .up)) (q .u) (fromTerm (merge g f)) (frames K)
       = closes-both (q .cell) refl (q .label) refl refl refl (q .run) (q .rest)
-      (at-run refl refl n (d .run)) (omega (arith, n, d .apart, i)) (omega arith) (subst (Wrote w v) n x)
+      (at-run refl refl n (d .run)) (omega (arith, n, d .apart, i)) refl (subst (Wrote w v) n x)
       (subst (λ (z : ℕ). IsCell v z 22 (q .l) (q .a) (p .left - 1) 0) n (rw s at y)) in
       rw (s, o) (done-of p (rw (h, d .value)) refl (subst (λ (z : ℕ). DoneTree v (q .o) (suc (p .left - 1)) (suc z) (q .u) (fromTerm (merge g f)) (frames K)) (sym i) c)
       (omega (arith, n)))

@@ -1,15 +1,13 @@
 -- The loop of a run follows the definition: what is still to be evaluated from the term that stands in the work buffer is what was to be
 -- evaluated at first. Assumes nothing.
 use Prim.Native.Nat.{ℕ, suc, _+_, _-_, _≤_, _<_}
-use mathlib.Core.Path.{_≡_, sym, _∙_, ap, subst}
-use mathlib.Core.Bool.{false}
-use mathlib.Core.List.{List, []}
+use mathlib.Core.Path.{_≡_, refl, sym, _∙_, ap, subst}
+use mathlib.Core.List.{List}
 use native.Mathlib.Nat.{sub-zero}
 use native.Mathlib.Omega.{arith}
 use borrow.Author.Tests.{ltb-false}
 use lib.ListN.{length}
-use Rattle.calculus.specs.Syntax.{Ty, Term, size}
-use Rattle.calculus.specs.Typing.{Typed}
+use Rattle.calculus.specs.Syntax.{Term, size}
 use Rattle.format.specs.Book.{sizeLimit}
 use Rattle.answers.specs.Answer as Answer
 use Rattle.answers.specs.Definition.{ended, evaluate}
@@ -17,7 +15,7 @@ use Rattle.answers.proofs.Running.{evaluate-value, evaluate-spent, evaluate-roo
 use Rattle.outcome.specs.declared.Stop.{Stop}
 use Rattle.outcome.specs.declared.Stop.the-variants.{Value, Spent, Room}
 use Rattle.running.specs.Places.{Standing, Runnable, Ready, Settled}
-use Rattle.running.specs.Turns.{Lies, TypedLies, Starts, TurnReady, TurnOf, t-value, t-spent, t-room, t-next, Steps, LaysWhole, RunOf, Runs}
+use Rattle.running.specs.Turns.{StepReady, Starts, Laying, TurnReady, TurnOf, t-value, t-spent, t-room, t-next, Steps, LaysWhole, RunOf, Runs}
 use Rattle.running.specs.declared.Focus.{Focus}
 use Rattle.running.specs.declared.State.{State}
 use Rattle.running.specs.declared.Turn.{Turn}
@@ -32,60 +30,71 @@ pub record Going (l : ℕ) (e₀ : Term) (w : List ℕ) (x : State) : Type 0 whe
   pub runnable : Runnable term
   pub left : evaluate sizeLimit l 0 e₀ ≡ evaluate sizeLimit (l - x .steps) (x .steps) term
 
--- that of every term that stood there at first, and there was one
-pub record AllGoing (l : ℕ) (w₀ : List ℕ) (x₀ : Focus) (w : List ℕ) (x : State) : Type 0 where
+-- that of every term that stood there at first, and there was one; both buffers are as long as they were
+pub record AllGoing (l : ℕ) (s₀ w₀ : List ℕ) (x₀ : Focus) (s w : List ℕ) (x : State) : Type 0 where
+  pub same : length s ≡ length s₀
+  pub long : 32768 ≤ length s
+  pub work : length w ≡ 65536
   pub first : Ready w₀ x₀
   pub settled : Settled (x .focus)
   pub taken : x .steps ≤ l
   pub says : (e₀ : Term) → Standing w₀ x₀ e₀ → Runnable e₀ → Going l e₀ w x
 
-pub going-first : {l n : ℕ} {w v : List ℕ} {x : Focus} → TypedLies w n → Starts w v n x → AllGoing l v x v (record { focus = x; steps = 0 })
-going-first h s =
+pub going-first : {l n : ℕ} {s t w v : List ℕ} {x : Focus} → StepReady s w n → length t ≡ length s → Starts w v n x →
+    AllGoing l t v x t v (record { focus = x; steps = 0 })
+going-first d k s =
+    let h = d .at in
     record {
+      same = refl;
+      long = omega (arith, k, d .long);
+      work = s .long;
       first = record { term = h .term; standing = s .says (h .term) (h .type) (h .lies) (h .typed); runnable = lies-runnable (h .lies) (h .typed) };
       settled = s .settled;
       taken = omega arith;
       says = λ e h t. record { term = e; standing = h; runnable = t; left = rw sub-zero };
     }
 
-module _ {l : ℕ} {w₀ w : List ℕ} {x₀ : Focus} {x : State} (g : AllGoing l w₀ x₀ w x) where
+module _ {l : ℕ} {s₀ w₀ s w : List ℕ} {x₀ : Focus} {x : State} (g : AllGoing l s₀ w₀ x₀ s w x) where
   abbrev now : Going l (g .first .term) w x
   now = g .says (g .first .term) (g .first .standing) (g .first .runnable)
 
   -- what the next step needs
-  pub going-ready : {s : List ℕ} → 32768 ≤ length s → TurnReady s w x l
-  going-ready b =
-      record { long = b; ready = record { term = now .term; standing = now .standing; runnable = now .runnable }; settled = g .settled; taken = g .taken }
+  pub going-ready : TurnReady s w x l
+  going-ready =
+      record { long = g .long; ready = record { term = now .term; standing = now .standing; runnable = now .runnable }; settled = g .settled; taken = g .taken }
 
-module _ {l : ℕ} {w₀ w v : List ℕ} {x₀ : Focus} {x : State} {r : Turn} (g : AllGoing l w₀ x₀ w x) where
+module _ {l : ℕ} {s₀ w₀ s w v : List ℕ} {x₀ : Focus} {x : State} {r : Turn} (g : AllGoing l s₀ w₀ x₀ s w x) where
   -- a turn that goes on took one step of those left
-  pub going-more : {y : State} → Steps w v x l r → r ≡ Next y → (y .steps ≡ x .steps + 1) × (x .steps < l) × Settled (y .focus)
-  going-more {y} s q = by (s .says (now g .term) (now g .standing) (now g .runnable))
+  going-more : {y : State} → Steps w v x l r → r ≡ Next y → (y .steps ≡ x .steps + 1) × (x .steps < l) × Settled (y .focus)
+  going-more {y} o q = by (o .says (now g .term) (now g .standing) (now g .runnable))
     where
       by : TurnOf v (x .focus) (x .steps) l (now g .term) r → (y .steps ≡ x .steps + 1) × (x .steps < l) × Settled (y .focus)
-      by (t-value a o i) = let z : _≡_ {A = ℕ} 0 1 = cc in absurd (omega arith)
-      by (t-spent a b o i) = let z : _≡_ {A = ℕ} 0 1 = cc in absurd (omega arith)
-      by (t-room a b d f o i) = let z : _≡_ {A = ℕ} 0 1 = cc in absurd (omega arith)
-      by (t-next {y = u} a b d m o j k i) =
+      by (t-value a c i) = let z : _≡_ {A = ℕ} 0 1 = cc in absurd (omega arith)
+      by (t-spent a b c i) = let z : _≡_ {A = ℕ} 0 1 = cc in absurd (omega arith)
+      by (t-room a b d f c i) = let z : _≡_ {A = ℕ} 0 1 = cc in absurd (omega arith)
+      by (t-next {y = u} a b d m c j k i) =
           let z : u ≡ y = cc in
           (ap (λ (u : State). u .steps) (sym z) ∙ j, b, subst (λ (u : State). Settled (u .focus)) z k)
 
-  pub going-next : {y : State} → Steps w v x l r → r ≡ Next y → AllGoing l w₀ x₀ v y
-  going-next {y} s q =
-      let m = going-more s q in
-      record { first = g .first; settled = m .2; taken = omega (arith, m .0, m .1); says = go }
+  pub going-less : {y : State} → Steps w v x l r → r ≡ Next y → l - y .steps < l - x .steps
+  going-less o q = let m = going-more o q in omega (arith, m .0, m .1)
+
+  pub going-next : {t : List ℕ} {y : State} → length t ≡ length s → length v ≡ length w → Steps w v x l r → r ≡ Next y → AllGoing l s₀ w₀ x₀ t v y
+  going-next {y = y} a b o q =
+      let m = going-more o q in
+      record { same = a ∙ g .same; long = omega (arith, a, g .long); work = b ∙ g .work; first = g .first; settled = m .2; taken = omega (arith, m .0, m .1); says = go }
     where
       go : (e₀ : Term) → Standing w₀ x₀ e₀ → Runnable e₀ → Going l e₀ v y
-      go e₀ i t = by (s .says (p .term) (p .standing) (p .runnable))
+      go e₀ i t = by (o .says (p .term) (p .standing) (p .runnable))
         where
           p : Going l e₀ w x
           p = g .says e₀ i t
 
           by : TurnOf v (x .focus) (x .steps) l (p .term) r → Going l e₀ v y
-          by (t-value a o i) = let z : _≡_ {A = ℕ} 0 1 = cc in absurd (omega arith)
-          by (t-spent a b o i) = let z : _≡_ {A = ℕ} 0 1 = cc in absurd (omega arith)
-          by (t-room a b d f o i) = let z : _≡_ {A = ℕ} 0 1 = cc in absurd (omega arith)
-          by (t-next {f = f} {y = u} a b d m o j k i) =
+          by (t-value a c i) = let z : _≡_ {A = ℕ} 0 1 = cc in absurd (omega arith)
+          by (t-spent a b c i) = let z : _≡_ {A = ℕ} 0 1 = cc in absurd (omega arith)
+          by (t-room a b d f c i) = let z : _≡_ {A = ℕ} 0 1 = cc in absurd (omega arith)
+          by (t-next {f = f} {y = u} a b d m h j k i) =
               let z : u ≡ y = cc in
               let c = x .steps in
               let c′ : y .steps ≡ suc c = ap (λ (u : State). u .steps) (sym z) ∙ j ∙ omega arith in
@@ -99,24 +108,27 @@ module _ {l : ℕ} {w₀ w v : List ℕ} {x₀ : Focus} {x : State} {r : Turn} (
               }
 
   -- a turn that ends the run leaves the term where it stands
-  pub ending-ready : {y : Focus} {z : Stop} → Steps w v x l r → r ≡ Ended z y → Ready v y
-  ending-ready {y} {z} s q = by (s .says (now g .term) (now g .standing) (now g .runnable))
+  ending-ready : {y : Focus} {z : Stop} → Steps w v x l r → r ≡ Ended z y → Ready v y
+  ending-ready {y} {z} o q = by (o .says (now g .term) (now g .standing) (now g .runnable))
     where
       at : x .focus ≡ y → Standing v (x .focus) (now g .term) → Ready v y
       at e i = record { term = now g .term; standing = subst (λ (d : Focus). Standing v d (now g .term)) e i; runnable = now g .runnable }
 
       by : TurnOf v (x .focus) (x .steps) l (now g .term) r → Ready v y
-      by (t-value a o i) = let e : x .focus ≡ y = cc in at e i
-      by (t-spent a b o i) = let e : x .focus ≡ y = cc in at e i
-      by (t-room a b d f o i) = let e : x .focus ≡ y = cc in at e i
-      by (t-next a b d m o j k i) = let z : _≡_ {A = ℕ} 0 1 = cc in absurd (omega arith)
+      by (t-value a c i) = let e : x .focus ≡ y = cc in at e i
+      by (t-spent a b c i) = let e : x .focus ≡ y = cc in at e i
+      by (t-room a b d f c i) = let e : x .focus ≡ y = cc in at e i
+      by (t-next a b d m c j k i) = let z : _≡_ {A = ℕ} 0 1 = cc in absurd (omega arith)
+
+  pub ending-laying : {t : List ℕ} {y : Focus} {z : Stop} → length t ≡ length s → Steps w v x l r → r ≡ Ended z y → Laying t v y
+  ending-laying a o q = record { long = omega (arith, a, g .long); ready = ending-ready o q }
 
   pub going-ends : {y : Focus} {z : Stop} {u : List ℕ} {m : ℕ} → Steps w v x l r → r ≡ Ended z y → LaysWhole v u y m →
       {a : List ℕ} {n : ℕ} → Starts a w₀ n x₀ → Runs a u n l (record { stop = z; cells = m })
-  going-ends {y} {z} {u} {m} s q d b = record { says = λ e A i t. go e (b .says e A i t) (lies-runnable i t) }
+  going-ends {y} {z} {u} {m} o q d b = record { says = λ e A i t. go e (b .says e A i t) (lies-runnable i t) }
     where
       go : (e₀ : Term) → Standing w₀ x₀ e₀ → Runnable e₀ → RunOf u l e₀ (record { stop = z; cells = m })
-      go e₀ i t = by (s .says (p .term) (p .standing) (p .runnable))
+      go e₀ i t = by (o .says (p .term) (p .standing) (p .runnable))
         where
           p : Going l e₀ w x
           p = g .says e₀ i t
@@ -135,19 +147,19 @@ module _ {l : ℕ} {w₀ w v : List ℕ} {x₀ : Focus} {x : State} {r : Turn} (
               }
 
           by : TurnOf v (x .focus) (x .steps) l (p .term) r → RunOf u l e₀ (record { stop = z; cells = m })
-          by (t-value a o i) =
+          by (t-value a c i) =
               let b : Value (x .steps) ≡ z = cc in
               let e : x .focus ≡ y = cc in
               done Answer.value (evaluate-value sizeLimit (l - x .steps) (x .steps) (p .term) a) (rw (← b)) e i
-          by (t-spent a c o i) =
+          by (t-spent a c h i) =
               let b : Spent (x .steps) ≡ z = cc in
               let e : x .focus ≡ y = cc in
               done Answer.spent
               (ap (λ (n : ℕ). evaluate sizeLimit n (x .steps) (p .term)) (omega arith) ∙ evaluate-spent sizeLimit (x .steps) (p .term) a) (rw (← b)) e i
-          by (t-room {f = f} a c h′ f′ o i) =
+          by (t-room {f = f} a c h′ f′ h i) =
               let b : Room (x .steps) ≡ z = cc in
               let e : x .focus ≡ y = cc in
               done Answer.room
               (ap (λ (n : ℕ). evaluate sizeLimit n (x .steps) (p .term)) (omega arith) ∙ evaluate-room sizeLimit (l - suc (x .steps)) (x .steps) (p .term) f a h′ f′)
               (rw (← b)) e i
-          by (t-next a c h′ f′ o j k i) = let x : _≡_ {A = ℕ} 0 1 = cc in absurd (omega arith)
+          by (t-next a c h′ f′ h j k i) = let x : _≡_ {A = ℕ} 0 1 = cc in absurd (omega arith)

@@ -3,31 +3,32 @@ use Prim.Native.Nat.{ℕ, suc, _+_, _*_, _-_, _≤_, _<_}
 use native.Mathlib.Omega.{arith}
 use mathlib.Core.Path.{_≡_, refl, sym, ap, _∙_, subst}
 use mathlib.Core.Bool.{Bool, true, false, cond}
-use mathlib.Core.List.{List, []}
-use mathlib.Core.Option.{Option, none, some, Option·some-injective, Option·none-ne-some}
+use mathlib.Core.List.{List}
+use mathlib.Core.Option.{none, some, Option·some-injective, Option·none-ne-some}
 use lib.Dec.{eqb}
 use lib.ListN.{length}
-use Rattle.calculus.specs.Syntax.{Ty, Term, var, lit, unit, anno, app, lam, merge, fix, rcd, proj, size}
+use Rattle.calculus.specs.Syntax.{Term, var, lit, unit, anno, app, lam, merge, fix, rcd, proj, size}
 use Rattle.calculus.specs.Decide.{value?}
 use Rattle.calculus.specs.Evaluate.{next, project}
-use Rattle.format.specs.Table.{term-sort, refers, Row, rowOf, rowIn, table}
+use Rattle.format.specs.Table.{term-sort, refers, rowOf, rowIn, table}
 use Rattle.format.specs.Cell.{Cell, cellAt}
 use Rattle.format.specs.Terms.{fromTerm}
 use Rattle.format.proofs.Trees.{term-cells}
 use Rattle.cells.specs.Held.{IsCell}
 use Rattle.emission.specs.Runs.{Run}
-use Rattle.emission.proofs.Runs.{grows, parts}
+use Rattle.emission.proofs.Runs.{parts}
 use Rattle.moving.specs.Moves.{Kept}
 use Rattle.running.specs.Waiting.{Waits, around}
 use Rattle.running.specs.Contexts.{Around, whole, frames}
-use Rattle.running.specs.Places.{IsDone, IsRedex, RedexParts, of-anno, of-app, of-fix, of-proj, Standing, Runnable, doneAt, Becomes, RedexAt}
+use Rattle.running.specs.Places.{RedexParts, of-anno, of-app, of-fix, of-proj, Standing, doneAt, Becomes, RedexAt}
 use Rattle.running.specs.declared.Place.{Place}
-use Rattle.running.specs.declared.Focus.the-variants.{Done, Redex}
-use Rattle.running.proofs.Contexts.{no-value, next-inside, framed}
+use Rattle.running.specs.declared.Focus.{Focus}
+use Rattle.running.specs.declared.Focus.the-variants.{Redex}
+use Rattle.running.proofs.Contexts.{next-inside, framed}
 use Rattle.running.proofs.Waiting.{filled, kept-waits}
 use Rattle.running.proofs.Going.{ends, nothing, at-run}
 use Rattle.running.proofs.Entering.{kindOf, kind-of, Kind, k-unit, term-kind}
-use Rattle.running.proofs.Ranges.{RedexRange, redex-range}
+use Rattle.running.proofs.Ranges.{redex-range, redex-low, kind-at, kind-not}
 
 -- the size of the whole term: the cells around the focus, and the focus
 pub size-whole : (K : List Around) (f : Term) → size (whole K f) ≡ around (frames K) + size f
@@ -105,6 +106,9 @@ becomes {w} {v} p {left} k l c = record { says = λ e g s r n. go s n }
           omega (arith, size-whole K (i .to), size-whole K (s .focus), a, b, m .small),
         )
 
+pub becomes-at : {w v : List ℕ} {p : Place} {left : ℕ} {r : Focus} → r ≡ doneAt p left → Becomes w v p (doneAt p left) → Becomes w v p r
+becomes-at {w} {v} {p} e b = subst (Becomes w v p) (sym e) b
+
 pub unchanged : {w : List ℕ} (p : Place) → Kept w w (p .start) (suc (p .root))
 unchanged p = record { long = refl; below = λ i h. refl; above = λ i h. refl }
 
@@ -138,6 +142,9 @@ module _ {w : List ℕ} {start left a : ℕ} (l : ℕ) where
   content-record (fix x A) h f r k n = absurd (Option·none-ne-some h n)
   content-record (proj m x) h f r k n = absurd (Option·none-ne-some h n)
 
+pub redex-root : {w : List ℕ} {p : Place} {t : Cell} {k : ℕ} → RedexAt w p t k → p .root < 8192
+redex-root d = redex-low (d .ready .standing .at)
+
 module _ {w : List ℕ} (p : Place) (t : Cell) (d : RedexAt w p t 25) where
   field-read : {e : Term} (s : Standing w (Redex p) e) → Read w p (s .focus) (t .a)
   field-read s = read-of p t (s .at .parts) (d .cell) (d .kind)
@@ -162,12 +169,12 @@ module _ {w : List ℕ} (p : Place) (t : Cell) (d : RedexAt w p t 25) where
       Content v (p .start) left (size (s .focus)) h
   sized {v} {left} {h = h} s c = subst (λ (n : ℕ). Content v (p .start) left n h) (sym (ap size (field-read s .is))) c
 
-  pub projects-top : cellAt w (t .a) .kind ≡ 18 → Becomes w w p (doneAt p (p .left))
-  projects-top k =
+  pub projects-top : {v : Cell} → v ≡ cellAt w (t .a) → v .kind ≡ 18 → Becomes w w p (doneAt p (p .left))
+  projects-top i k =
       becomes p (unchanged p) left-low
-      (λ e s h n. sized s (content-top (field-read s .label) h (field-read s .run) (term-kind (field-read s .value) (field-read s .run) k) (project-is s n)))
+      (λ e s h n. sized s (content-top (field-read s .label) h (field-read s .run) (term-kind (field-read s .value) (field-read s .run) (kind-at i k)) (project-is s n)))
 
-  pub projects-record : (cellAt w (t .a) .kind ≡ 18 → ⊥) → Becomes w w p (doneAt p (p .left - 1))
-  projects-record k =
+  pub projects-record : {v : Cell} → v ≡ cellAt w (t .a) → (v .kind ≡ 18 → ⊥) → Becomes w w p (doneAt p (p .left - 1))
+  projects-record i k =
       becomes p (unchanged p) (omega (arith, left-low))
-      (λ e s h n. sized s (content-record (field-read s .label) (field-read s .value) h (field-read s .final) (field-read s .run) k (project-is s n)))
+      (λ e s h n. sized s (content-record (field-read s .label) (field-read s .value) h (field-read s .final) (field-read s .run) (kind-not i k) (project-is s n)))

@@ -18,9 +18,8 @@ use Rattle.emission.specs.Runs.{Run, r-refers}
 use Rattle.emission.proofs.Runs.{grows}
 use Rattle.moving.specs.Moves.{Wrote}
 use Rattle.moving.proofs.Writing.{wrote}
-use Rattle.running.specs.Waiting.{Frame, Waits}
 use Rattle.running.specs.Contexts.{Around}
-use Rattle.running.specs.Places.{IsAhead, IsDone, IsRedex, RedexParts, of-anno, of-app, of-fix, of-proj, Standing}
+use Rattle.running.specs.Places.{IsAhead, IsDone, IsRedex, RedexParts, of-anno, of-app, of-fix, of-proj, Standing, Waiting}
 use Rattle.running.specs.declared.Place.{Place}
 use Rattle.running.specs.declared.Focus.the-variants.{Ahead, Done, Redex}
 use Rattle.running.proofs.Waiting.{waits-right}
@@ -91,10 +90,47 @@ redex-range {w} {p} {K} {f} d =
     go (of-fix e r) = (omega (arith, e), last r)
     go (of-proj c v a e) = (grows a, omega (arith, e))
 
+-- a bound by itself
+module _ {w : List ℕ} {p : Place} {K : List Around} {f : Term} where
+  pub ahead-low : IsAhead w p K f → p .root < 8192
+  ahead-low a = ahead-range a .root
+
+  pub ahead-some : IsAhead w p K f → p .right ≤ p .root
+  ahead-some a = ahead-range a .right
+
+  pub done-left : IsDone w p K f → 1 ≤ p .left
+  done-left d = done-range d .some
+
+  pub done-right : IsDone w p K f → p .right ≤ 8192
+  done-right d = done-range d .right
+
+  pub done-start : IsDone w p K f → p .start < 8192
+  done-start d = let r = done-range d in omega (arith, r .start, r .apart, r .right)
+
+  pub redex-low : IsRedex w p K f → p .root < 8192
+  redex-low d = redex-range d .root
+
+  pub redex-start : IsRedex w p K f → p .start < 8192
+  redex-start d = let r = redex-range d in omega (arith, r .start, r .apart, r .right, r .root)
+
 -- ---- cells read and written
+
+-- the kind of a cell that was read
+pub kind-at : {t u : Cell} {n : ℕ} → t ≡ u → t .kind ≡ n → u .kind ≡ n
+kind-at e k = sym (ap (λ (c : Cell). c .kind) e) ∙ k
+
+pub kind-not : {t u : Cell} {n : ℕ} → t ≡ u → (t .kind ≡ n → ⊥) → (u .kind ≡ n → ⊥)
+kind-not e h q = h (ap (λ (c : Cell). c .kind) e ∙ q)
 
 pub read-fits : (w : List ℕ) (j : ℕ) {t : Cell} → IsBytes w → t ≡ cellAt w j → (t .a < 65536) × (t .b < 65536) × (t .c < 65536)
 read-fits w j y e = let f = cell-fits w y j in rw e (f .1, f .2, f .3)
+
+-- the numbers that a waiting cell gets, and those it has
+pub waiting-fits : {w : List ℕ} {p : Place} {t : Cell} → Waiting w p t → IsBytes w → (p .start < p .left) × (p .left < 8192) × (t .a < 65536) × (t .b < 65536)
+waiting-fits {w} {p} d y =
+    let r = done-range (d .ready .standing .at) in
+    let f = read-fits w (p .up) y (d .cell) in
+    (r .start, omega (arith, r .apart, r .right), f .0, f .1)
 
 -- cell n holds x, all others are as they were
 pub record Stored (w v : List ℕ) (n : ℕ) (x : Cell) : Type 0 where

@@ -4,21 +4,21 @@ use Prim.Native.Nat.{ℕ, suc, _+_, _*_, _-_, _≤_, _<_}
 use native.Mathlib.Omega.{arith}
 use mathlib.Core.Path.{_≡_, refl, sym, ap, _∙_, subst}
 use mathlib.Core.Bool.{Bool, true, false, cond, _&&_}
-use mathlib.Core.List.{List, []}
-use mathlib.Core.Option.{Option, none, some, Option·some-injective, Option·none-ne-some}
+use mathlib.Core.List.{List}
+use mathlib.Core.Option.{none, some, Option·some-injective, Option·none-ne-some}
 use lib.ListN.{length}
+use lib.Seq.{sets}
 use Rattle.calculus.specs.Syntax.{Ty, int, top, arrow, inter, field, size-type}
-use Rattle.calculus.specs.Syntax.{Term, var, lit, unit, anno, app, lam, merge, fix, rcd, proj, size}
+use Rattle.calculus.specs.Syntax.{Term, lit, unit, anno, lam, size}
 use Rattle.calculus.specs.Decide.{value?, topLike?, below?}
 use Rattle.calculus.specs.Evaluate.{next, cast, firstPart, castInt, castArrow}
-use Rattle.format.specs.Table.{Sort, type-sort, term-sort, Use, unused, refers, Row, rowOf, rowIn, table}
-use Rattle.format.specs.Cell.{Cell, cellAt}
-use Rattle.format.specs.Tree.{Tree}
+use Rattle.format.specs.Table.{Sort, type-sort, term-sort, refers, rowOf, rowIn, table}
+use Rattle.format.specs.Cell.{Cell, cellAt, cellBytes}
 use Rattle.format.specs.Terms.{fromType, fromTerm}
 use Rattle.cells.specs.Held.{IsCell, mark}
 use Rattle.cells.proofs.Held.{type-mark}
 use Rattle.emission.specs.Runs.{Run, r-unused, r-refers}
-use Rattle.emission.proofs.Runs.{grows, Parts, parts, run-type, kept-run}
+use Rattle.emission.proofs.Runs.{parts, run-type, kept-run}
 use Rattle.moving.specs.Moves.{Kept, Wrote, ShiftReady, Shifts}
 use Rattle.moving.proofs.Runs.{shift-ready, run-shifted}
 use Rattle.running.specs.Places.{RedexParts, of-anno, of-app, of-fix, of-proj, Standing, doneAt, Becomes, RedexAt, TopAt, FunctionAt}
@@ -26,7 +26,7 @@ use Rattle.running.specs.declared.Place.{Place}
 use Rattle.running.specs.declared.Focus.the-variants.{Redex}
 use Rattle.running.proofs.Going.{ends, nothing, at-run, wrote-run}
 use Rattle.running.proofs.Entering.{Kind, k-lit, k-lam, term-kind}
-use Rattle.running.proofs.Ranges.{last, RedexRange, redex-range}
+use Rattle.running.proofs.Ranges.{last, RedexRange, redex-range, Stored, stored, start-within, kind-at}
 use Rattle.running.proofs.Projecting.{Content, becomes, unchanged}
 
 -- the annotated value, and its type
@@ -111,23 +111,27 @@ cast-top v e k-arrow k = rw (e, cast) refl
 cast-top v e k-inter k = absurd (k refl)
 cast-top v e k-field k = rw (e, cast) refl
 
-pub reads-top : {w v : List ℕ} (p : Place) (t y : Cell) → TopAt w p t y → Wrote w v (p .start) → IsCell v (p .start) 18 0 0 0 0 → Becomes w v p (doneAt p (p .start + 1))
+pub reads-top : {w v : List ℕ} {p : Place} {t y : Cell} → TopAt w p t y → v ≡ sets w (8 * p .start) (cellBytes (record { kind = 18; label = 0; a = 0; b = 0; c = 0 })) →
+    Becomes w v p (doneAt p (p .start + 1))
 unfolding value? fromTerm table rowIn rowOf size
-reads-top {w} {v} p t y d x c = becomes p kept (omega (arith, r .start, r .apart, r .right)) content
+reads-top {w} {v} {p} {t} {y} d o = becomes p kept (omega (arith, r .start, r .apart, r .right)) content
   where
+    x : Stored w v (p .start) (record { kind = 18; label = 0; a = 0; b = 0; c = 0 })
+    x = stored _ (start-within (d .at .ready .standing)) o
+
     r : RedexRange p
     r = redex-range (d .at .ready .standing .at)
 
     kept : Kept w v (p .start) (suc (p .root))
     kept =
         record {
-          long = x .long;
-          below = λ i h. x .others i (λ e. absurd (omega (arith, e, h)));
-          above = λ i h. x .others i (λ e. absurd (omega (arith, e, h, r .start, r .apart, r .right)));
+          long = x .wrote .long;
+          below = λ i h. x .wrote .others i (λ e. absurd (omega (arith, e, h)));
+          above = λ i h. x .wrote .others i (λ e. absurd (omega (arith, e, h, r .start, r .apart, r .right)));
         }
 
     top-run : Run true v (p .start) (refers term-sort) (p .start + 1 - 1) (fromTerm unit) (p .start + 1)
-    top-run = at-run refl (omega arith) (omega arith) (r-refers c refl refl r-unused r-unused r-unused refl (λ h. absurd (omega (arith, h))))
+    top-run = at-run refl (omega arith) (omega arith) (r-refers (x .there) refl refl r-unused r-unused r-unused refl (refl, tt))
 
     content : (e : Term) (s : Standing w (Redex p) e) (h : Term) → next (s .focus) ≡ some h → Content v (p .start) (p .start + 1) (size (s .focus)) h
     content e s h n =
@@ -141,32 +145,26 @@ reads-top {w} {v} p t y d x c = becomes p kept (omega (arith, r .start, r .apart
 
 -- ---- a number
 
--- a number annotated with Int
-pub record NumberAt (w : List ℕ) (p : Place) (t v y : Cell) : Type 0 where
-  pub at : RedexAt w p t 19
-  pub value : v ≡ cellAt w (t .a)
-  pub type : y ≡ cellAt w (t .b)
-  pub number : v .kind ≡ 17
-  pub int : y .kind ≡ 1
-
 number-read : {v : Term} {A : Ty} (h : Term) → Kind 17 v → TypeKind 1 A → cast A v ≡ some h → v ≡ h
 unfolding cast firstPart castInt
 number-read h (k-lit {z}) k-int c = Option·some-injective (lit z) h c
 
-pub reads-number : {w : List ℕ} (p : Place) (t v y : Cell) → NumberAt w p t v y → Becomes w w p (doneAt p (p .left))
+-- a number annotated with Int
+pub reads-number : {w : List ℕ} {p : Place} {t v y : Cell} → RedexAt w p t 19 → v ≡ cellAt w (t .a) → y ≡ cellAt w (t .b) → v .kind ≡ 17 → y .kind ≡ 1 →
+    Becomes w w p (doneAt p (p .left))
 unfolding size
-reads-number {w} p t v y d = becomes p (unchanged p) (omega (arith, r .apart, r .right)) content
+reads-number {w} {p} {t} d i o x y = becomes p (unchanged p) (omega (arith, r .apart, r .right)) content
   where
     r : RedexRange p
-    r = redex-range (d .at .ready .standing .at)
+    r = redex-range (d .ready .standing .at)
 
     content : (e : Term) (s : Standing w (Redex p) e) (h : Term) → next (s .focus) ≡ some h → Content w (p .start) (p .left) (size (s .focus)) h
     content e s h n =
-        let q = annotated p t (d .at) s in
-        let k = term-kind (q .value) (q .run) (sym (ap (λ (z : Cell). z .kind) (d .value)) ∙ d .number) in
-        let l = subst (λ (n : ℕ). TypeKind n (q .type)) (sym (ap (λ (z : Cell). z .kind) (d .type)) ∙ d .int) (kind-type (q .type) (q .under)) in
-        let u : q .value ≡ h = number-read h k l (cast-is p t (d .at) s n) in
-        sized p t (d .at) s
+        let q = annotated p t d s in
+        let k = term-kind (q .value) (q .run) (kind-at i x) in
+        let l = subst (λ (n : ℕ). TypeKind n (q .type)) (kind-at o y) (kind-type (q .type) (q .under)) in
+        let u : q .value ≡ h = number-read h k l (cast-is p t d s n) in
+        sized p t d s
         (subst (Content w (p .start) (p .left) (size (anno (q .value) (q .type)))) u
         (record { final = q .final; run = at-run refl (omega (arith, ends (q .run))) refl (q .run); small = omega arith }))
 
@@ -255,8 +253,8 @@ module _ {w : List ℕ} (p : Place) (t v y : Cell) (d : FunctionAt w p t v y) wh
   pub retyped : {e : Term} (s : Standing w (Redex p) e) → Retyped w p (s .focus) v y
   retyped s =
       let q = annotated p t (d .at) s in
-      let k = term-kind (q .value) (q .run) (sym (ap (λ (z : Cell). z .kind) (d .value)) ∙ d .function) in
-      let l = subst (λ (n : ℕ). TypeKind n (q .type)) (sym (ap (λ (z : Cell). z .kind) (d .type)) ∙ d .arrow) (kind-type (q .type) (q .under)) in
+      let k = term-kind (q .value) (q .run) (kind-at (d .value) (d .function)) in
+      let l = subst (λ (n : ℕ). TypeKind n (q .type)) (kind-at (d .type) (d .arrow)) (kind-type (q .type) (q .under)) in
       let f = function-of k l in
       let m = lam-runs (f .0) (f .1) (f .2) v (d .value) (subst (λ (x : Term). Run true w (p .start) (refers term-sort) (t .a) (fromTerm x) (p .left)) (f .5) (q .run)) in
       let n = arrow-runs (f .3) (f .4) y (d .type) (subst (λ (x : Ty). Run true w (p .right) (refers type-sort) (t .b) (fromType x) (p .root)) (f .6) (q .under)) in
@@ -293,8 +291,17 @@ module _ {w : List ℕ} (p : Place) (t v y : Cell) (d : FunctionAt w p t v y) wh
         inner = omega (arith, last (q .input-run));
       }
 
+  pub type-some : y .a < y .b
+  type-some = places .some
+
+  pub body-low : v .a < 8192
+  body-low = omega (arith, places)
+
+  pub ends-low : v .b + 1 + (y .b - y .a) < 8192
+  ends-low = omega (arith, places)
+
   pub retype-within : {u : List ℕ} → Shifts w u (y .a + 1) (v .b + 1) (y .b - y .a) → 8 * (v .b + 1 + (y .b - y .a)) + 8 ≤ length u
-  retype-within x = let l = places in omega (arith, x .kept .long, d .at .ready .standing .long, l .low, l .left, l .right, l .some, l .high, l .root)
+  retype-within x = omega (arith, x .kept .long, d .at .ready .standing .long, places)
 
   pub retype-shift : ShiftReady w (y .a + 1) (v .b + 1) (y .b - y .a)
   retype-shift =
@@ -302,8 +309,11 @@ module _ {w : List ℕ} (p : Place) (t v y : Cell) (d : FunctionAt w p t v y) wh
       shift-ready (v .b + 1) (d .at .ready .standing .long) (omega (arith, z .some, z .high, z .root)) (omega (arith, z .low, z .left, z .right))
       (at-run refl refl (omega (arith, z .some)) (here .second-run))
 
-  module _ {u z : List ℕ} (x : Shifts w u (y .a + 1) (v .b + 1) (y .b - y .a)) (o : Wrote u z (v .b + 1 + (y .b - y .a)))
-      (c : IsCell z (v .b + 1 + (y .b - y .a)) 21 0 (v .a) (v .b) (v .b + 1 + (y .b - y .a) - 1)) where
+  module _ {u z : List ℕ} (x : Shifts w u (y .a + 1) (v .b + 1) (y .b - y .a))
+      (written : z ≡ sets u (8 * (v .b + 1 + (y .b - y .a))) (cellBytes (record { kind = 21; label = 0; a = v .a; b = v .b; c = v .b + 1 + (y .b - y .a) - 1 }))) where
+    o : Wrote u z (v .b + 1 + (y .b - y .a))
+    o = stored _ (retype-within x) written .wrote
+
     long : length z ≡ length w
     long = o .long ∙ x .kept .long
 
@@ -328,14 +338,14 @@ module _ {w : List ℕ} (p : Place) (t v y : Cell) (d : FunctionAt w p t v y) wh
         let l = places in
         let moved = run-shifted (at-run refl refl (omega (arith, l .some)) (q .second-run)) x in
         r-refers
-        c
+        (stored _ (retype-within x) written .there)
         refl
         refl
         (kept-run long (λ i a b. before i (omega (arith, b, last (q .input-run)))) (q .body-run))
         (kept-run long (λ i a b. before i b) (q .input-run))
         (at-run refl (omega (arith, l .some)) refl (wrote-run o (omega arith) moved))
         refl
-        (λ h. absurd (omega (arith, h)))
+        (refl, tt)
 
     read-is : {e h : Term} (s : Standing w (Redex p) e) (q : Retyped w p (s .focus) v y) → next (s .focus) ≡ some h → lam (q .body) (q .input) (q .second) ≡ h
     unfolding topLike? value?
@@ -349,9 +359,9 @@ module _ {w : List ℕ} (p : Place) (t v y : Cell) (d : FunctionAt w p t v y) wh
         function-read (q .body) (q .input) (q .output) (q .first) (q .second) h (subst (λ (A : Ty). topLike? A ≡ false) g (unmarked (a .type) m))
         (sym (ap (λ (A : Ty). cast A (lam (q .body) (q .input) (q .output))) g) ∙ sym (ap (cast (a .type)) f) ∙ i)
 
-    pub retypes : Becomes w z p (doneAt p (v .b + 1 + (y .b - y .a) + 1))
+    pub retypes : {left : ℕ} → left ≡ v .b + 1 + (y .b - y .a) + 1 → Becomes w z p (doneAt p left)
     unfolding size size-type value?
-    retypes = becomes p kept (let l = places in omega (arith, l .low, l .left, l .right, l .some, l .high)) content
+    retypes i = subst (λ (n : ℕ). Becomes w z p (doneAt p n)) (sym i) (becomes p kept (omega (arith, places)) content)
       where
         content : (e : Term) (s : Standing w (Redex p) e) (h : Term) → next (s .focus) ≡ some h → Content z (p .start) (v .b + 1 + (y .b - y .a) + 1) (size (s .focus)) h
         content e s h n =

@@ -1,21 +1,26 @@
 -- The focus on its way to the redex, and the waiting cells on theirs to be whole: what the loops keep. Assumes nothing.
-use Prim.Native.Nat.{ℕ, zero, suc, _+_, _*_, _-_, _≤_, _<_}
+use Prim.Native.Nat.{ℕ, zero, suc, _*_, _-_, _≤_, _<_}
 use native.Mathlib.Omega.{arith}
 use mathlib.Core.Path.{_≡_, refl, sym, ap, _∙_, subst}
 use mathlib.Core.Logic.{_⊎_, inl, inr}
-use mathlib.Core.List.{List, [], _∷_}
+use mathlib.Core.Bool.{false}
+use mathlib.Core.List.{List, []}
 use lib.ListN.{length}
+use lib.Seq.{sets}
+use Rattle.format.specs.Cell.{Cell, cellAt, cellBytes, IsBytes}
 use Rattle.format.specs.Table.{term-sort, refers}
 use Rattle.format.specs.Tree.{Tree}
-use Rattle.emission.specs.Emits.{HeldField}
+use Rattle.cells.specs.Held.{HeldField}
 use Rattle.running.specs.Waiting.{fill, Waits}
 use Rattle.running.specs.Contexts.{Around, frames}
-use Rattle.running.specs.Places.{Standing, Runnable, Ready, Moves, GoesOn, distance, Settled, Settles, Held, Unwinding, MendReady, MendedTo, Mends, Unwinds}
+use Rattle.running.specs.Places.{Standing, Ready, Moves, GoesOn, distance, Settled, Settles, Held, Unwinding, MendReady, MendedTo, Mends, Unwinds}
 use Rattle.running.specs.declared.Place.{Place}
 use Rattle.running.specs.declared.Focus.{Focus}
 use Rattle.running.specs.declared.Focus.the-variants.{Redex, Whole}
 use Rattle.running.proofs.Waiting.{held-less, waits-right}
 use Rattle.running.proofs.Leaving.{waits-none}
+use Rattle.running.proofs.Unwinding.{mend-within, child-fits, mends-first, mends-second, mends-up}
+use Rattle.running.proofs.Ranges.{read-fits, stored}
 
 -- the focus has come from x₀ to x
 pub record Under (w₀ : List ℕ) (x₀ : Focus) (w : List ℕ) (x : Focus) : Type 0 where
@@ -68,6 +73,25 @@ pub record Outward (w₀ : List ℕ) (up child : ℕ) (w : List ℕ) (around roo
 pub outward-first : {w : List ℕ} {up child : ℕ} → Unwinding w up child → Outward w up child w up child
 outward-first u = record { long = refl; unwinding = u; says = λ K t h. record { around = K; tree = t; held = h; same = refl } }
 
+-- the cell up is written, whole again
+module _ {w : List ℕ} {up child : ℕ} {t : Cell} (d : MendReady w up child) (c : t ≡ cellAt w up) where
+  pub mend-fits : IsBytes w → (t .a < 65536) × (t .b < 65536) × (child < 65536)
+  mend-fits y = let f = read-fits w up y c in (f .0, f .1, child-fits d)
+
+  mends : {v : List ℕ} {r o : ℕ} → ((K : List Around) (f : Tree) → Held w up child K f → MendedTo v up o (fill (frames K) f)) → r ≡ o → Mends w v up child r
+  mends {v} m i =
+      let u = d .unwinding in
+      subst (Mends w v up child) (sym i) (record { higher = mends-up (m (u .around) (u .tree) (u .held)); says = m })
+
+  pub first-mends : {v : List ℕ} {r : ℕ} → t .c ≡ 0 → v ≡ sets w (8 * up) (cellBytes (record { kind = t .kind; label = t .label; a = child; b = t .b; c = 0 })) → r ≡ t .a → Mends w v up child r
+  first-mends z e i = let x = stored _ (mend-within d) e in mends (mends-first c (x .wrote) (d .some) z (x .there)) i
+
+  pub second-mends : {v : List ℕ} {r : ℕ} → (t .c ≡ 0 → ⊥) → v ≡ sets w (8 * up) (cellBytes (record { kind = t .kind; label = t .label; a = t .a; b = child; c = 0 })) → r ≡ t .b → Mends w v up child r
+  second-mends z e i = let x = stored _ (mend-within d) e in mends (mends-second c (x .wrote) (d .some) z (x .there)) i
+
+pub mend-ready : {w₀ w : List ℕ} {up child around root : ℕ} → Outward w₀ up child w around root → 0 < around → MendReady w around root
+mend-ready o h = record { unwinding = o .unwinding; some = λ e. absurd (omega (arith, e, h)) }
+
 pub outward-next : {w₀ w v : List ℕ} {up child around root r : ℕ} → Outward w₀ up child w around root → length v ≡ length w → Mends w v around root r →
     Outward w₀ up child v r around
 outward-next {w₀} {w} {v} {up} {child} {around} {root} {r} o l m =
@@ -97,12 +121,15 @@ filled-none : (K : List Around) (t : Tree) → K ≡ [] → fill (frames K) t �
 unfolding fill frames
 filled-none K t e = ap (λ (k : List Around). fill (frames k) t) e
 
-pub outward-ends : {w₀ w : List ℕ} {up child around root : ℕ} → Outward w₀ up child w around root → around ≡ 0 → Unwinds w₀ w up child root
-outward-ends {w₀} {w} {up} {child} {around} {root} o z = record { says = go }
+pub outward-ends : {w₀ w : List ℕ} {up child around root : ℕ} → Outward w₀ up child w around root → around ≤ 0 → Unwinds w₀ w up child root
+outward-ends {w₀} {w} {up} {child} {around} {root} o l = record { says = go }
   where
-    go : (K : List Around) (t : Tree) → Held w₀ up child K t → HeldField w 8192 (refers term-sort) root (fill (frames K) t)
+    z : around ≡ 0
+    z = omega (arith, l)
+
+    go : (K : List Around) (t : Tree) → Held w₀ up child K t → HeldField false w 8192 (refers term-sort) root (fill (frames K) t)
     go K t h =
         let a = o .says K t h in
         let n = waits-none (a .around) (subst (λ (j : ℕ). Waits w j (a .held .begin) (a .held .end) (frames (a .around))) z (a .held .waits)) in
-        subst (HeldField w 8192 (refers term-sort) root) (sym (filled-none (a .around) (a .tree) n) ∙ a .same)
+        subst (HeldField false w 8192 (refers term-sort) root) (sym (filled-none (a .around) (a .tree) n) ∙ a .same)
         (held-less (waits-right (a .held .waits)) (a .held .holds))

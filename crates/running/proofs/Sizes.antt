@@ -1,17 +1,15 @@
 -- The size of the whole term is what stands left and right of the gap, wherever the focus is: a run can tell its greatest size from its
 -- places alone. Assumes nothing.
-use Prim.Native.Nat.{ℕ, suc, _+_, _-_, _≤_, _<_}
+use Prim.Native.Nat.{ℕ, suc, _+_, _-_}
 use native.Mathlib.Omega.{arith}
 use mathlib.Core.Path.{_≡_, ap, _∙_}
 use mathlib.Core.List.{List}
-use Rattle.calculus.specs.Syntax.{Term, anno, app, fix, proj, size}
-use Rattle.format.specs.Tree.{cells}
-use Rattle.format.specs.Terms.{fromType, fromTerm}
+use Rattle.calculus.specs.Syntax.{Term, fix, size}
 use Rattle.format.proofs.Trees.{term-cells, type-cells}
 use Rattle.emission.proofs.Runs.{counts}
 use Rattle.running.specs.Waiting.{around}
 use Rattle.running.specs.Contexts.{Around, frames}
-use Rattle.running.specs.Places.{IsAhead, IsDone, IsRedex, RedexParts, of-anno, of-app, of-fix, of-proj, FocusIs, Standing}
+use Rattle.running.specs.Places.{RedexParts, of-anno, of-app, of-fix, of-proj, FocusIs, Standing}
 use Rattle.running.specs.declared.Place.{Place}
 use Rattle.running.specs.declared.Focus.{Focus}
 use Rattle.running.specs.declared.Focus.the-variants.{Ahead, Done, Redex, Whole}

@@ -1,14 +1,12 @@
 -- A term that stands in the work buffer: what follows for its focus. Assumes nothing.
-use Prim.Native.Nat.{ℕ, suc, _+_, _*_, _-_, _≤_, _<_}
-use native.Mathlib.Omega.{arith}
-use mathlib.Core.Path.{_≡_, refl, sym, ap, _∙_, subst}
-use mathlib.Core.Bool.{Bool, true, false}
+use Prim.Native.Nat.{ℕ, _≤_}
+use mathlib.Core.Path.{_≡_, sym, ap, _∙_, subst}
+use mathlib.Core.Bool.{false}
 use mathlib.Core.Logic.{_⊎_, inl, inr}
 use mathlib.Core.List.{List, [], _∷_}
-use mathlib.Core.Option.{Option, none, some, Option·none-ne-some}
+use mathlib.Core.Option.{some, Option·none-ne-some}
 use lib.Dec.{T}
-use Rattle.calculus.specs.Syntax.{Ty, Term, var, lit, unit, anno, app, lam, merge, fix, rcd, proj, size, IsValue}
-use Rattle.calculus.specs.Typing.{Typed}
+use Rattle.calculus.specs.Syntax.{Term, var, size, IsValue}
 use Rattle.calculus.specs.Step.{Step, r-zero, r-suc}
 use Rattle.calculus.specs.Decide.{value?}
 use Rattle.calculus.specs.Evaluate.{next}
@@ -18,9 +16,9 @@ use Rattle.calculus.proofs.Evaluation.{next-sound, next-complete}
 use Rattle.answers.proofs.Fits.{reaches-fits}
 use Rattle.format.specs.Terms.{TermFits}
 use Rattle.format.specs.Book.{sizeLimit}
-use Rattle.running.specs.Contexts.{Around, anno-of, app-left, app-right, merge-left, merge-right, rcd-of, proj-of, within1, whole, Proper, AllProper}
+use Rattle.running.specs.Contexts.{Around, anno-of, app-left, app-right, merge-left, merge-right, rcd-of, proj-of, within1, whole, AllProper}
 use Rattle.running.specs.Places.{Runnable}
-use Rattle.running.proofs.Contexts.{no-value, Inside, next-inside}
+use Rattle.running.proofs.Contexts.{no-value, next-inside}
 
 -- a typed term that is no value has a successor
 pub successor : {e : Term} → Runnable e → value? e ≡ false → (f : Term) × (next e ≡ some f)

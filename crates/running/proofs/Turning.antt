@@ -4,10 +4,9 @@ use native.Mathlib.Omega.{arith}
 use mathlib.Core.Path.{_≡_, refl, sym, ap, _∙_, subst}
 use mathlib.Core.Bool.{true, false}
 use mathlib.Core.Logic.{_⊎_, inl, inr}
-use mathlib.Core.List.{List, []}
+use mathlib.Core.List.{List}
 use mathlib.Core.Option.{some}
 use borrow.Author.Tests.{lt-ltb, le-ltb}
-use lib.ListN.{length}
 use Rattle.calculus.specs.Syntax.{Term, size}
 use Rattle.calculus.specs.Decide.{value?}
 use Rattle.calculus.specs.Evaluate.{next}
@@ -15,7 +14,7 @@ use Rattle.format.specs.Book.{sizeLimit}
 use Rattle.outcome.specs.declared.Stop.the-variants.{Value, Spent, Room}
 use Rattle.running.specs.Contexts.{Around, whole}
 use Rattle.running.specs.Places.{Standing, Runnable, Ready, Settled, Settles, Contracts, ContractsTo, c-to, c-full}
-use Rattle.running.specs.Turns.{TurnReady, TurnOf, t-value, t-spent, t-room, t-next, Steps}
+use Rattle.running.specs.Turns.{TurnOf, t-value, t-spent, t-room, t-next, Steps}
 use Rattle.running.specs.declared.Place.{Place}
 use Rattle.running.specs.declared.Focus.{Focus}
 use Rattle.running.specs.declared.Focus.the-variants.{Ahead, Done, Redex, Whole}
@@ -69,7 +68,10 @@ module _ {w : List ℕ} {y : Focus} {p : Place} (q : y ≡ Redex p) where
 pub turn-spent : {w : List ℕ} {x : State} {l : ℕ} {p : Place} → x .focus ≡ Redex p → x .steps ≡ l → Steps w w x l (Ended (Spent (x .steps)) (Redex p))
 turn-spent {x = x} q h = record { says = λ e s r. t-spent (redex-none (at q s)) h (ap (Ended (Spent (x .steps))) (sym q)) s }
 
-module _ {w v : List ℕ} {x : State} {l : ℕ} {p : Place} {o : Contracted} (q : x .focus ≡ Redex p) (c : Contracts w v p o) (h : x .steps < l) where
+module _ {w v : List ℕ} {x : State} {l : ℕ} {p : Place} {o : Contracted} (q : x .focus ≡ Redex p) (c : Contracts w v p o) (le : x .steps ≤ l) (ne : x .steps ≡ l → ⊥) where
+  h : x .steps < l
+  h = omega arith
+
   pub turn-room : o ≡ Full → Steps w v x l (Ended (Room (x .steps)) (Redex p))
   turn-room f = record { says = go }
     where

@@ -3,20 +3,21 @@ use Prim.Native.Nat.{ℕ, suc, _+_, _*_, _-_, _≤_, _<_}
 use native.Mathlib.Omega.{arith}
 use mathlib.Core.Path.{_≡_, refl, sym, ap, _∙_, subst}
 use mathlib.Core.Logic.{_⊎_, inl, inr}
+use mathlib.Core.Bool.{false}
 use mathlib.Core.List.{List, [], _∷_}
 use mathlib.Core.Option.{some}
 use lib.ListN.{length}
-use Rattle.format.specs.Table.{Sort, term-sort, unused, refers, Row, rowOf, rowIn, table}
+use Rattle.format.specs.Table.{term-sort, unused, refers, Row, rowOf, rowIn, table}
 use Rattle.format.specs.Cell.{Cell, cellAt}
 use Rattle.format.specs.Tree.{Tree}
-use Rattle.cells.specs.Held.{IsCell}
-use Rattle.emission.specs.Emits.{HeldField, f-refers}
+use Rattle.cells.specs.Held.{IsCell, HeldField}
+use Rattle.cells.proofs.Held.{lower, kept-field}
 use Rattle.emission.proofs.Runs.{grows}
 use Rattle.moving.specs.Moves.{Wrote}
 use Rattle.running.specs.Waiting.{Frame, first, second, plug, fill, Waits, w-none, w-first, w-second}
 use Rattle.running.specs.Contexts.{Around, anno-of, app-left, app-right, merge-left, merge-right, rcd-of, proj-of, frame, frames}
-use Rattle.running.specs.Places.{Held, Unwinding, MendReady, MendedTo, Mends}
-use Rattle.running.proofs.Waiting.{kept-field, held-less, waits-right, Mended, mend-first, mend-second, mend-rest}
+use Rattle.running.specs.Places.{Held, Unwinding, MendReady, MendedTo}
+use Rattle.running.proofs.Waiting.{held-less, waits-right, Mended, mend-first, mend-second, mend-rest}
 use Rattle.running.proofs.Leaving.{First, Second, waits-first, waits-second}
 use Rattle.running.proofs.Leaves.{waiting-kind, none-waits}
 
@@ -28,7 +29,7 @@ waits-up (w-second c r m a b d o f l k) = inr (omega arith, waits-right k)
 
 module _ {w v : List ℕ} {j : ℕ} where
   -- the cell j is whole, and what waited around it waits for it
-  mended : {x p q u : ℕ} {t : Tree} (F : Around) (K : List Around) → Mended w v j x (frame F) → HeldField w q (refers term-sort) x t → q ≤ j → p ≤ j →
+  mended : {x p q u : ℕ} {t : Tree} (F : Around) (K : List Around) → Mended w v j x (frame F) → HeldField false w q (refers term-sort) x t → q ≤ j → p ≤ j →
       Waits w u p (suc j) (frames K) → MendedTo v j u (fill (frames (F ∷ K)) t)
   unfolding frames fill
   mended {x} {p} {q} {u} {t} F K m h l b k =
@@ -47,7 +48,7 @@ module _ {w v : List ℕ} {j : ℕ} where
 
   module _ {t : Cell} (cell : t ≡ cellAt w j) (d : Wrote w v j) where
     first-of : {x p q k m : ℕ} {g h f : Tree} {r : Row} (F : Around) (K : List Around) → frame F ≡ first k m g h → rowOf k ≡ some r → r .a ≡ refers term-sort
-        → r .c ≡ unused → First w j p q k m g h (frames K) r → IsCell v j (t .kind) (t .label) x (t .b) 0 → HeldField w q (refers term-sort) x f
+        → r .c ≡ unused → First w j p q k m g h (frames K) r → IsCell v j (t .kind) (t .label) x (t .b) 0 → HeldField false w q (refers term-sort) x f
         → MendedTo v j (t .a) (fill (frames (F ∷ K)) f)
     first-of {x} {p} {q} {k} {m} {g} {h} {f} F K i e a n y c b =
         let s : t ≡ record { kind = k; label = y .l; a = y .u; b = y .b; c = y .c } = cell ∙ y .cell .is in
@@ -59,7 +60,7 @@ module _ {w v : List ℕ} {j : ℕ} where
 
     second-of : {x p q k m : ℕ} {g f : Tree} {r : Row} (F : Around) (K : List Around) → frame F ≡ second k m g → rowOf k ≡ some r → r .a ≡ refers term-sort
         → r .b ≡ refers term-sort → r .c ≡ unused → Second w j p q k m g (frames K) r → IsCell v j (t .kind) (t .label) (t .a) x 0
-        → HeldField w q (refers term-sort) x f → MendedTo v j (t .b) (fill (frames (F ∷ K)) f)
+        → HeldField false w q (refers term-sort) x f → MendedTo v j (t .b) (fill (frames (F ∷ K)) f)
     second-of {x} {p} {q} {k} {m} {g} {f} F K i e a o n y c b =
         let s : t ≡ record { kind = k; label = y .l; a = y .a; b = y .u; c = y .c } = cell ∙ y .cell .is in
         let mend : Mended w v j x (frame F) = subst (Mended w v j x) (sym i) (mend-second (y .cell) e (y .label) a o n (y .run) (y .low) (d .long) (d .others) (rw s at c)) in
@@ -91,16 +92,13 @@ module _ {w v : List ℕ} {j : ℕ} where
     mends-second j0 z c (rcd-of l ∷ K) f h = absurd (z (ap (λ (q : Cell). q .c) cell ∙ waiting-kind (rcd-of l) K (h .waits) .1))
     mends-second j0 z c (proj-of l ∷ K) f h = absurd (z (ap (λ (q : Cell). q .c) cell ∙ waiting-kind (proj-of l) K (h .waits) .1))
 
-pub held-low : {v : List ℕ} {n x : ℕ} {o : Sort} {t : Tree} → HeldField v n (refers o) x t → x < n
-held-low (f-refers l p k m f g h) = l
-
 -- what waits around is above the cell that is whole
 pub mends-up : {v : List ℕ} {j r : ℕ} {t : Tree} → MendedTo v j r t → (r ≡ 0) ⊎ ((j < r) × (r < 8192))
 mends-up {j = j} {r} m = go (waits-up (m .held .waits))
   where
     go : (r ≡ 0) ⊎ ((m .held .end ≤ r) × (r < 8192)) → (r ≡ 0) ⊎ ((j < r) × (r < 8192))
     go (inl e) = inl e
-    go (inr e) = inr (omega (arith, e .0, held-low (m .held .holds)), e .1)
+    go (inr e) = inr (omega (arith, e .0, lower (m .held .holds)), e .1)
 
 pub mend-within : {w : List ℕ} {up child : ℕ} → MendReady w up child → 8 * up + 8 ≤ length w
 mend-within {w} {up} p = go (waits-up (p .unwinding .held .waits))
@@ -110,7 +108,7 @@ mend-within {w} {up} p = go (waits-up (p .unwinding .held .waits))
     go (inr e) = omega (arith, e .1, p .unwinding .long)
 
 pub child-fits : {w : List ℕ} {up child : ℕ} → MendReady w up child → child < 65536
-child-fits p = omega (arith, held-low (p .unwinding .held .holds), waits-right (p .unwinding .held .waits))
+child-fits p = omega (arith, lower (p .unwinding .held .holds), waits-right (p .unwinding .held .waits))
 
 pub around-low : {w : List ℕ} {up child : ℕ} → Unwinding w up child → up < 8192
 around-low {w} {up} u = go (waits-up (u .held .waits))

@@ -1,43 +1,24 @@
 -- What waits around a focus: it is not touched by what is written in the gap; its cells are counted; and made whole again, cell by cell, it
 -- holds the term with whatever stands for the focus. Over kind and field. Assumes nothing.
-use Prim.Native.Nat.{ℕ, suc, _+_, _*_, _-_, _≤_, _<_}
+use Prim.Native.Nat.{ℕ, suc, _+_, _-_, _≤_, _<_}
 use native.Mathlib.Omega.{arith}
-use mathlib.Core.Bool.{Bool, true, false}
-use mathlib.Core.Path.{_≡_, refl, sym, ap, _∙_}
+use mathlib.Core.Bool.{true, false}
+use mathlib.Core.Path.{_≡_, sym}
 use mathlib.Core.List.{List, [], _∷_}
 use mathlib.Core.Option.{some}
 use lib.ListN.{length}
-use Rattle.format.specs.Table.{Sort, term-sort, Use, unused, plain, refers, Row, rowOf}
-use Rattle.format.specs.Cell.{Cell, cellAt}
+use Rattle.format.specs.Table.{Sort, term-sort, Use, unused, refers, Row, rowOf}
+use Rattle.format.specs.Cell.{cellAt}
 use Rattle.format.specs.Tree.{Tree, raw, node, cells}
-use Rattle.cells.specs.Held.{IsCell}
-use Rattle.emission.specs.Emits.{labelBy, HeldField, f-unused, f-plain, f-refers}
-use Rattle.emission.specs.Runs.{Run, r-unused, r-plain, r-refers}
-use Rattle.emission.proofs.Runs.{grows, counts, held, kept-cell, kept-run}
+use Rattle.cells.specs.Held.{IsCell, labelBy, HeldField, f-unused, f-refers}
+use Rattle.cells.proofs.Held.{below, lower, kept-cell, kept-field}
+use Rattle.emission.specs.Runs.{Run}
+use Rattle.emission.proofs.Runs.{grows, counts, bare, kept-run}
 use Rattle.moving.specs.Moves.{Kept}
 use Rattle.running.specs.Waiting.{Frame, first, second, plug, fill, Waits, w-none, w-first, w-second, around}
 
--- framing
-pub kept-field : {s t : List ℕ} {n x : ℕ} {u : Use} {f : Tree} → length t ≡ length s → ((i : ℕ) → i < n → cellAt t i ≡ cellAt s i)
-    → HeldField s n u x f → HeldField t n u x f
-kept-field n w f-unused = f-unused
-kept-field n w f-plain = f-plain
-kept-field n w (f-refers {x = x} a p k l f g h) =
-    f-refers
-    a
-    (kept-cell n (w x a) p)
-    k
-    l
-    (kept-field n (λ j b. w j (omega (arith, a, b))) f)
-    (kept-field n (λ j b. w j (omega (arith, a, b))) g)
-    (kept-field n (λ j b. w j (omega (arith, a, b))) h)
-
-pub held-less : {s : List ℕ} {n m x : ℕ} {u : Use} {f : Tree} → n ≤ m → HeldField s n u x f → HeldField s m u x f
-held-less l f-unused = f-unused
-held-less l f-plain = f-plain
-held-less {m = m} l (f-refers {x = x} a p k q f g h) =
-    let low : x < m = omega (arith, a, l) in
-    f-refers low p k q f g h
+pub held-less : {s : List ℕ} {n m x : ℕ} {o : Sort} {f : Tree} → n ≤ m → HeldField false s n (refers o) x f → HeldField false s m (refers o) x f
+held-less l h = below h (omega (arith, lower h, l))
 
 pub waits-right : {w : List ℕ} {j p q : ℕ} {K : List Frame} → Waits w j p q K → q ≤ 8192
 waits-right w-none = omega arith
@@ -89,7 +70,7 @@ waiting (w-second c r m a b d o f l k) = omega (arith, counts f, waiting k)
 pub record Mended (w v : List ℕ) (j x : ℕ) (F : Frame) : Type 0 where
   pub long : length v ≡ length w
   pub others : (i : ℕ) → (i ≡ j → ⊥) → cellAt v i ≡ cellAt w i
-  pub whole : (t : Tree) → HeldField v j (refers term-sort) x t → HeldField v (suc j) (refers term-sort) j (plug F t)
+  pub whole : (t : Tree) → HeldField false v j (refers term-sort) x t → HeldField false v (suc j) (refers term-sort) j (plug F t)
 
 pub mend-first : {w v : List ℕ} {j q z k l m u b c x : ℕ} {r : Row} {g h : Tree} → IsCell w j k l u b c → rowOf k ≡ some r → m ≡ labelBy (r .label) l
     → r .a ≡ refers term-sort → Run true w q (r .b) b g z → Run true w z (r .c) c h j → length v ≡ length w → ((i : ℕ) → (i ≡ j → ⊥) → cellAt v i ≡ cellAt w i)
@@ -106,9 +87,10 @@ mend-first {j = j} p r m a g h n o c =
           c
           r
           m
+          tt
           (rw (sym a) at f)
-          (kept-field n (λ i y. o i (λ e. absurd (omega (arith, y, e)))) (held (grows h) g))
-          (kept-field n (λ i y. o i (λ e. absurd (omega (arith, y, e)))) (held (omega arith) h));
+          (kept-field n (λ i y. o i (λ e. absurd (omega (arith, y, e)))) (bare (grows h) g))
+          (kept-field n (λ i y. o i (λ e. absurd (omega (arith, y, e)))) (bare (omega arith) h));
     }
 
 -- the rest of what waits still waits
@@ -118,7 +100,7 @@ mend-rest {j = j} d l k =
     (record { long = d .long; below = λ i y. d .others i (λ e. absurd (omega (arith, y, e, l))); above = λ i y. d .others i (λ e. absurd (omega (arith, y, e))) })
     k
 
-none : {v : List ℕ} {n x : ℕ} {u : Use} → u ≡ unused → HeldField v n u x (raw 0)
+none : {v : List ℕ} {n x : ℕ} {u : Use} → u ≡ unused → HeldField false v n u x (raw 0)
 none e = rw e f-unused
 
 pub mend-second : {w v : List ℕ} {j p o k l m a u c x y : ℕ} {r : Row} {f : Tree} → IsCell w j k l a u c → rowOf k ≡ some r → m ≡ labelBy (r .label) l
@@ -136,7 +118,8 @@ mend-second {j = j} q r m a b d f l n o c =
           c
           r
           m
-          (rw (sym a) at (kept-field n (λ i y. o i (λ e. absurd (omega (arith, y, e)))) (held l f)))
+          tt
+          (rw (sym a) at (kept-field n (λ i y. o i (λ e. absurd (omega (arith, y, e)))) (bare l f)))
           (rw (sym b) at g)
           (none d);
     }

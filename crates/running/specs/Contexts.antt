@@ -10,11 +10,13 @@ use Rattle.format.specs.Tree.{raw}
 use Rattle.format.specs.Terms.{fromType, fromTerm}
 use Rattle.running.specs.Waiting.{Frame, first, second}
 
+-- One cell around a focus, with what it has beside.
 pub data Around : Type 0 where
   anno-of : Ty → Around
   app-left app-right merge-left merge-right : Term → Around
   rcd-of proj-of : ℕ → Around
 
+-- The term e with that around it;
 unfoldable pub within1 : Around → Term → Term
 within1 (anno-of A) e = anno e A
 within1 (app-left f) e = app e f
@@ -39,6 +41,7 @@ Proper (merge-right v) = value? v ≡ true
 Proper (rcd-of l) = Unit {0}
 Proper (proj-of l) = Unit {0}
 
+-- the same of all that is around
 pub data AllProper : List Around → Type 0 where
   p-none : AllProper []
   p-more : {f : Around} {k : List Around} → Proper f → AllProper k → AllProper (f ∷ k)
@@ -53,6 +56,7 @@ frame (merge-right v) = second 22 0 (fromTerm v)
 frame (rcd-of l) = first 24 l (raw 0) (raw 0)
 frame (proj-of l) = first 25 l (raw 0) (raw 0)
 
+-- the innermost first
 unfoldable pub frames : List Around → List Frame
 frames [] = []
 frames (f ∷ k) = frame f ∷ frames k

@@ -16,8 +16,7 @@ use Rattle.format.specs.Cell.{Cell, cellAt}
 use Rattle.format.specs.Tree.{Tree}
 use Rattle.format.specs.Terms.{fromType, fromTerm, TermFits}
 use Rattle.format.specs.Book.{sizeLimit}
-use Rattle.cells.specs.Held.{IsCell}
-use Rattle.emission.specs.Emits.{HeldField}
+use Rattle.cells.specs.Held.{IsCell, HeldField}
 use Rattle.emission.specs.Runs.{Run}
 use Rattle.running.specs.Waiting.{fill, Waits}
 use Rattle.running.specs.Contexts.{Around, whole, AllProper, frames}
@@ -56,11 +55,13 @@ pub data RedexParts (w : List ℕ) (p : Place) : Term → Type 0 where
   of-proj : {l a b c : ℕ} {v : Term} → IsCell w (p .root) 25 l a b c → value? v ≡ true →
       Run true w (p .start) (refers term-sort) a (fromTerm v) (p .left) → p .right ≡ p .root → RedexParts w p (proj l v)
 
+-- The focus f is a redex.
 pub record IsRedex (w : List ℕ) (p : Place) (K : List Around) (f : Term) : Type 0 where
   pub parts : RedexParts w p f
   pub waits : Waits w (p .up) (p .start) (suc (p .root)) (frames K)
   pub apart : p .left < p .right
 
+-- What stands at the focus, by what the focus says; around the whole term there is nothing.
 abbrev pub FocusIs : List ℕ → Focus → List Around → Term → Type 0
 FocusIs w (Ahead p) K f = IsAhead w p K f
 FocusIs w (Done p) K f = IsDone w p K f
@@ -105,9 +106,11 @@ pub record GoesOn (w v : List ℕ) (x y : Focus) : Type 0 where
   pub moves : Moves w v x y
   pub falls : distance y < distance x
 
+-- The focus is to come.
 abbrev pub Entering : List ℕ → Place → Type 0
 Entering w p = Ready w (Ahead p)
 
+-- From there it has gone on.
 abbrev pub Enters : List ℕ → List ℕ → Place → Focus → Type 0
 Enters w v p r = GoesOn w v (Ahead p) r
 
@@ -125,9 +128,11 @@ pub record Descending (w : List ℕ) (p : Place) (t : Cell) : Type 0 where
   pub no-function : t .kind ≡ 21 → ⊥
   pub no-fixpoint : t .kind ≡ 23 → ⊥
 
+-- The focus is a value and done.
 abbrev pub Leaving : List ℕ → Place → Type 0
 Leaving w p = Ready w (Done p)
 
+-- From there it has gone on.
 abbrev pub Leaves : List ℕ → List ℕ → Place → Focus → Type 0
 Leaves w v p r = GoesOn w v (Done p) r
 
@@ -162,6 +167,7 @@ Settled (Done p) = ⊥
 Settled (Redex p) = Unit {0}
 Settled (Whole p) = Unit {0}
 
+-- The focus has moved to such a place.
 pub record Settles (w v : List ℕ) (x y : Focus) : Type 0 where
   pub settled : Settled y
   pub moves : Moves w v x y
@@ -201,14 +207,16 @@ pub data HereBy (w v : List ℕ) (p : Place) (r : Here) : Type 0 where
   h-became : {x : Focus} → r ≡ Became x → Becomes w v p x → HereBy w v p r
   h-elsewhere : r ≡ Elsewhere → v ≡ w → HereBy w v p r
 
+-- What reading an annotated value where it lies gives.
 pub record ReadsHere (w v : List ℕ) (p : Place) (r : Here) : Type 0 where
   pub says : HereBy w v p r
 
--- What a redex became lies from cell m of s on, before end: a value if the redex was an annotation.
+-- What a redex became lies from cell m of s on, before end, all its numbers fitting: a value if the redex was an annotation.
 pub record Laid (s w : List ℕ) (p : Place) (kind m end : ℕ) (K : List Around) (h : Term) : Type 0 where
   pub proper : AllProper K
   pub waits : Waits w (p .up) (p .start) (suc (p .root)) (frames K)
   pub run : Run false s m (refers term-sort) (end - 1) (fromTerm h) end
+  pub fits : TermFits h
   pub value : kind ≡ 19 → value? h ≡ true
 
 -- Room for it in the work buffer, m cells standing around it.
@@ -228,9 +236,11 @@ pub record Halving (s w : List ℕ) (p : Place) (kind m end a : ℕ) : Type 0 wh
   pub inside : a ≡ cellAt s (end - 1) .a
   pub function : cellAt s a .kind ≡ 21
 
+-- It has its place in the work buffer, in what was around the redex.
 pub record Installs (s w v : List ℕ) (p : Place) (kind m end : ℕ) (r : Focus) : Type 0 where
   pub says : (K : List Around) (h : Term) → Laid s w p kind m end K h → Standing v r (whole K h)
 
+-- A redex, and a buffer for what it becomes;
 pub record Contracting (s w : List ℕ) (p : Place) : Type 0 where
   pub long : 32768 ≤ length s
   pub ready : Ready w (Redex p)
@@ -252,6 +262,7 @@ pub data ContractsTo (w v : List ℕ) (g : Term) (r : Contracted) : Type 0 where
   c-to : {x : Focus} → size g ≤ sizeLimit → r ≡ To x → Standing v x g → ContractsTo w v g r
   c-full : sizeLimit < size g → r ≡ Full → v ≡ w → ContractsTo w v g r
 
+-- The redex is contracted.
 pub record Contracts (w v : List ℕ) (p : Place) (r : Contracted) : Type 0 where
   pub says : (e g : Term) → Standing w (Redex p) e → Runnable e → next e ≡ some g → ContractsTo w v g r
 
@@ -261,14 +272,16 @@ pub record Held (w : List ℕ) (up child : ℕ) (K : List Around) (t : Tree) : T
   pub end : ℕ
   pub waits : Waits w up begin end (frames K)
   pub low : begin ≤ end
-  pub holds : HeldField w end (refers term-sort) child t
+  pub holds : HeldField false w end (refers term-sort) child t
 
+-- Some tree is held so.
 pub record Unwinding (w : List ℕ) (up child : ℕ) : Type 0 where
   pub long : length w ≡ 65536
   pub around : List Around
   pub tree : Tree
   pub held : Held w up child around tree
 
+-- The same, and there is a cell that waits.
 pub record MendReady (w : List ℕ) (up child : ℕ) : Type 0 where
   pub unwinding : Unwinding w up child
   pub some : up ≡ 0 → ⊥
@@ -280,13 +293,15 @@ pub record MendedTo (v : List ℕ) (up r : ℕ) (t : Tree) : Type 0 where
   pub held : Held v r up around tree
   pub same : fill (frames around) tree ≡ t
 
+-- The cell up is mended; what waits for it is a higher cell, or nothing.
 pub record Mends (w v : List ℕ) (up child r : ℕ) : Type 0 where
   pub higher : (r ≡ 0) ⊎ ((up < r) × (r < 8192))
   pub says : (K : List Around) (t : Tree) → Held w up child K t → MendedTo v up r (fill (frames K) t)
 
 -- All waiting cells are whole again: the root r holds the whole tree.
 pub record Unwinds (w v : List ℕ) (up child r : ℕ) : Type 0 where
-  pub says : (K : List Around) (t : Tree) → Held w up child K t → HeldField v 8192 (refers term-sort) r (fill (frames K) t)
+  pub says : (K : List Around) (t : Tree) → Held w up child K t → HeldField false v 8192 (refers term-sort) r (fill (frames K) t)
 
+-- The root r holds the whole term.
 pub record Holds (w v : List ℕ) (x : Focus) (r : ℕ) : Type 0 where
-  pub says : (e : Term) → Standing w x e → HeldField v 8192 (refers term-sort) r (fromTerm e)
+  pub says : (e : Term) → Standing w x e → HeldField false v 8192 (refers term-sort) r (fromTerm e)

@@ -67,6 +67,7 @@ pub data TurnOf (v : List ℕ) (x : Focus) (k l : ℕ) (e : Term) (r : Turn) : T
   t-next : {f : Term} {y : State} → value? e ≡ false → k < l → next e ≡ some f → ltb sizeLimit (size f) ≡ false → r ≡ Next y →
       y .steps ≡ k + 1 → Settled (y .focus) → Standing v (y .focus) f → TurnOf v x k l e r
 
+-- One turn of the term that stands there.
 pub record Steps (w v : List ℕ) (x : State) (l : ℕ) (r : Turn) : Type 0 where
   pub says : (e : Term) → Standing w (x .focus) e → Runnable e → TurnOf v (x .focus) (x .steps) l e r
 
@@ -75,6 +76,7 @@ pub record Laying (s w : List ℕ) (x : Focus) : Type 0 where
   pub long : 32768 ≤ length s
   pub ready : Ready w x
 
+-- The whole term lies in the first r cells.
 pub record LaysWhole (w v : List ℕ) (x : Focus) (r : ℕ) : Type 0 where
   pub says : (e : Term) → Standing w x e → Runnable e → Lies v r e
 
@@ -87,5 +89,6 @@ pub record RunOf (v : List ℕ) (l : ℕ) (e : Term) (r : End) : Type 0 where
   pub answer : stopAnswer (r .stop) ≡ stopped stop steps
   pub lies : Lies v (r .cells) term
 
+-- The whole run of the term that lies there.
 pub record Runs (w v : List ℕ) (n l : ℕ) (r : End) : Type 0 where
   pub says : (e : Term) (A : Ty) → Lies w n e → Typed [] e A → RunOf v l e r

@@ -8,8 +8,7 @@ use mathlib.Core.List.{List, [], _∷_}
 use mathlib.Core.Option.{some}
 use Rattle.format.specs.Table.{term-sort, unused, refers, Row, rowOf}
 use Rattle.format.specs.Tree.{Tree, raw, node, cells}
-use Rattle.cells.specs.Held.{IsCell}
-use Rattle.emission.specs.Emits.{labelBy}
+use Rattle.cells.specs.Held.{IsCell, labelBy}
 use Rattle.emission.specs.Runs.{Run}
 
 -- What waits around a focus: a cell for its first part, the rest to come; or for its second part, the first done.
@@ -17,6 +16,7 @@ pub data Frame : Type 0 where
   first : (kind label : ℕ) (b c : Tree) → Frame
   second : (kind label : ℕ) (a : Tree) → Frame
 
+-- The cell with t for the part that it waits for.
 unfoldable pub plug : Frame → Tree → Tree
 plug (first k l g h) t = node k l t g h
 plug (second k l f) t = node k l f t (raw 0)

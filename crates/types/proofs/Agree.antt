@@ -2,23 +2,28 @@
 -- Assumes nothing.
 use Prim.Native.Nat.{ℕ, _+_}
 use mathlib.Core.Path.{_≡_, refl, sym, ap, ap₂, subst, _∙_}
-use mathlib.Core.Logic.{_↔_, _⊎_, inl, inr, ⊎-elim}
-use mathlib.Core.Bool.{Bool, true, false, not, _&&_, _||_, and-false}
+use mathlib.Core.Logic.{_↔_, _⊎_, inl, inr, ⊎-elim, Iff·trans}
+use mathlib.Core.Bool.{Bool, true, false, not, _&&_, _||_, and-false, decide}
 use mathlib.Core.List.{List}
 use native.Mathlib.Omega.{arith}
 use lib.Dec.{T, eqb}
 use lib.IntN.{ℤ}
 use borrow.Author.Tests.{eq-eqb, ne-eqb}
-use Rattle.calculus.specs.Syntax.{Ty, Term, var, lit, unit, anno, app, lam, merge, fix, rcd, proj}
-use Rattle.calculus.specs.Decide.{sameType, sameTerm, disjoint?, decided, sameInteger, eachPart, consistentLit, consistentLam, consistentRcd, consistent?}
-use Rattle.calculus.proofs.Bools.{decided-says}
+use Rattle.calculus.specs.Syntax.{Ty, Term, lit, unit, lam, merge, rcd}
+use Rattle.calculus.specs.Decide.{sameType, sameTerm, disjoint?, sameInteger, eachPart, consistentLit, consistentLam, consistentRcd, consistent?}
+use Rattle.calculus.proofs.Bools.{T-same, T-false, eqb-says, decide-says}
+use Rattle.format.specs.Table.{type-sort, term-sort, table, rowIn, rowOf}
 use Rattle.format.specs.Cell.{IsBytes, Cell, cellAt}
-use Rattle.cells.specs.Held.{HoldsTerm, h-var, h-lit, h-unit, h-anno, h-app, h-lam, h-merge, h-fix, h-rcd, h-proj}
-use Rattle.cells.proofs.Held.{lit-at, unit-at, lam-at, merge-at, rcd-at}
-use Rattle.types.specs.Says.{TypesAt, TypesSay, TermsAt, TermsSay, Plain, PlainAt, PlainPair, Agreeing}
+use Rattle.format.specs.Tree.{kindIn}
+use Rattle.format.specs.Terms.{fromTerm}
+use Rattle.cells.specs.Held.{HoldsTerm}
+use Rattle.cells.proofs.Held.{by-row, lit-at, unit-at, lam-at, merge-at, rcd-at, kindOf, kind-of-held}
+use Rattle.cells.proofs.Forms.{NoValue, fold-else, parts-else}
+use Rattle.cells.proofs.Rows.{unused-is, plain-is}
+use Rattle.types.specs.Says.{TypesAt, TypesSay, TermsAt, TermsSay, FieldsSay, Plain, PlainAt, PlainPair, Agreeing}
 use Rattle.types.proofs.Parts.{Passes, Splits, Whenever}
 use Rattle.types.proofs.Forms.{Terms, kind-first, kind-second}
-use Rattle.types.proofs.TermTrees.{termKind, numberOf, number-halves, number-other, kinds-differ, is-number}
+use Rattle.types.proofs.Trees.{same-thing, things-say}
 
 -- a number, a function or a record
 data PlainTerm : Term → Type 0 where
@@ -26,57 +31,30 @@ data PlainTerm : Term → Type 0 where
   plain-lam : {e : Term} {A B : Ty} → PlainTerm (lam e A B)
   plain-rcd : {l : ℕ} {e : Term} → PlainTerm (rcd l e)
 
--- a term that stands in no value but below a function
-data OtherTerm : Term → Type 0 where
-  other-var : {n : ℕ} → OtherTerm (var n)
-  other-anno : {e : Term} {A : Ty} → OtherTerm (anno e A)
-  other-app : {e f : Term} → OtherTerm (app e f)
-  other-fix : {e : Term} {A : Ty} → OtherTerm (fix e A)
-  other-proj : {l : ℕ} {e : Term} → OtherTerm (proj l e)
-
 plain-term : {s : List ℕ} {i : ℕ} {e : Term} → HoldsTerm s i e → Plain (cellAt s i .kind) → PlainTerm e
 plain-term h =
     ⊎-elim (λ k. rw (lit-at h k) plain-lit) (⊎-elim (λ k. rw (lam-at h k .is) plain-lam) (λ k. rw (rcd-at h k .is) plain-rcd))
 
-other-term : {s : List ℕ} {i : ℕ} {e : Term} → HoldsTerm s i e → (cellAt s i .kind ≡ 18 → ⊥) → (cellAt s i .kind ≡ 22 → ⊥) →
-    (Plain (cellAt s i .kind) → ⊥) → OtherTerm e
-other-term (h-var p) u m n = other-var
-other-term (h-lit p z) u m n = absurd (n (inl (rw (p .is) refl)))
-other-term (h-unit p) u m n = absurd (u (rw (p .is) refl))
-other-term (h-anno p a b h k) u m n = other-anno
-other-term (h-app p a b h k) u m n = other-app
-other-term (h-lam p a b c h k l) u m n = absurd (n (inr (inl (rw (p .is) refl))))
-other-term (h-merge p a b h k) u m n = absurd (m (rw (p .is) refl))
-other-term (h-fix p a b h k) u m n = other-fix
-other-term (h-rcd p a h) u m n = absurd (n (inr (inr (rw (p .is) refl))))
-other-term (h-proj p a h) u m n = other-proj
+no-value : {s : List ℕ} {i : ℕ} {e : Term} → HoldsTerm s i e → (cellAt s i .kind ≡ 18 → ⊥) → (cellAt s i .kind ≡ 22 → ⊥) →
+    (Plain (cellAt s i .kind) → ⊥) → NoValue (kindOf term-sort e)
+no-value h u m n = rw (← kind-of-held h) record {
+  number = λ k. n (inl k);
+  top-value = u;
+  function = λ k. n (inr (inl k));
+  merged = m;
+  recorded = λ k. n (inr (inr k));
+}
 
 -- the test's equations
-other-left : {e : Term} (f : Term) → OtherTerm e → false ≡ consistent? e f
+other-left : (e f : Term) → NoValue (kindOf term-sort e) → false ≡ consistent? e f
 unfolding consistent?
-other-left f other-var = refl
-other-left f other-anno = refl
-other-left f other-app = refl
-other-left f other-fix = refl
-other-left f other-proj = refl
+other-left e f h = sym (ap (λ (g : Term → Bool). g f) (fold-else _ _ _ _ _ e h))
 
-other-right : {e f : Term} → PlainTerm e → OtherTerm f → false ≡ consistent? e f
+other-right : {e : Term} (f : Term) → PlainTerm e → NoValue (kindOf term-sort f) → false ≡ consistent? e f
 unfolding consistent? eachPart consistentLit consistentLam consistentRcd
-other-right plain-lit other-var = refl
-other-right plain-lit other-anno = refl
-other-right plain-lit other-app = refl
-other-right plain-lit other-fix = refl
-other-right plain-lit other-proj = refl
-other-right plain-lam other-var = refl
-other-right plain-lam other-anno = refl
-other-right plain-lam other-app = refl
-other-right plain-lam other-fix = refl
-other-right plain-lam other-proj = refl
-other-right plain-rcd other-var = refl
-other-right plain-rcd other-anno = refl
-other-right plain-rcd other-app = refl
-other-right plain-rcd other-fix = refl
-other-right plain-rcd other-proj = refl
+other-right f plain-lit h = sym (parts-else _ _ _ _ _ f h)
+other-right f plain-lam h = sym (parts-else _ _ _ _ _ f h)
+other-right f plain-rcd h = sym (parts-else _ _ _ _ _ f h)
 
 unit-right : {e : Term} → PlainTerm e → true ≡ consistent? e unit
 unfolding consistent? eachPart consistentLit consistentLam consistentRcd
@@ -90,8 +68,8 @@ merge-right plain-lit u v = refl
 merge-right plain-lam u v = refl
 merge-right plain-rcd u v = refl
 
-kinds-apart : {e f : Term} → PlainTerm e → PlainTerm f → (termKind e ≡ termKind f → ⊥) → true ≡ consistent? e f
-unfolding consistent? eachPart consistentLit consistentLam consistentRcd
+kinds-apart : {e f : Term} → PlainTerm e → PlainTerm f → (kindOf term-sort e ≡ kindOf term-sort f → ⊥) → true ≡ consistent? e f
+unfolding consistent? eachPart consistentLit consistentLam consistentRcd fromTerm kindIn
 kinds-apart plain-lit plain-lit d = absurd (d refl)
 kinds-apart plain-lit plain-lam d = refl
 kinds-apart plain-lit plain-rcd d = refl
@@ -102,7 +80,7 @@ kinds-apart plain-rcd plain-lit d = refl
 kinds-apart plain-rcd plain-lam d = refl
 kinds-apart plain-rcd plain-rcd d = absurd (d refl)
 
-two-numbers : (z w : ℤ) → consistent? (lit z) (lit w) ≡ decided (sameInteger z w)
+two-numbers : (z w : ℤ) → consistent? (lit z) (lit w) ≡ decide (sameInteger z w)
 unfolding consistent? eachPart consistentLit
 two-numbers z w = refl
 
@@ -121,7 +99,7 @@ module _ {s : List ℕ} {i : ℕ} {x : Cell} {e : Term} (at-i : x ≡ cellAt s i
   left-unit f k = sym (ap (λ u. consistent? u f) (unit-at h (rw at-i at k)))
 
   pub left-none : (f : Term) → (x .kind ≡ 18 → ⊥) → (x .kind ≡ 22 → ⊥) → (Plain (x .kind) → ⊥) → false ≡ consistent? e f
-  left-none f u m n = other-left f (other-term h (rw at-i at u) (rw at-i at m) (rw at-i at n))
+  left-none f u m n = other-left e f (no-value h (rw at-i at u) (rw at-i at m) (rw at-i at n))
 
   pub left-halves : {j : ℕ} {f : Term} → HoldsTerm s j f → x .kind ≡ 22 → Splits (HoldsTerm s) consistent? _&&_ (i + j) (x .a) j (x .b) j e f
   unfolding consistent?
@@ -142,7 +120,7 @@ module _ {s : List ℕ} {i j : ℕ} {y : Cell} {e f : Term} (at-j : y ≡ cellAt
   each-unit m = unit-right (plain-term h plain) ∙ sym (ap (consistent? e) (unit-at k (rw at-j at m)))
 
   pub each-none : (y .kind ≡ 18 → ⊥) → (y .kind ≡ 22 → ⊥) → (Plain (y .kind) → ⊥) → false ≡ consistent? e f
-  each-none u m n = other-right (plain-term h plain) (other-term k (rw at-j at u) (rw at-j at m) (rw at-j at n))
+  each-none u m n = other-right f (plain-term h plain) (no-value k (rw at-j at u) (rw at-j at m) (rw at-j at n))
 
   pub each-half : y .kind ≡ 22 → Splits (HoldsTerm s) consistent? _&&_ (i + j) i (y .a) i (y .b) e f
   each-half m = rw at-j let p = merge-at k (rw at-j at m) in record {
@@ -167,17 +145,38 @@ pub record Agrees (s : List ℕ) (x y : Cell) (e f : Term) : Type 0 where
 -- Two of these.
 module _ {s : List ℕ} {i j : ℕ} {x y : Cell} {e f : Term} (t : Terms s i j x y e f) where
   pub pair-kinds : Plain (cellAt s i .kind) → Plain (cellAt s j .kind) → (x .kind ≡ y .kind → ⊥) → true ≡ consistent? e f
-  pair-kinds u v d = kinds-apart (plain-term (t .holds-first) u) (plain-term (t .holds-second) v) (kinds-differ t d)
+  pair-kinds u v d = kinds-apart (plain-term (t .holds-first) u) (plain-term (t .holds-second) v) λ q.
+      d (rw (t .is-first, t .is-second) (kind-of-held (t .holds-first) ∙ q ∙ sym (kind-of-held (t .holds-second))))
 
   module _ (k : x .kind ≡ y .kind) where
-    same-lits : x .kind ≡ 17 → T (consistent? e f) ↔ (numberOf x ≡ numberOf y)
-    same-lits m = let p = is-number t k m in rw (p .0, p .1, two-numbers (numberOf x) (numberOf y)) (decided-says (sameInteger (numberOf x) (numberOf y)))
+    -- two numbers are the same where fields b and c are
+    module _ (bytes : IsBytes s) (m : x .kind ≡ 17) where
+      same-lits : T (consistent? e f) ↔ (e ≡ f)
+      same-lits =
+          let p = lit-at (t .holds-first) (kind-first t m) in
+          let r = lit-at (t .holds-second) (kind-second t k m) in
+          rw (p, r) (Iff·trans (rw two-numbers (decide-says (sameInteger _ _))) (ap lit, λ q. cc))
 
-    pub numbers : IsBytes s → x .kind ≡ 17 → x .b ≡ y .b → eqb (x .c) (y .c) ≡ consistent? e f
-    numbers bytes m = number-halves t bytes (same-lits m)
+      same-halves : ((x .b ≡ y .b) × (x .c ≡ y .c)) ↔ (e ≡ f)
+      unfolding table rowIn rowOf
+      same-halves = rw (t .is-first, t .is-second)
+          let p = by-row (t .holds-first) (kind-first t m) refl in
+          let r = by-row (t .holds-second) (kind-second t k m) refl in
+          let pa = unused-is (p .held-a) in
+          let pb = plain-is (p .held-b) in
+          let pc = plain-is (p .held-c) in
+          let ra = unused-is (r .held-a) in
+          let rb = plain-is (r .held-b) in
+          let rc = plain-is (r .held-c) in
+          let pi = p .is in
+          let ri = r .is in
+          Iff·trans (λ q. let b = q .0 in let c = q .1 in cc, λ q. (cc, cc)) (same-thing bytes (t .holds-first) (t .holds-second))
 
-    pub other-numbers : IsBytes s → x .kind ≡ 17 → (x .b ≡ y .b → ⊥) → false ≡ consistent? e f
-    other-numbers bytes m = number-other t bytes (same-lits m)
+      pub numbers : x .b ≡ y .b → eqb (x .c) (y .c) ≡ consistent? e f
+      numbers b = T-same (eqb-says _ _) (Iff·trans same-lits (λ q. same-halves .1 q .1, λ c. same-halves .0 (b, c)))
+
+      pub other-numbers : (x .b ≡ y .b → ⊥) → false ≡ consistent? e f
+      other-numbers d = sym (T-false same-lits (λ q. d (same-halves .1 q .0)))
 
     pub records : x .kind ≡ 24 → x .label ≡ y .label → Passes (HoldsTerm s) consistent? (i + j) (x .a) (y .a) e f
     records m l = rw (t .is-first, t .is-second)
@@ -212,29 +211,27 @@ module _ {s : List ℕ} {i j : ℕ} {x y : Cell} {e f : Term} (t : Terms s i j x
           is = ap₂ consistent? (p .is) (r .is) ∙ two-functions (p .body) (p .input) (p .output) (r .body) (r .input) (r .output);
         }
 
-module _ {s : List ℕ} {i j : ℕ} {x y : Cell} {p : Bool} (w : Whenever (HoldsTerm s) i j (Agrees s x y)) (u : TypesSay s (x .b) (y .b) sameType p) where
+module _ {s : List ℕ} {i j : ℕ} {x y : Cell} {p : Bool} (w : Whenever (HoldsTerm s) i j (Agrees s x y)) (bytes : IsBytes s) (u : FieldsSay s 2 (x .b) (y .b) p) where
+  inputs-same : {e f : Term} (l : Agrees s x y e f) → p ≡ sameType (l .inputs .first) (l .inputs .second)
+  inputs-same l = things-say type-sort bytes u .says _ _ (l .inputs .holds-first) (l .inputs .holds-second)
+
+  bodies-same : {q : Bool} {e f : Term} → FieldsSay s 3 (x .a) (y .a) q → (l : Agrees s x y e f) → q ≡ sameTerm (l .bodies .first) (l .bodies .second)
+  bodies-same v l = things-say term-sort bytes v .says _ _ (l .bodies .holds-first) (l .bodies .holds-second)
+
   -- the same function
-  pub agree-same : {q : Bool} → p ≡ true → TermsSay s (x .a) (y .a) sameTerm q → q ≡ true → TermsSay s i j consistent? true
+  pub agree-same : {q : Bool} → p ≡ true → FieldsSay s 3 (x .a) (y .a) q → q ≡ true → TermsSay s i j consistent? true
   agree-same t v o = record {
-    says = λ e f h k.
-        let l = w e f h k in
-        let a = sym (u .says _ _ (l .inputs .holds-first) (l .inputs .holds-second)) ∙ t in
-        let b = sym (v .says _ _ (l .bodies .holds-first) (l .bodies .holds-second)) ∙ o in
-        sym (l .is ∙ rw (b, a) refl);
+    says = λ e f h k. let l = w e f h k in sym (l .is ∙ rw (sym (bodies-same v l) ∙ o, sym (inputs-same l) ∙ t) refl);
   }
 
   -- two functions that differ
-  pub agree-apart : {r : Bool} → (p ≡ false) ⊎ TermsSay s (x .a) (y .a) sameTerm false → TypesSay s (x .c) (y .c) disjoint? r → TermsSay s i j consistent? r
+  pub agree-apart : {r : Bool} → (p ≡ false) ⊎ FieldsSay s 3 (x .a) (y .a) false → TypesSay s (x .c) (y .c) disjoint? r → TermsSay s i j consistent? r
   agree-apart {r} d z = record {
     says = λ e f h k.
         let l = w e f h k in
         let c = z .says _ _ (l .outputs .holds-first) (l .outputs .holds-second) in
-        ⊎-elim (λ t.
-        let a = sym (u .says _ _ (l .inputs .holds-first) (l .inputs .holds-second)) ∙ t in
-        c ∙ sym (l .is ∙ rw (a, and-false) refl))
-        (λ v.
-        let b = v .says _ _ (l .bodies .holds-first) (l .bodies .holds-second) in
-        c ∙ sym (l .is ∙ rw (← b) refl))
+        ⊎-elim (λ t. let a = sym (inputs-same l) ∙ t in c ∙ sym (l .is ∙ rw (a, and-false) refl))
+        (λ v. let b = bodies-same v l in c ∙ sym (l .is ∙ rw (← b) refl))
         d;
   }
 

@@ -13,15 +13,15 @@ use Rattle.calculus.specs.Decide.{topLike?, below?, belowWithin}
 use Rattle.calculus.proofs.Decisions.{below?-true, below?-topLike, below?-from-topLike, below?-inter-right, below?-inter-left, below?-arrow, below?-field, below?-heads}
 use Rattle.format.specs.Cell.{Cell, cellAt}
 use Rattle.cells.specs.Held.{HoldsType}
-use Rattle.cells.proofs.Held.{arrow-at, type-one}
+use Rattle.cells.proofs.Held.{arrow-at, held-one}
 use Rattle.types.specs.Says.{TypesAt, UnderPlain}
 use Rattle.types.proofs.Parts.{Passes, Splits, Whenever}
 use Rattle.types.proofs.Forms.{Types, read, right-inter, left-inter, contents, labels, kind-first, kind-second}
-use Rattle.types.proofs.Heads.{kindOf, top-like, not-top-like, head-at, head-ordinary, first-head, second-head, heads-differ, two-numbers}
+use Rattle.types.proofs.Heads.{kindFor, top-like, not-top-like, head-at, head-ordinary, first-head, second-head, heads-differ, two-numbers}
 
 -- a type is below itself
 pub one-cell : {s : List ℕ} {a b : ℕ} {A B : Ty} → a ≡ b → HoldsType s a A → HoldsType s b B → true ≡ below? A B
-one-cell {A} {B} e h k = sym (below?-true (subst (Below A) (type-one (rw e at h) k) (below-refl A)))
+one-cell {A} {B} e h k = sym (below?-true (subst (Below A) (held-one (rw e at h) k) (below-refl A)))
 
 pub above-top : {s : List ℕ} {b : ℕ} {B : Ty} (A : Ty) → HoldsType s b B → (y : Cell) → y ≡ cellAt s b → y .c ≡ 1 → true ≡ below? A B
 above-top {B} A h y e m = sym (below?-topLike A B (top-like h y e m))
@@ -48,7 +48,7 @@ module _ {s : List ℕ} {a b : ℕ} {x y : Cell} {A B : Ty} (t : Types s a b x y
           let u = not-top-like (t .holds-second) y (t .is-second) n in
           let h = head-at (t .holds-first) x (t .is-first) v e in
           let k = head-at (t .holds-second) y (t .is-second) o u in
-          sym (below?-heads (h .has) (k .has) (λ e. d (h .kind ∙ ap kindOf e ∙ sym (k .kind))) u)
+          sym (below?-heads (h .has) (k .has) (λ e. d (h .kind ∙ ap kindFor e ∙ sym (k .kind))) u)
 
       -- two kinds, the left one no intersection
       pub unlike : (x .kind ≡ 4 → ⊥) → (x .kind ≡ y .kind → ⊥) → false ≡ below? A B

@@ -1,14 +1,14 @@
 -- A question about two held types, by the kinds of their cells: one law a form of the pair, for every question that has the equation
 -- of that form. Assumes nothing.
-use Prim.Native.Nat.{ℕ, _+_}
+use Prim.Native.Nat.{ℕ, _+_, _*_}
 use mathlib.Core.Path.{_≡_, ap, sym, _∙_}
 use mathlib.Core.Bool.{Bool}
 use mathlib.Core.List.{List}
 use native.Mathlib.Omega.{arith}
-use Rattle.calculus.specs.Syntax.{Ty, arrow, inter, field, Term}
+use Rattle.calculus.specs.Syntax.{Ty, inter, field, Term}
 use Rattle.format.specs.Cell.{Cell, cellAt}
 use Rattle.cells.specs.Held.{HoldsType, HoldsTerm}
-use Rattle.cells.proofs.Held.{TwoTypes, inter-at, arrow-at, field-at}
+use Rattle.cells.proofs.Held.{inter-at, field-at}
 use Rattle.types.specs.Says.{PairAt}
 use Rattle.types.proofs.Parts.{Passes, Splits}
 
@@ -60,29 +60,7 @@ module _ {s : List ℕ} {a b : ℕ} {x y : Cell} {A B : Ty} (t : Types s a b x y
     is = ap (λ C. q C B) (p .is) ∙ eq (p .first) (p .second);
   }
 
-  -- two function types or two intersections, asked part by part
-  two-by-two : {f : Ty → Ty → Ty} (j : Bool → Bool → Bool) →
-      ((C D E F : Ty) → q (f C D) (f E F) ≡ j (q C E) (q D F)) → TwoTypes s a f A → TwoTypes s b f B →
-      Splits (HoldsType s) q j (a + b) (x .a) (y .a) (x .b) (y .b) A B
-  two-by-two j eq p r = rw (t .is-first, t .is-second) record {
-    first = record { first = p .first; second = r .first; holds-first = p .holds-first; holds-second = r .holds-first };
-    second = record { first = p .second; second = r .second; holds-first = p .holds-second; holds-second = r .holds-second };
-    first-less = omega arith;
-    second-less = omega arith;
-    is = ap (λ C. q C B) (p .is) ∙ ap (q _) (r .is) ∙ eq (p .first) (p .second) (r .first) (r .second);
-  }
-
   module _ (k : x .kind ≡ y .kind) where
-    pub two-arrows : (j : Bool → Bool → Bool) → ((C D E F : Ty) → q (arrow C D) (arrow E F) ≡ j (q C E) (q D F)) → x .kind ≡ 3 →
-        Splits (HoldsType s) q j (a + b) (x .a) (y .a) (x .b) (y .b) A B
-    two-arrows j eq l =
-        two-by-two j eq (arrow-at (t .holds-first) (kind-first t l)) (arrow-at (t .holds-second) (kind-second t k l))
-
-    pub two-inters : (j : Bool → Bool → Bool) → ((C D E F : Ty) → q (inter C D) (inter E F) ≡ j (q C E) (q D F)) → x .kind ≡ 4 →
-        Splits (HoldsType s) q j (a + b) (x .a) (y .a) (x .b) (y .b) A B
-    two-inters j eq l =
-        two-by-two j eq (inter-at (t .holds-first) (kind-first t l)) (inter-at (t .holds-second) (kind-second t k l))
-
     -- two record types, of one label and of two
     pub contents : ((l : ℕ) (C D : Ty) → B ≡ field l D → q (field l C) (field l D) ≡ q C D) → x .kind ≡ 5 → x .label ≡ y .label →
         Passes (HoldsType s) q (a + b) (x .a) (y .a) A B
@@ -103,3 +81,22 @@ module _ {s : List ℕ} {a b : ℕ} {x y : Cell} {A B : Ty} (t : Types s a b x y
         let p = field-at (t .holds-first) (kind-first t l) in
         let r = field-at (t .holds-second) (kind-second t k l) in
         eq _ _ _ _ (r .is) (rw (t .is-first, t .is-second) at differ) ∙ sym (ap (λ C. q C B) (p .is) ∙ ap (q _) (r .is))
+
+-- ---- what is known at the point of the code where two cells are read
+
+-- Cells a and b are as P says, and stand in x and y; the measure, of mode m, is μ.
+pub record AtPair (P : List ℕ → ℕ → ℕ → Type 0) (n m μ : ℕ) : Type 0 where
+  pub s : List ℕ
+  pub a : ℕ
+  pub b : ℕ
+  pub x : Cell
+  pub y : Cell
+  pub pre : P s a b
+  pub first : x ≡ cellAt s a
+  pub second : y ≡ cellAt s b
+  pub measure : n * (a + b) + m ≡ μ
+
+-- The same of two cells of one kind.
+pub record Alike (P : List ℕ → ℕ → ℕ → Type 0) (n m μ : ℕ) : Type 0 where
+  pub at : AtPair P n m μ
+  pub alike : at .x .kind ≡ at .y .kind

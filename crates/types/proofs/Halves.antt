@@ -9,13 +9,13 @@ use Rattle.calculus.specs.Syntax.{Ty, Term}
 use Rattle.calculus.specs.Decide.{disjoint?, value?, closed?, consistent?}
 use Rattle.calculus.specs.Infer.{mergeable?}
 use Rattle.cells.specs.Held.{HoldsTerm}
-use Rattle.cells.proofs.Held.{term-within}
+use Rattle.cells.proofs.Held.{held-within}
 use Rattle.types.specs.Says.{TermSays, TermsSay, TypesSay, HalvesSay, closedValue?}
 use Rattle.types.proofs.Parts.{and-both, and-none, or-both, or-some}
 
 -- a cell of a buffer of 8,192 cells is far below the bound on binders
 pub few : {s : List ℕ} {i : ℕ} {e : Term} → length s ≤ 65536 → HoldsTerm s i e → i < 131072
-few l h = let w = term-within h in omega arith
+few l h = let w = held-within h in omega arith
 
 mergeable-are : (e f : Term) (A B : Ty) → mergeable? e f A B ≡ (disjoint? A B || (closedValue? e && (closedValue? f && consistent? e f)))
 unfolding mergeable? value? closed?

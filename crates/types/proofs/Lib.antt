@@ -1,4 +1,3 @@
-pub mod Choices
 pub mod Parts
 pub mod Forms
 pub mod Heads
@@ -7,6 +6,6 @@ pub mod Apart
 pub mod Single
 pub mod Walks
 pub mod Trees
-pub mod TermTrees
+pub mod Variables
 pub mod Agree
 pub mod Halves

@@ -41,10 +41,6 @@ or-both e f g h = h ∙ sym (e ∙ rw (sym f ∙ g) refl)
 pub or-some : {p q t : Bool} (s : Bool) → t ≡ (q || s) → p ≡ q → p ≡ true → p ≡ t
 or-some s e f g = g ∙ sym (e ∙ rw (sym f ∙ g) refl)
 
--- a measure below n is below t, which n is
-pub less-at : {m n t : ℕ} → m < n → n ≡ t → m < t
-less-at h e = rw (← e) h
-
 module _ {X : Type 0} {H : ℕ → X → Type 0} {q : X → X → Bool} {a b : ℕ} where
   -- the answer is known outright
   pub outright : {r : Bool} → Whenever H a b (λ x y. r ≡ q x y) → PairSays H a b q r

@@ -1,17 +1,18 @@
--- Two questions about one held term, whether it is closed and whether it is a closed value, by the kind of its cell. Assumes nothing.
-use Prim.Native.Nat.{ℕ, _+_, _≤_, _<_}
+-- Whether a held term is a closed value, by the kind of its cell. Assumes nothing.
+use Prim.Native.Nat.{ℕ, _<_}
 use mathlib.Core.Path.{_≡_, refl, sym, ap, _∙_}
-use mathlib.Core.Logic.{_⊎_, inl, inr, ⊎-elim}
 use mathlib.Core.Bool.{Bool, true, false, _&&_}
 use mathlib.Core.List.{List}
-use native.Mathlib.Omega.{arith}
-use native.Mathlib.Numerals.{add-one}
-use lib.Dec.{eqb, ltb}
+use native.Mathlib.Decide.{ℕ-discrete}
+use borrow.Author.Tests.{ne-eqb}
+use lib.Dec.{eqb}
 use Rattle.calculus.specs.Syntax.{Term}
 use Rattle.calculus.specs.Decide.{value?, closed?}
+use Rattle.format.specs.Table.{term-sort}
 use Rattle.format.specs.Cell.{Cell, cellAt}
-use Rattle.cells.specs.Held.{IsCell, HoldsTerm, h-var, h-lit, h-unit, h-anno, h-app, h-lam, h-merge, h-fix, h-rcd, h-proj}
-use Rattle.cells.proofs.Held.{TwoTerms, merge-at, app-at, rcd-at, lam-at, fix-at, var-at, lit-at, term-kinds}
+use Rattle.cells.specs.Held.{HoldsTerm}
+use Rattle.cells.proofs.Held.{TwoTerms, merge-at, rcd-at, lam-at, lit-at, unit-at, kindOf, kind-of-held}
+use Rattle.cells.proofs.Forms.{fold-else}
 use Rattle.types.specs.Says.{TermAt, TermSays, closedValue?}
 use Rattle.types.proofs.Parts.{and-both, and-none}
 
@@ -54,9 +55,6 @@ pairs true false true d = refl
 pairs true true false d = refl
 pairs true true true d = refl
 
-kind-is : {s : List ℕ} {i k l a b c : ℕ} {x : Cell} → x ≡ cellAt s i → IsCell s i k l a b c → x .kind ≡ k
-kind-is e p = ap (λ (t : Cell). t .kind) (e ∙ p .is)
-
 module _ {s : List ℕ} {i : ℕ} {e : Term} {x : Cell} (at-i : x ≡ cellAt s i) (h : HoldsTerm s i e) where
   splits : {f : Term → Term → Term} (q : Term → Bool) → ((u v : Term) → q (f u v) ≡ (q u && q v)) → TwoTerms s i f e → OneSplits s q i (x .a) (x .b) e
   splits q eq p = rw at-i record {
@@ -95,76 +93,15 @@ module _ {s : List ℕ} {i : ℕ} {e : Term} {x : Cell} (at-i : x ≡ cellAt s i
 pub other-value : {s : List ℕ} {i : ℕ} {e : Term} {x : Cell} → x ≡ cellAt s i → HoldsTerm s i e →
     (x .kind ≡ 22 → ⊥) → (x .kind ≡ 24 → ⊥) → (x .kind ≡ 21 → ⊥) → (x .kind ≡ 17 → ⊥) → eqb (x .kind) 18 ≡ closedValue? e
 unfolding value? closed?
-other-value e (h-var p) m r f n = rw (kind-is e p) refl
-other-value e (h-lit p z) m r f n = absurd (n (kind-is e p))
-other-value e (h-unit p) m r f n = rw (kind-is e p) refl
-other-value e (h-anno p a b h k) m r f n = rw (kind-is e p) refl
-other-value e (h-app p a b h k) m r f n = rw (kind-is e p) refl
-other-value e (h-lam p a b c h k l) m r f n = absurd (f (kind-is e p))
-other-value e (h-merge p a b h k) m r f n = absurd (m (kind-is e p))
-other-value e (h-fix p a b h k) m r f n = rw (kind-is e p) refl
-other-value e (h-rcd p a h) m r f n = absurd (r (kind-is e p))
-other-value e (h-proj p a h) m r f n = rw (kind-is e p) refl
-
--- Closed below k binders.
-module _ (k : ℕ) {s : List ℕ} {i : ℕ} {e : Term} {x : Cell} (at-i : x ≡ cellAt s i) (h : HoldsTerm s i e) where
-  pub variable-closed : x .kind ≡ 16 → ltb (x .a) k ≡ closed? k e
-  unfolding closed?
-  variable-closed m = rw at-i (sym (ap (closed? k) (var-at h (rw at-i at m))))
-
-  pub parts-closed : (x .kind ≡ 20) ⊎ (x .kind ≡ 22) → OneSplits s (closed? k) i (x .a) (x .b) e
-  unfolding closed?
-  parts-closed =
-      ⊎-elim (λ m. splits at-i h (closed? k) (λ u v. refl) (app-at h (rw at-i at m)))
-      (λ m. splits at-i h (closed? k) (λ u v. refl) (merge-at h (rw at-i at m)))
-
-  -- a function and a fixpoint bind a variable
-  pub body-closed : (x .kind ≡ 21) ⊎ (x .kind ≡ 23) → OnePasses s (closed? k) (closed? (k + 1)) i (x .a) e
-  unfolding closed?
-  body-closed =
-      ⊎-elim (λ m. rw (at-i, add-one) let p = lam-at h (rw at-i at m) in record {
-        part = record { term = p .body; holds = p .holds-body };
-        less = p .body-lower;
-        is = ap (closed? k) (p .is);
-      })
-      (λ m. rw (at-i, add-one) let p = fix-at h (rw at-i at m) in record {
-        part = record { term = p .term; holds = p .holds-term };
-        less = p .term-lower;
-        is = ap (closed? k) (p .is);
-      })
-
--- a kind that is neither below 16 nor below 19 is 19 at least
-pub from-19 : {x : Cell} {s : List ℕ} {i : ℕ} {e : Term} → x ≡ cellAt s i → HoldsTerm s i e → (x .kind < 16) ⊎ (19 ≤ x .kind) → 19 ≤ x .kind
-from-19 at-i h = ⊎-elim (λ m. let p = term-kinds h in absurd (omega (arith, rw at-i at m))) (λ m. m)
-
-pub leaf-closed : (k : ℕ) {s : List ℕ} {i : ℕ} {e : Term} {x : Cell} → x ≡ cellAt s i → HoldsTerm s i e → (x .kind ≡ 16 → ⊥) → x .kind < 19 → true ≡ closed? k e
-unfolding closed?
-leaf-closed k e (h-var p) n l = absurd (n (kind-is e p))
-leaf-closed k e (h-lit p z) n l = refl
-leaf-closed k e (h-unit p) n l = refl
-leaf-closed k e (h-anno p a b h j) n l = absurd (omega (arith, kind-is e p))
-leaf-closed k e (h-app p a b h j) n l = absurd (omega (arith, kind-is e p))
-leaf-closed k e (h-lam p a b c h j m) n l = absurd (omega (arith, kind-is e p))
-leaf-closed k e (h-merge p a b h j) n l = absurd (omega (arith, kind-is e p))
-leaf-closed k e (h-fix p a b h j) n l = absurd (omega (arith, kind-is e p))
-leaf-closed k e (h-rcd p a h) n l = absurd (omega (arith, kind-is e p))
-leaf-closed k e (h-proj p a h) n l = absurd (omega (arith, kind-is e p))
-
-one-part : {s : List ℕ} {i l k a b c : ℕ} {x : Cell} {e : Term} (q : Term → Bool) (f : Term) → x ≡ cellAt s i → IsCell s i k l a b c →
-    a < i → HoldsTerm s a f → q e ≡ q f → OnePasses s q q i (x .a) e
-one-part q f e p m h eq = rw (e, p .is) record { part = record { term = f; holds = h }; less = m; is = eq }
-
--- an annotation, a record and a field read
-pub part-closed : (k : ℕ) {s : List ℕ} {i : ℕ} {e : Term} {x : Cell} → x ≡ cellAt s i → HoldsTerm s i e → 19 ≤ x .kind →
-    ((x .kind ≡ 20) ⊎ (x .kind ≡ 22) → ⊥) → ((x .kind ≡ 21) ⊎ (x .kind ≡ 23) → ⊥) → OnePasses s (closed? k) (closed? k) i (x .a) e
-unfolding closed?
-part-closed k e (h-var p) l m n = absurd (omega (arith, kind-is e p))
-part-closed k e (h-lit p z) l m n = absurd (omega (arith, kind-is e p))
-part-closed k e (h-unit p) l m n = absurd (omega (arith, kind-is e p))
-part-closed k e (h-anno {e = f} p a b h j) l m n = one-part (closed? k) f e p a h refl
-part-closed k e (h-app p a b h j) l m n = absurd (m (inl (kind-is e p)))
-part-closed k e (h-lam p a b c h j o) l m n = absurd (n (inl (kind-is e p)))
-part-closed k e (h-merge p a b h j) l m n = absurd (m (inr (kind-is e p)))
-part-closed k e (h-fix p a b h j) l m n = absurd (n (inr (kind-is e p)))
-part-closed k e (h-rcd {e = f} p a h) l m n = one-part (closed? k) f e p a h refl
-part-closed k e (h-proj {e = f} p a h) l m n = one-part (closed? k) f e p a h refl
+other-value {e = e} {x = x} at-i h m r f n =
+    let k : kindOf term-sort e ≡ x .kind = sym (ap (λ (t : Cell). t .kind) at-i ∙ kind-of-held h) in
+    elim (ℕ-discrete (x .kind) 18) [
+      | yes p ↦ rw p (sym (ap closedValue? (unit-at h (rw at-i at p))))
+      | no u ↦ ne-eqb (x .kind) 18 u ∙ sym (ap (λ b. b && closed? 0 e) (fold-else _ _ _ _ _ e (rw k record {
+        number = n;
+        top-value = u;
+        function = f;
+        merged = m;
+        recorded = r;
+      })))
+    ]

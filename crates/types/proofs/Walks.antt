@@ -1,6 +1,6 @@
 -- A walk over the parts of two cells, from one half to the next: what is left to ask decides the question about both. One law for every
 -- question and for both ways of joining two answers. Assumes nothing.
-use Prim.Native.Nat.{ℕ, _+_, _≤_}
+use Prim.Native.Nat.{ℕ, _+_, _*_, _≤_, _<_}
 use mathlib.Core.Path.{_≡_, refl, sym, ap, _∙_}
 use mathlib.Core.Bool.{Bool, true, false, _&&_, _||_}
 use mathlib.Core.List.{List}
@@ -112,3 +112,41 @@ module _ {s : List ℕ} {q : Term → Bool} where
 
     pub one-ends : p ≡ false → TermSays s i q false
     one-ends t = l .on false (rw t at (one-none w u t))
+
+-- ---- what is known at the point of a walk where its cell is read
+
+-- What is left to ask, of cells i and j, is asked of two pairs of parts. The measure of the whole question, of mode m, is μ.
+pub record AtHalves {X : Type 0} (P : List ℕ → ℕ → ℕ → Type 0) (H : List ℕ → ℕ → X → Type 0) (q : X → X → Bool) (o : Bool → Bool → Bool) (n m μ : ℕ) : Type 0 where
+  pub s : List ℕ
+  pub a : ℕ
+  pub b : ℕ
+  pub i : ℕ
+  pub j : ℕ
+  pub c : ℕ
+  pub d : ℕ
+  pub e : ℕ
+  pub f : ℕ
+  pub pre : P s a b
+  pub leads : Leads (H s) q a b i j
+  pub halves : Whenever (H s) i j (Splits (H s) q o (i + j) c d e f)
+  pub measure : n * (a + b) + m ≡ μ
+
+-- of what the walk has in hand
+pub own : {X : Type 0} {P : List ℕ → ℕ → ℕ → Type 0} {H : List ℕ → ℕ → X → Type 0} {q : X → X → Bool} {o : Bool → Bool → Bool} {n m μ : ℕ} (w : AtHalves P H q o n m μ)
+    → Splits (H (w .s)) q o (w .i + w .j) (w .c) (w .d) (w .e) (w .f) (w .leads .at .first) (w .leads .at .second)
+own w = w .halves _ _ (w .leads .at .holds-first) (w .leads .at .holds-second)
+
+-- The same of a question about one term, whose cell is small.
+pub record OneHalves (q : Term → Bool) (μ : ℕ) : Type 0 where
+  pub s : List ℕ
+  pub i : ℕ
+  pub k : ℕ
+  pub a : ℕ
+  pub b : ℕ
+  pub leads : OneLeads s q i k
+  pub halves : (e : Term) → HoldsTerm s k e → OneSplits s q k a b e
+  pub small : i < 131072
+  pub measure : 2 * i + 1 ≡ μ
+
+pub one-own : {q : Term → Bool} {μ : ℕ} (w : OneHalves q μ) → OneSplits (w .s) q (w .k) (w .a) (w .b) (w .leads .at .term)
+one-own w = w .halves _ (w .leads .at .holds)

@@ -1,11 +1,13 @@
 // Questions about the types and terms that cells hold: subtyping, disjointness, the same tree, closed, closed value, consistent. Answers only:
 // nothing is written, and no function keeps an array. A type cell's field c says whether the type is top-like, so that each pair of
 // nodes is left at once where either side is.
+use cells::binders;
+use cells::entry_of;
 use cells::read_cell;
-ghost use Rattle.calculus.specs.Decide.{below?, disjoint?, sameType, sameTerm, closed?, consistent?};
+ghost use Rattle.calculus.specs.Decide.{below?, disjoint?, consistent?};
 ghost use Rattle.calculus.specs.Infer.{mergeable?};
 ghost use Rattle.types.specs.Says.{TypesAt, TypesSay, TermAt, TermSays, TermsAt, TermsSay, HalvesAt, HalvesSay};
-ghost use Rattle.types.specs.Says.{closedValue?, PartsAt, PlainAt, PlainPair, UnderPlain, TwoPlain};
+ghost use Rattle.types.specs.Says.{FieldsAt, FieldsSay, ClosedAt, ClosedSays, closedValue?, PlainAt, PlainPair, UnderPlain, TwoPlain};
 ghost use Rattle.types.specs.Says.{OneAt, SingleAt, PlainSingle, Agreeing, SingleType, SingleTypes};
 ghost use Prim.Native.Nat.{_+_, _*_, _≤_, _<_};
 ghost use mathlib.Core.Path.{_≡_};
@@ -173,86 +175,45 @@ fn apart_pair(s: &[u8], a: usize, b: usize) -> bool
     false
 }
 
-// Whether two cells hold the same tree. A cell holds the same tree as itself.
-pub fn same_type(s: &[u8], a: usize, b: usize) -> bool
-    requires { ⌜ TypesAt (now s) a b ⌝ }
-    ensures { λ r. ⌜ TypesSay (now (s .entry)) a b sameType r ⌝ }
+// Whether two fields of use u hold the same tree: an unused one holds nothing, a plain one its number, a reference the tree of its cell.
+// One cell holds the same tree as itself; two cells do where they are of one kind, and by its row label and fields are the same.
+fn same_tree(s: &[u8], u: u8, i: usize, j: usize) -> bool
+    requires { ⌜ FieldsAt (now s) u i j ⌝ }
+    ensures { λ r. ⌜ FieldsSay (now (s .entry)) u i j r ⌝ }
 {
-    if a == b {
+    if u == 0 || i == j {
         return true;
     }
-    let x = read_cell(s, a);
-    let y = read_cell(s, b);
-    if x.kind != y.kind {
+    if u == 1 {
         return false;
-    }
-    if x.kind < 3 {
-        return true;
-    }
-    if x.kind == 5 {
-        return x.label == y.label && same_type(s, x.a, y.a);
-    }
-    same_type(s, x.a, y.a) && same_type(s, x.b, y.b)
-}
-
-// Whether no variable of the term at i skips k binders or more.
-pub fn closed(s: &[u8], i: usize, k: usize) -> bool
-    requires { ⌜ TermAt (now s) i × (k + i < 131072) ⌝ }
-    ensures { λ r. ⌜ TermSays (now (s .entry)) i (closed? k) r ⌝ }
-{
-    let x = read_cell(s, i);
-    let kind = x.kind;
-    match kind {
-        16 => x.a < k,
-        17 | 18 => true,
-        21 | 23 => closed(s, x.a, k + 1),
-        20 | 22 => closed(s, x.a, k) && closed(s, x.b, k),
-        _ => closed(s, x.a, k),
-    }
-}
-
-// Whether two cells hold the same tree of a term.
-pub fn same_term(s: &[u8], i: usize, j: usize) -> bool
-    requires { ⌜ TermsAt (now s) i j ⌝ }
-    ensures { λ r. ⌜ TermsSay (now (s .entry)) i j sameTerm r ⌝ }
-{
-    if i == j {
-        return true;
     }
     let x = read_cell(s, i);
     let y = read_cell(s, j);
     if x.kind != y.kind {
         return false;
     }
+    let e = entry_of(x.kind);
+    if e.label != 0 && x.label != y.label {
+        return false;
+    }
+    same_tree(s, e.a, x.a, y.a) && (same_tree(s, e.b, x.b, y.b) && same_tree(s, e.c, x.c, y.c))
+}
+
+// Whether no variable in a field of use u skips k binders or more. A field that is no term has no variable.
+fn closed(s: &[u8], u: u8, i: usize, k: usize) -> bool
+    requires { ⌜ ClosedAt (now s) u i k ⌝ }
+    ensures { λ r. ⌜ ClosedSays (now (s .entry)) u i k r ⌝ }
+{
+    if u < 3 {
+        return true;
+    }
+    let x = read_cell(s, i);
     if x.kind == 16 {
-        return x.a == y.a;
+        return x.a < k;
     }
-    if x.kind == 17 {
-        return x.b == y.b && x.c == y.c;
-    }
-    if x.kind == 18 {
-        return true;
-    }
-    same_parts(s, i, j)
-}
-
-// The same of two cells of one kind that has parts.
-fn same_parts(s: &[u8], i: usize, j: usize) -> bool
-    requires { ⌜ PartsAt (now s) i j ⌝ }
-    ensures { λ r. ⌜ TermsSay (now (s .entry)) i j sameTerm r ⌝ }
-{
-    let x = read_cell(s, i);
-    let y = read_cell(s, j);
-    if !same_term(s, x.a, y.a) {
-        return false;
-    }
-    let kind = x.kind;
-    match kind {
-        19 | 23 => same_type(s, x.b, y.b),
-        20 | 22 => same_term(s, x.b, y.b),
-        21 => same_type(s, x.b, y.b) && same_type(s, x.c, y.c),
-        _ => x.label == y.label,
-    }
+    let e = entry_of(x.kind);
+    let inner = binders(x.kind, k);
+    closed(s, e.c, x.c, k) && (closed(s, e.a, x.a, inner) && closed(s, e.b, x.b, k))
 }
 
 // Whether two terms are equal numbers: a yes is an answer about them.
@@ -384,7 +345,7 @@ fn consistent_pair(s: &[u8], i: usize, j: usize) -> bool
     if x.kind == 24 {
         return x.label != y.label || consistent_half(s, x.a, y.a);
     }
-    if same_type(s, x.b, y.b) && same_term(s, x.a, y.a) {
+    if same_tree(s, 2, x.b, y.b) && same_tree(s, 3, x.a, y.a) {
         return true;
     }
     disjoint(s, x.c, y.c)
@@ -423,7 +384,7 @@ fn single_value(s: &[u8], i: usize) -> bool
         return closed_value(s, x.a);
     }
     if x.kind == 21 {
-        return closed(s, x.a, 1);
+        return closed(s, 3, x.a, 1);
     }
     x.kind == 17 || x.kind == 18
 }

@@ -1,5 +1,5 @@
 -- Checking, and what is checked under an annotation. Assumes nothing.
-use Prim.Native.Nat.{ℕ, _+_, _≤_, _<_}
+use Prim.Native.Nat.{ℕ, _+_, _*_, _≤_, _<_}
 use native.Mathlib.Omega.{arith}
 use mathlib.Core.Path.{_≡_, refl}
 use mathlib.Core.Bool.{Bool, true, false, cond}
@@ -8,19 +8,19 @@ use Rattle.calculus.specs.Syntax.{Ty, anno, size}
 use Rattle.calculus.specs.Infer as Infer
 use Rattle.calculus.specs.Infer.{mismatch, infer}
 use Rattle.calculus.specs.Decide.{below?}
-use Rattle.format.specs.Cell.{Cell, cellAt}
+use Rattle.format.specs.Cell.{Cell}
 use Rattle.format.specs.Book.{follow}
 use Rattle.outcome.specs.declared.Refusal.{Refusal}
 use Rattle.outcome.specs.declared.Refusal.the-variants.{Mismatch}
 use Rattle.cells.specs.Held.{Same}
-use Rattle.cells.proofs.Held.{same-type, same-refl, same-trans, anno-at}
+use Rattle.cells.proofs.Held.{same-held, same-refl, same-trans}
 use Rattle.types.specs.Says.{TypesAt, TypesSay}
 use Rattle.typing.specs.declared.Found.{Found}
 use Rattle.typing.specs.declared.Found.the-variants.{Typed, Refused}
-use Rattle.typing.specs.Finding.{Answered, ReadyAt, Finds, ReadyFor, checkedHere, Checks}
+use Rattle.typing.specs.Finding.{Answered, Finds, ReadyFor, checkedHere, Checks}
 use Rattle.typing.proofs.Ways.{Leads}
 use Rattle.typing.proofs.Answers.{Answer, finding, checking, typed, turned, handed, carried, checked-carried}
-use Rattle.typing.proofs.Parts.{noted, ready-part, found}
+use Rattle.typing.proofs.Parts.{ready-part, found, Read, FoundAt, anno-of}
 
 -- ---- `check`
 
@@ -28,18 +28,18 @@ pub check-refused : {s u : List ℕ} {n c i w : ℕ} {q : Refusal} {r : Found} �
 check-refused {q = q} f e = record { says = λ Γ t A g h a. let z = turned (finding f g h) e in rw (z .is) (q, e, z .says) }
 
 -- the found type and the wanted one, for the test
-pub check-asks : {s u : List ℕ} {n c i w x k : ℕ} {r : Found} → ReadyFor s n c i w → Finds s u n c i r → r ≡ Typed x k → TypesAt u x w
-check-asks p f e =
-    let z = found (p .ready) f e in
-    record { first = z .type; second = p .wanted; holds-first = z .holds; holds-second = same-type (z .same) (p .wanted-below) (p .holds-wanted) }
+pub check-asks : {s u : List ℕ} {n c i w x k : ℕ} → ReadyFor s n c i w → FoundAt s u n c i x k → TypesAt u x w
+check-asks p f =
+    let z = found (p .ready) (f .finds) (f .is) in
+    record { first = z .type; second = p .wanted; holds-first = z .holds; holds-second = same-held (z .same) (p .wanted-below) (p .holds-wanted) }
 
-module _ {s u : List ℕ} {n c i w x k : ℕ} {r : Found} {b : Bool} (p : ReadyFor s n c i w) (f : Finds s u n c i r) (e : r ≡ Typed x k) (t : TypesSay u x w below? b) where
+module _ {s u : List ℕ} {n c i w x k : ℕ} {b : Bool} (p : ReadyFor s n c i w) (f : FoundAt s u n c i x k) (t : TypesSay u x w below? b) where
   pub check-found : b ≡ true → Checks s u n c i w (Typed w k)
   check-found y =
       record {
         says = λ Γ d A g h a.
-            let z = typed (finding f g h) e in
-            let v = same-type (z .same) (p .wanted-below) a in
+            let z = typed (finding (f .finds) g h) (f .is) in
+            let v = same-held (z .same) (p .wanted-below) a in
             rw (z .is, ← t .says (z .type) A (z .holds) v, y)
             (w, k, refl, z .more, z .less, z .same, omega (arith, p .wanted-below, z .more), v);
       }
@@ -49,11 +49,24 @@ module _ {s u : List ℕ} {n c i w x k : ℕ} {r : Found} {b : Bool} (p : ReadyF
   check-mismatch y =
       record {
         says = λ Γ d A g h a.
-            let z = typed (finding f g h) e in
-            let v = same-type (z .same) (p .wanted-below) a in
+            let z = typed (finding (f .finds) g h) (f .is) in
+            let v = same-held (z .same) (p .wanted-below) a in
             rw (z .is, ← t .says (z .type) A (z .holds) v, y)
             (Mismatch i, refl, refl);
       }
+
+-- the point of the code where the type is found
+pub record AtWanted : Type 0 where
+  pub s : List ℕ
+  pub u : List ℕ
+  pub n : ℕ
+  pub c : ℕ
+  pub i : ℕ
+  pub w : ℕ
+  pub x : ℕ
+  pub k : ℕ
+  pub wanted : ReadyFor s n c i w
+  pub found : FoundAt s u n c i x k
 
 -- ---- a part that is checked against the whole's type
 
@@ -78,12 +91,12 @@ carried-on {s} {t} {u} {n} {k} {l} {i} {f} {j} {r} F A m v b p q o a = go (check
 
 -- ---- an annotation
 
-pub anno-asks : {s : List ℕ} {n c i : ℕ} {y : Cell} → ReadyAt s n c i 19 → y ≡ cellAt s i → (y .a < i) × ReadyFor s n c (y .a) (y .b)
+pub anno-asks : {s : List ℕ} {n c i μ : ℕ} {y : Cell} → Read s n c i 19 μ y → (4 * y .a + 3 < μ) × ReadyFor s n c (y .a) (y .b)
 unfolding size
-anno-asks {s} {n} p o =
-    let v = noted o (anno-at (p .ready .holds-term) (p .kind)) in
+anno-asks {s} {n} p =
+    let v = anno-of (p .cell) (p .ready .holds-term) (p .kind) in
     let r : n + size (anno (v .term) (v .type)) ≤ 8192 = rw (v .is) at (p .ready .room) in (
-      v .left .leads .lower,
+      omega (arith, v .left .leads .lower, p .measure),
       record {
         ready = ready-part (p .ready) (v .left) (same-refl s n) (omega arith) (omega arith);
         wanted = v .type;
@@ -92,12 +105,12 @@ anno-asks {s} {n} p o =
       },
     )
 
-pub anno-finds : {s u : List ℕ} {n c i : ℕ} {y : Cell} {r : Found} → ReadyAt s n c i 19 → y ≡ cellAt s i → Checks s u n c (y .a) (y .b) r → Finds s u n c i r
+pub anno-finds : {s u : List ℕ} {n c i μ : ℕ} {y : Cell} {r : Found} → Read s n c i 19 μ y → Checks s u n c (y .a) (y .b) r → Finds s u n c i r
 unfolding size infer
-anno-finds {s} {u} {n} {c} {i} p o f =
+anno-finds {s} {u} {n} {c} {i} p f =
     record {
       says = λ Γ e g h.
-          let v = noted o (anno-at h (p .kind)) in
+          let v = anno-of (p .cell) h (p .kind) in
           rw (v .is, checked-carried 0 (infer Γ (v .term)) (v .type) (v .type))
           (carried-on (infer Γ (v .term)) (v .type) (size (anno (v .term) (v .type))) (v .left .leads) (p .ready .term-below) (same-refl s n) (omega arith) (omega arith)
           (checking f g (v .left .holds) (v .holds)));

@@ -11,20 +11,21 @@ use Rattle.calculus.specs.Infer.{infer}
 use Rattle.calculus.specs.Decide.{topLike?}
 use Rattle.format.specs.Cell.{Cell, cellAt}
 use Rattle.outcome.specs.declared.Refusal.{Refusal}
-use Rattle.cells.specs.Held.{HoldsType, h-arrow, HoldsTerm, HoldsContext, Same}
-use Rattle.cells.proofs.Held.{same-type, same-term, same-trans, type-within, type-mark, lam-at, fix-at}
+use Rattle.cells.specs.Held.{HoldsType, HoldsTerm, HoldsContext, Same}
+use Rattle.cells.proofs.Makes.{h-arrow}
+use Rattle.cells.proofs.Held.{same-held, same-trans, held-within, type-mark}
 use Rattle.typing.specs.declared.Found.{Found}
 use Rattle.typing.specs.declared.Found.the-variants.{Typed, Refused}
-use Rattle.typing.specs.Finding.{ReadyAt, Finds, ReadyFor, checkedHere, Checks, RoomFor, Adds, BinderBelow, Binds}
+use Rattle.typing.specs.Finding.{Finds, ReadyFor, checkedHere, Checks, RoomFor, Adds, BinderBelow, Binds}
 use Rattle.typing.proofs.Answers.{Answer, checking, typed, turned, handed, carried, checked-carried}
-use Rattle.typing.proofs.Parts.{mark-one, Function, function, Noted, noted, ready-body}
+use Rattle.typing.proofs.Parts.{mark-one, Function, Noted, ready-body, Read, AtCell, lam-of, fix-of}
 use Rattle.typing.proofs.Checking.{carried-on}
 
 -- ---- a function
 
-module _ {s : List ℕ} {n c i : ℕ} {y : Cell} (p : ReadyAt s n c i 21) (o : y ≡ cellAt s i) where
+module _ {s : List ℕ} {n c i μ : ℕ} {y : Cell} (p : Read s n c i 21 μ y) where
   own : Function s i y (p .ready .term)
-  own = function o (lam-at (p .ready .holds-term) (p .kind))
+  own = lam-of (p .cell) (p .ready .holds-term) (p .kind)
 
   own-room : n + (1 + size (own .body) + size-type (own .input) + size-type (own .output)) ≤ 8192
   unfolding size
@@ -40,16 +41,16 @@ module _ {s : List ℕ} {n c i : ℕ} {y : Cell} (p : ReadyAt s n c i 21) (o : y
       }
 
   module _ {t : List ℕ} {m : ℕ} (w : Binds s t n (y .b) c m) where
-    pub lam-asks : (y .a < i) × ReadyFor t m n (y .a) (y .c)
+    pub lam-asks : (4 * y .a + 3 < μ) × ReadyFor t m n (y .a) (y .c)
     lam-asks =
         let r = own-room in
         let l = size-positive (own .input) in
         let b : y .c < n = omega (arith, own .output-lower, p .ready .term-below) in (
-          own .left .leads .lower,
+          omega (arith, own .left .leads .lower, p .measure),
           record {
             ready = ready-body (p .ready) (own .left) w (own .holds-input) (omega arith);
             wanted = own .output;
-            holds-wanted = same-type (w .same) b (own .holds-output);
+            holds-wanted = same-held (w .same) b (own .holds-output);
             wanted-below = omega (arith, w .counts);
           },
         )
@@ -66,7 +67,7 @@ module _ {s : List ℕ} {n c i : ℕ} {y : Cell} (p : ReadyAt s n c i 21) (o : y
       body : {Γ : List Ty} {d : Term} → HoldsContext s c Γ → HoldsTerm s i d → Body Γ d
       unfolding infer
       body {Γ} g h =
-          let v = function o (lam-at h (p .kind)) in
+          let v = lam-of (p .cell) h (p .kind) in
           let b = p .ready .term-below in
           let l : y .c < n = omega (arith, v .output-lower) in
           record {
@@ -74,8 +75,8 @@ module _ {s : List ℕ} {n c i : ℕ} {y : Cell} (p : ReadyAt s n c i 21) (o : y
             input-below = omega (arith, v .input-lower);
             output-below = l;
             answer =
-                checking f (w .holds (v .input) Γ (v .holds-input) g) (same-term (w .same) (omega (arith, v .left .leads .lower)) (v .left .holds))
-                (same-type (w .same) l (v .holds-output));
+                checking f (w .holds (v .input) Γ (v .holds-input) g) (same-held (w .same) (omega (arith, v .left .leads .lower)) (v .left .holds))
+                (same-held (w .same) l (v .holds-output));
             is = ap (infer Γ) (v .is) ∙ checked-carried 0 (infer (v .input ∷ Γ) (v .body)) (v .output) (arrow (v .input) (v .output));
           }
 
@@ -110,15 +111,15 @@ module _ {s : List ℕ} {n c i : ℕ} {y : Cell} (p : ReadyAt s n c i 21) (o : y
               more = omega (arith, w .counts, z .more);
               less = omega (arith, w .counts, z .less);
               same = S;
-              input = same-type S (v .input-below) (v .view .holds-input);
-              output = same-type S (v .output-below) (v .view .holds-output);
+              input = same-held S (v .input-below) (v .view .holds-input);
+              output = same-held S (v .output-below) (v .view .holds-output);
             }
 
         own-passed : Passed (p .ready .context) (p .ready .term)
         own-passed = passed (p .ready .holds-context) (p .ready .holds-term)
 
         pub lam-within : 8 * y .c + 8 ≤ length u
-        lam-within = type-within (own-passed .output)
+        lam-within = held-within (own-passed .output)
 
         pub lam-room : {g : Cell} → g ≡ cellAt u (y .c) → RoomFor u k (y .b) (y .c) (g .c)
         unfolding size
@@ -153,15 +154,15 @@ module _ {s : List ℕ} {n c i : ℕ} {y : Cell} (p : ReadyAt s n c i 21) (o : y
                     omega (arith, z .less, a .counts, size-positive (v .input), size-positive (v .output)),
                     same-trans (z .same) (a .same) (omega (arith, z .more)),
                     omega (arith, a .counts),
-                    h-arrow (a .there) (ap (λ (x : Cell). x .c) j ∙ type-mark (z .output)) b o (same-type (a .same) b (z .input)) (same-type (a .same) o (z .output)),
+                    h-arrow (a .there) (ap (λ (x : Cell). x .c) j ∙ type-mark (z .output)) b o (same-held (a .same) b (z .input)) (same-held (a .same) o (z .output)),
                   );
             }
 
 -- ---- a fixpoint
 
-module _ {s : List ℕ} {n c i : ℕ} {y : Cell} (p : ReadyAt s n c i 23) (o : y ≡ cellAt s i) where
+module _ {s : List ℕ} {n c i μ : ℕ} {y : Cell} (p : Read s n c i 23 μ y) where
   fix-own : Noted s i y fix (p .ready .term)
-  fix-own = noted o (fix-at (p .ready .holds-term) (p .kind))
+  fix-own = fix-of (p .cell) (p .ready .holds-term) (p .kind)
 
   fix-room : n + (1 + size (fix-own .term) + size-type (fix-own .type)) ≤ 8192
   unfolding size
@@ -177,15 +178,15 @@ module _ {s : List ℕ} {n c i : ℕ} {y : Cell} (p : ReadyAt s n c i 23) (o : y
       }
 
   module _ {t : List ℕ} {m : ℕ} (w : Binds s t n (y .b) c m) where
-    pub fix-asks : (y .a < i) × ReadyFor t m n (y .a) (y .b)
+    pub fix-asks : (4 * y .a + 3 < μ) × ReadyFor t m n (y .a) (y .b)
     fix-asks =
         let r = fix-room in
         let l = size-positive (fix-own .type) in (
-          fix-own .left .leads .lower,
+          omega (arith, fix-own .left .leads .lower, p .measure),
           record {
             ready = ready-body (p .ready) (fix-own .left) w (fix-own .holds) (omega arith);
             wanted = fix-own .type;
-            holds-wanted = same-type (w .same) (fix-binds .type-below) (fix-own .holds);
+            holds-wanted = same-held (w .same) (fix-binds .type-below) (fix-own .holds);
             wanted-below = omega (arith, fix-binds .type-below, w .counts);
           },
         )
@@ -195,11 +196,23 @@ module _ {s : List ℕ} {n c i : ℕ} {y : Cell} (p : ReadyAt s n c i 23) (o : y
     fix-finds f =
         record {
           says = λ Γ d g h.
-              let v = noted o (fix-at h (p .kind)) in
+              let v = fix-of (p .cell) h (p .kind) in
               let b = p .ready .term-below in
-              let l = same-term (w .same) (omega (arith, v .left .leads .lower)) (v .left .holds) in
+              let l = same-held (w .same) (omega (arith, v .left .leads .lower)) (v .left .holds) in
               rw (v .is, checked-carried 0 (infer (v .type ∷ Γ) (v .term)) (v .type) (v .type))
               (carried-on (infer (v .type ∷ Γ) (v .term)) (v .type) (size (fix (v .term) (v .type))) (v .left .leads) b (w .same)
               (omega (arith, w .counts)) (omega (arith, w .counts, size-positive (v .type)))
-              (checking f (w .holds (v .type) Γ (v .holds) g) l (same-type (w .same) (fix-binds .type-below) (v .holds))));
+              (checking f (w .holds (v .type) Γ (v .holds) g) l (same-held (w .same) (fix-binds .type-below) (v .holds))));
         }
+
+-- ---- the point of the code where a function's body is checked
+
+pub record AtBody (μ : ℕ) : Type 0 where
+  pub at : AtCell 21 μ
+  pub t : List ℕ
+  pub u : List ℕ
+  pub m : ℕ
+  pub answer : Found
+  pub binds : Binds (at .s) t (at .n) (at .y .b) (at .c) m
+  pub checks : Checks t u m (at .n) (at .y .a) (at .y .c) answer
+  pub kept : length u ≡ length (at .s)

@@ -15,8 +15,9 @@ use Rattle.calculus.specs.Decide.{topLike?}
 use Rattle.format.specs.Cell.{Cell, cellAt, cellBytes}
 use Rattle.format.specs.Book.{follow}
 use Rattle.outcome.specs.declared.Refusal.the-variants.{Unbound}
-use Rattle.cells.specs.Held.{mark, HoldsType, h-int, h-top, h-inter, HoldsTerm, HoldsContext, h-empty, h-bind}
-use Rattle.cells.proofs.Held.{same-type, same-context, same-refl, type-mark, written, var-at, lit-at, unit-at}
+use Rattle.cells.specs.Held.{mark, HoldsType, HoldsTerm, HoldsContext, h-empty, h-bind}
+use Rattle.cells.proofs.Makes.{h-int, h-top, h-inter}
+use Rattle.cells.proofs.Held.{same-held, same-context, same-refl, type-mark, written, var-at, lit-at, unit-at}
 use Rattle.typing.specs.declared.Found.the-variants.{Typed, Refused}
 use Rattle.typing.specs.declared.Bound.{Bound}
 use Rattle.typing.specs.declared.Bound.the-variants.{At, Free}
@@ -62,7 +63,7 @@ binds p w =
     record {
       counts = w .counts;
       same = w .same;
-      holds = λ A Γ h g. h-bind (w .there) (p .type-below) (p .context-below) (same-type (w .same) (p .type-below) h) (same-context (w .same) (p .context-below) g);
+      holds = λ A Γ h g. h-bind (w .there) (p .type-below) (p .context-below) (same-held (w .same) (p .type-below) h) (same-context (w .same) (p .context-below) g);
     }
 
 -- ---- `lookup`
@@ -166,5 +167,5 @@ module _ {s : List ℕ} {n a b : ℕ} {x y : Cell} (p : TypesBelow s n a b) (o :
         answers = rw (w .counts);
         same = w .same;
         holds = λ A B g h.
-            h-inter (w .there) (mark-of g h) (p .first-below) (p .second-below) (same-type (w .same) (p .first-below) g) (same-type (w .same) (p .second-below) h);
+            h-inter (w .there) (mark-of g h) (p .first-below) (p .second-below) (same-held (w .same) (p .first-below) g) (same-held (w .same) (p .second-below) h);
       }

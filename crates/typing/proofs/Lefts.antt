@@ -10,12 +10,12 @@ use Rattle.calculus.specs.Infer.{Reason, applied, merged, labelled, projected, 
 use Rattle.format.specs.Cell.{Cell, cellAt}
 use Rattle.outcome.specs.declared.Refusal.{Refusal}
 use Rattle.cells.specs.Held.{HoldsTerm, HoldsContext}
-use Rattle.cells.proofs.Held.{TwoTerms, same-term, same-context, same-refl, type-within, app-at, merge-at, rcd-at, proj-at}
+use Rattle.cells.proofs.Held.{same-held, same-context, same-refl, held-within}
 use Rattle.typing.specs.declared.Found.{Found}
 use Rattle.typing.specs.declared.Found.the-variants.{Typed, Refused}
-use Rattle.typing.specs.Finding.{Ready, ReadyAt, Finds}
+use Rattle.typing.specs.Finding.{Ready, Finds}
 use Rattle.typing.proofs.Answers.{finding, IsFound, typed, turned, handed}
-use Rattle.typing.proofs.Parts.{Part, Two, two, one, ready-part}
+use Rattle.typing.proofs.Parts.{Part, Two, ready-part, Read, AtCell, FoundAt, app-of, merge-of, rcd-of, proj-of}
 
 -- The term e at cell i, whose part at field a is cell j.
 pub record Left (s : List ℕ) (i j : ℕ) (e : Term) : Type 0 where
@@ -34,7 +34,7 @@ module _ {s : List ℕ} {i : ℕ} {y : Cell} (o : y ≡ cellAt s i) where
   app-lefts k =
       record {
         of = λ h.
-            let v = two o (app-at h k) in
+            let v = app-of o h k in
             record { term = v .first; part = v .left; smaller = omega (arith, ap size (v .is)); hands = λ Γ r p q. ap (infer Γ) (v .is) ∙ rw q };
       }
 
@@ -43,7 +43,7 @@ module _ {s : List ℕ} {i : ℕ} {y : Cell} (o : y ≡ cellAt s i) where
   merge-lefts k =
       record {
         of = λ h.
-            let v = two o (merge-at h k) in
+            let v = merge-of o h k in
             record { term = v .first; part = v .left; smaller = omega (arith, ap size (v .is)); hands = λ Γ r p q. ap (infer Γ) (v .is) ∙ rw q };
       }
 
@@ -52,7 +52,7 @@ module _ {s : List ℕ} {i : ℕ} {y : Cell} (o : y ≡ cellAt s i) where
   rcd-lefts k =
       record {
         of = λ h.
-            let v = one o (rcd-at h k) in
+            let v = rcd-of o h k in
             record { term = v .term; part = v .left; smaller = omega (arith, ap size (v .is)); hands = λ Γ r p q. ap (infer Γ) (v .is) ∙ rw q };
       }
 
@@ -61,7 +61,7 @@ module _ {s : List ℕ} {i : ℕ} {y : Cell} (o : y ≡ cellAt s i) where
   proj-lefts k =
       record {
         of = λ h.
-            let v = one o (proj-at h k) in
+            let v = proj-of o h k in
             record { term = v .term; part = v .left; smaller = omega (arith, ap size (v .is)); hands = λ Γ r p q. ap (infer Γ) (v .is) ∙ rw q };
       }
 
@@ -72,33 +72,32 @@ pub data Begins : ℕ → Type 0 where
   rcd-begins : Begins 24
   proj-begins : Begins 25
 
-lefts : {s : List ℕ} {n c i k : ℕ} {y : Cell} → Begins k → ReadyAt s n c i k → y ≡ cellAt s i → Lefts s i (y .a)
-lefts app-begins p o = app-lefts o (p .kind)
-lefts merge-begins p o = merge-lefts o (p .kind)
-lefts rcd-begins p o = rcd-lefts o (p .kind)
-lefts proj-begins p o = proj-lefts o (p .kind)
+lefts : {s : List ℕ} {n c i k μ : ℕ} {y : Cell} → Begins k → Read s n c i k μ y → Lefts s i (y .a)
+lefts app-begins p = app-lefts (p .cell) (p .kind)
+lefts merge-begins p = merge-lefts (p .cell) (p .kind)
+lefts rcd-begins p = rcd-lefts (p .cell) (p .kind)
+lefts proj-begins p = proj-lefts (p .cell) (p .kind)
 
-module _ {s : List ℕ} {n c i k : ℕ} {y : Cell} (b : Begins k) (p : ReadyAt s n c i k) (o : y ≡ cellAt s i) where
-  pub left-asks : (y .a < i) × Ready s n c (y .a)
+module _ {s : List ℕ} {n c i k μ : ℕ} {y : Cell} (b : Begins k) (p : Read s n c i k μ y) where
+  pub left-asks : (4 * y .a + 3 < μ) × Ready s n c (y .a)
   left-asks =
-      let v = lefts b p o .of (p .ready .holds-term) in
-      (v .part .leads .lower, ready-part (p .ready) (v .part) (same-refl s n) (omega arith) (omega (arith, v .smaller, p .ready .room)))
+      let v = lefts b p .of (p .ready .holds-term) in
+      (omega (arith, v .part .leads .lower, p .measure), ready-part (p .ready) (v .part) (same-refl s n) (omega arith) (omega (arith, v .smaller, p .ready .room)))
 
-  module _ {u : List ℕ} {r : Found} (f : Finds s u n c (y .a) r) where
-    pub left-refused : {q : Refusal} → r ≡ Refused q → Finds s u n c i r
-    left-refused e =
-        record {
-          says = λ Γ d g h.
-              let v = lefts b p o .of h in
-              let z = turned (finding f g (v .part .holds)) e in
-              rw (v .hands Γ (z .reason) (z .way) (z .is)) (handed (v .part .leads) (p .ready .term-below) (same-refl s n) e z);
-        }
+  pub left-refused : {u : List ℕ} {r : Found} {q : Refusal} → Finds s u n c (y .a) r → r ≡ Refused q → Finds s u n c i r
+  left-refused f e =
+      record {
+        says = λ Γ d g h.
+            let v = lefts b p .of h in
+            let z = turned (finding f g (v .part .holds)) e in
+            rw (v .hands Γ (z .reason) (z .way) (z .is)) (handed (v .part .leads) (p .ready .term-below) (same-refl s n) e z);
+      }
 
-    -- the found type's cell can be read
-    pub left-within : {x m : ℕ} → r ≡ Typed x m → 8 * x + 8 ≤ length u
-    left-within e =
-        let v = lefts b p o .of (p .ready .holds-term) in
-        type-within (typed (finding f (p .ready .holds-context) (v .part .holds)) e .holds)
+  -- the found type's cell can be read
+  pub left-within : {u : List ℕ} {x m : ℕ} → FoundAt s u n c (y .a) x m → 8 * x + 8 ≤ length u
+  left-within f =
+      let v = lefts b p .of (p .ready .holds-term) in
+      held-within (typed (finding (f .finds) (p .ready .holds-context) (v .part .holds)) (f .is) .holds)
 
 -- ---- two sides: the left's type is found, and the right side comes next
 
@@ -107,17 +106,17 @@ pub data Sides : ℕ → (Term → Term → Term) → Type 0 where
   app-sides : Sides 20 app
   merge-sides : Sides 22 merge
 
-sides-at : {s : List ℕ} {i k : ℕ} {f : Term → Term → Term} {e : Term} → Sides k f → HoldsTerm s i e → cellAt s i .kind ≡ k → TwoTerms s i f e
-sides-at app-sides h k = app-at h k
-sides-at merge-sides h k = merge-at h k
+sides-at : {s : List ℕ} {i k : ℕ} {y : Cell} {f : Term → Term → Term} {e : Term} → Sides k f → y ≡ cellAt s i → HoldsTerm s i e → cellAt s i .kind ≡ k → Two s i y f e
+sides-at app-sides p h k = app-of p h k
+sides-at merge-sides p h k = merge-of p h k
 
 sides-size : {k : ℕ} {f : Term → Term → Term} → Sides k f → (a b : Term) → size (f a b) ≡ 1 + size a + size b
 unfolding size
 sides-size app-sides a b = refl
 sides-size merge-sides a b = refl
 
-module _ {s u : List ℕ} {n c i k x m : ℕ} {y : Cell} {r : Found} {f : Term → Term → Term} (d : Sides k f) (p : ReadyAt s n c i k) (o : y ≡ cellAt s i)
-    (q : Finds s u n c (y .a) r) (e : r ≡ Typed x m) where
+module _ {s u : List ℕ} {n c i k x m μ : ℕ} {y : Cell} {f : Term → Term → Term} (d : Sides k f) (p : Read s n c i k μ y)
+    (q : FoundAt s u n c (y .a) x m) where
   -- of whatever context and term the cells hold
   pub record Known (Γ : List Ty) (t : Term) : Type 0 where
     pub sides : Two s i y f t
@@ -128,22 +127,39 @@ module _ {s u : List ℕ} {n c i k x m : ℕ} {y : Cell} {r : Found} {f : Term �
 
   pub known : {Γ : List Ty} {t : Term} → HoldsContext s c Γ → HoldsTerm s i t → Known Γ t
   known g h =
-      let v = two o (sides-at d h (p .kind)) in
-      let z = typed (finding q g (v .left .holds)) e in
+      let v = sides-at d (p .cell) h (p .kind) in
+      let z = typed (finding (q .finds) g (v .left .holds)) (q .is) in
       record {
         sides = v;
         sizes = ap size (v .is) ∙ sides-size d (v .first) (v .second);
         left = z;
         context = same-context (z .same) (p .ready .context-below) g;
-        right = same-term (z .same) (omega (arith, v .right .leads .lower, p .ready .term-below)) (v .right .holds);
+        right = same-held (z .same) (omega (arith, v .right .leads .lower, p .ready .term-below)) (v .right .holds);
       }
 
   pub own : Known (p .ready .context) (p .ready .term)
   own = known (p .ready .holds-context) (p .ready .holds-term)
 
-  pub right-asks : (y .b < i) × Ready u m c (y .b)
+  pub right-asks : (4 * y .b + 3 < μ) × Ready u m c (y .b)
   right-asks =
       let z = own in (
-        z .sides .right .leads .lower,
+        omega (arith, z .sides .right .leads .lower, p .measure),
         ready-part (p .ready) (z .sides .right) (z .left .same) (z .left .more) (omega (arith, p .ready .room, z .sizes, z .left .less)),
       )
+
+-- ---- the points of the code where the part's type is found, and where its cell is read
+
+pub record AtLeft (k μ : ℕ) : Type 0 where
+  pub at : AtCell k μ
+  pub u : List ℕ
+  pub x : ℕ
+  pub m : ℕ
+  pub left : FoundAt (at .s) u (at .n) (at .c) (at .y .a) x m
+
+abbrev pub at-left : {k μ x m : ℕ} {u : List ℕ} {r : Found} (p : AtCell k μ) → Finds (p .s) u (p .n) (p .c) (p .y .a) r → r ≡ Typed x m → length u ≡ length (p .s) → AtLeft k μ
+at-left {x = x} {m = m} {u = u} {r = r} p f e l = record { at = p; u = u; x = x; m = m; left = record { answer = r; finds = f; is = e; kept = l } }
+
+pub record AtType (k μ : ℕ) : Type 0 where
+  pub at : AtLeft k μ
+  pub g : Cell
+  pub type : g ≡ cellAt (at .u) (at .x)

@@ -6,35 +6,35 @@ use mathlib.Core.Bool.{Bool, true, false}
 use mathlib.Core.List.{List}
 use Rattle.calculus.specs.Syntax.{Ty, Term, size}
 use Rattle.calculus.specs.Infer.{mergeable?, merged, infer}
-use Rattle.format.specs.Cell.{Cell, cellAt}
+use Rattle.format.specs.Cell.{Cell}
 use Rattle.format.specs.Book.{follow}
 use Rattle.outcome.specs.declared.Refusal.{Refusal}
 use Rattle.outcome.specs.declared.Refusal.the-variants.{Merge}
 use Rattle.cells.specs.Held.{HoldsType, HoldsTerm, HoldsContext, Same}
-use Rattle.cells.proofs.Held.{same-type, same-term, same-trans}
+use Rattle.cells.proofs.Held.{same-held, same-trans}
 use Rattle.types.specs.Says.{HalvesAt, HalvesSay}
 use Rattle.typing.specs.declared.Found.{Found}
-use Rattle.typing.specs.declared.Found.the-variants.{Typed, Refused}
-use Rattle.typing.specs.Finding.{ReadyAt, Finds, TypesBelow, AddsInter}
+use Rattle.typing.specs.declared.Found.the-variants.{Refused}
+use Rattle.typing.specs.Finding.{Finds, TypesBelow, AddsInter}
 use Rattle.typing.proofs.Answers.{finding, IsFound, typed, turned, handed}
-use Rattle.typing.proofs.Lefts.{merge-sides, Known, known}
+use Rattle.typing.proofs.Lefts.{merge-sides, Known, known, AtLeft}
+use Rattle.typing.proofs.Parts.{Read, FoundAt}
 
-module _ {s u v : List ℕ} {n c i x k : ℕ} {y : Cell} {r r′ : Found} (p : ReadyAt s n c i 22) (o : y ≡ cellAt s i) (f : Finds s u n c (y .a) r)
-    (e : r ≡ Typed x k) (f′ : Finds u v k c (y .b) r′) where
-  pub merge-right-refused : {q : Refusal} → r′ ≡ Refused q → Finds s v n c i r′
+module _ {s u v : List ℕ} {n c i x k μ : ℕ} {y : Cell} (p : Read s n c i 22 μ y) (f : FoundAt s u n c (y .a) x k) where
+  pub merge-right-refused : {r′ : Found} {q : Refusal} → Finds u v k c (y .b) r′ → r′ ≡ Refused q → Finds s v n c i r′
   unfolding infer merged
-  merge-right-refused e′ =
+  merge-right-refused f′ e′ =
       record {
         says = λ Γ d g h.
-            let z = known merge-sides p o f e g h in
+            let z = known merge-sides p f g h in
             let b = turned (finding f′ (z .context) (z .right)) e′ in
             rw (z .sides .is, z .left .is, b .is) (handed (z .sides .right .leads) (p .ready .term-below) (z .left .same) e′ b);
       }
 
-  module _ {x′ k′ : ℕ} (e′ : r′ ≡ Typed x′ k′) where
+  module _ {x′ k′ : ℕ} (f′ : FoundAt u v k c (y .b) x′ k′) where
     -- both halves' types, of whatever context and term the cells hold
     record Both (Γ : List Ty) (d : Term) : Type 0 where
-      of : Known merge-sides p o f e Γ d
+      of : Known merge-sides p f Γ d
       second : IsFound u v k (size (of .sides .second)) x′ k′ (infer Γ (of .sides .second))
       same : Same s v n
       left-below : y .a < n
@@ -43,8 +43,8 @@ module _ {s u v : List ℕ} {n c i x k : ℕ} {y : Cell} {r r′ : Found} (p : R
 
     both : {Γ : List Ty} {d : Term} → HoldsContext s c Γ → HoldsTerm s i d → Both Γ d
     both g h =
-        let q = known merge-sides p o f e g h in
-        let b = typed (finding f′ (q .context) (q .right)) e′ in
+        let q = known merge-sides p f g h in
+        let b = typed (finding (f′ .finds) (q .context) (q .right)) (f′ .is) in
         let a = p .ready .term-below in
         record {
           of = q;
@@ -52,7 +52,7 @@ module _ {s u v : List ℕ} {n c i x k : ℕ} {y : Cell} {r r′ : Found} (p : R
           same = same-trans (q .left .same) (b .same) (q .left .more);
           left-below = omega (arith, q .sides .left .leads .lower);
           right-below = omega (arith, q .sides .right .leads .lower);
-          holds = same-type (b .same) (q .left .below) (q .left .holds);
+          holds = same-held (b .same) (q .left .below) (q .left .holds);
         }
 
     own-both : Both (p .ready .context) (p .ready .term)
@@ -66,8 +66,8 @@ module _ {s u v : List ℕ} {n c i x k : ℕ} {y : Cell} {r r′ : Found} (p : R
           terms = record {
             first = z .of .sides .first;
             second = z .of .sides .second;
-            holds-first = same-term (z .same) (z .left-below) (z .of .sides .left .holds);
-            holds-second = same-term (z .same) (z .right-below) (z .of .sides .right .holds);
+            holds-first = same-held (z .same) (z .left-below) (z .of .sides .left .holds);
+            holds-second = same-held (z .same) (z .right-below) (z .of .sides .right .holds);
           };
           types = record { first = z .of .left .type; second = z .second .type; holds-first = z .holds; holds-second = z .second .holds };
         }
@@ -87,8 +87,8 @@ module _ {s u v : List ℕ} {n c i x k : ℕ} {y : Cell} {r r′ : Found} (p : R
       say : {Γ : List Ty} {d : Term} (z : Both Γ d) → b ≡ mergeable? (z .of .sides .first) (z .of .sides .second) (z .of .left .type) (z .second .type)
       say z =
           t .says (z .of .sides .first) (z .of .sides .second) (z .of .left .type) (z .second .type)
-          (same-term (z .same) (z .left-below) (z .of .sides .left .holds))
-          (same-term (z .same) (z .right-below) (z .of .sides .right .holds))
+          (same-held (z .same) (z .left-below) (z .of .sides .left .holds))
+          (same-held (z .same) (z .right-below) (z .of .sides .right .holds))
           (z .holds)
           (z .second .holds)
 
@@ -118,3 +118,11 @@ module _ {s u v : List ℕ} {n c i x k : ℕ} {y : Cell} {r r′ : Found} (p : R
                   a .holds (z .of .left .type) (z .second .type) (z .holds) (z .second .holds),
                 );
           }
+
+-- the point of the code where both halves' types are found
+pub record AtBoth (μ : ℕ) : Type 0 where
+  pub at : AtLeft 22 μ
+  pub v : List ℕ
+  pub x : ℕ
+  pub m : ℕ
+  pub right : FoundAt (at .u) v (at .m) (at .at .c) (at .at .y .b) x m

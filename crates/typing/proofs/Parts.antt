@@ -1,22 +1,26 @@
 -- The parts of a term in a buffer, by the fields of its cell as it was read; contexts and types in cells; and that a part is ready.
 -- Assumes nothing.
-use Prim.Native.Nat.{ℕ, zero, suc, _+_, _≤_, _<_}
+use Prim.Native.Nat.{ℕ, zero, suc, _+_, _*_, _≤_, _<_}
 use native.Mathlib.Omega.{arith}
-use mathlib.Core.Path.{_≡_, _∙_, ap}
+use mathlib.Core.Path.{_≡_, refl, _∙_}
 use mathlib.Core.Logic.{_⊎_, inl, inr, ⊎-elim}
 use mathlib.Core.Bool.{Bool, true, false, cond}
 use mathlib.Core.List.{List, _∷_}
-use Rattle.calculus.specs.Syntax.{Ty, int, top, arrow, inter, field}
+use mathlib.Core.Option.{some}
+use lib.ListN.{length}
+use Rattle.calculus.specs.Syntax.{Ty, top, arrow, field}
 use Rattle.calculus.specs.Syntax.{Term, var, lit, unit, anno, app, lam, merge, fix, rcd, proj, size}
 use Rattle.calculus.specs.Infer.{infer}
 use Rattle.calculus.specs.Decide.{topLike?}
+use Rattle.format.specs.Table.{term-sort, refers, Row, table, rowIn, rowOf}
 use Rattle.format.specs.Cell.{Cell, cellAt}
-use Rattle.cells.specs.Held.{mark, HoldsType, h-int, h-top, h-arrow, h-inter, h-field, HoldsTerm, Same}
-use Rattle.cells.proofs.Held.{TermAndType, TwoTerms, FunctionAt, OneTerm, term-kinds, top-at, arrow-at, field-at, same-term, same-context}
+use Rattle.cells.specs.Held.{mark, HoldsType, HoldsTerm, Same}
+use Rattle.cells.proofs.Held.{TermAndType, TwoTerms, OneTerm, held-kinds, top-at, arrow-at, field-at, anno-at, app-at, lam-at, merge-at, fix-at, rcd-at, proj-at}
+use Rattle.cells.proofs.Held.{same-held, same-context}
 use Rattle.typing.specs.declared.Found.{Found}
 use Rattle.typing.specs.declared.Found.the-variants.{Typed}
 use Rattle.typing.specs.Finding.{Ready, ReadyAt, ReadyTwo, Finds, Binds}
-use Rattle.typing.proofs.Ways.{Leads, leads-a, leads-b}
+use Rattle.typing.proofs.Ways.{Leads, leads}
 use Rattle.typing.proofs.Answers.{finding, IsFound, typed}
 
 pub size-one : (e : Term) → 1 ≤ size e
@@ -39,21 +43,6 @@ mark-one A = go (topLike? A)
     go true = omega arith
     go false = omega arith
 
--- the kind of a type's cell
-abbrev pub kindOf : Ty → ℕ
-kindOf int = 1
-kindOf top = 2
-kindOf (arrow A B) = 3
-kindOf (inter A B) = 4
-kindOf (field l A) = 5
-
-pub type-kind : {s : List ℕ} {i : ℕ} {A : Ty} → HoldsType s i A → cellAt s i .kind ≡ kindOf A
-type-kind (h-int p c) = ap (λ (x : Cell). x .kind) (p .is)
-type-kind (h-top p c) = ap (λ (x : Cell). x .kind) (p .is)
-type-kind (h-arrow p c u v x y) = ap (λ (x : Cell). x .kind) (p .is)
-type-kind (h-inter p c u v x y) = ap (λ (x : Cell). x .kind) (p .is)
-type-kind (h-field p c u x) = ap (λ (x : Cell). x .kind) (p .is)
-
 -- field f of cell i is the lower cell j, which holds the term e
 pub record Part (s : List ℕ) (i f j : ℕ) (e : Term) : Type 0 where
   pub leads : Leads s i f j
@@ -67,15 +56,16 @@ pub record Two (s : List ℕ) (i : ℕ) (y : Cell) (f : Term → Term → Term) 
   pub left : Part s i 0 (y .a) first
   pub right : Part s i 1 (y .b) second
 
-pub two : {s : List ℕ} {i : ℕ} {y : Cell} {f : Term → Term → Term} {e : Term} → y ≡ cellAt s i → TwoTerms s i f e → Two s i y f e
-two p t =
+two : {s : List ℕ} {i k : ℕ} {y : Cell} {f : Term → Term → Term} {e : Term} {r : Row} → y ≡ cellAt s i → cellAt s i .kind ≡ k → rowOf k ≡ some r
+    → r .a ≡ refers term-sort → r .b ≡ refers term-sort → TwoTerms s i f e → Two s i y f e
+two p k w a b t =
     rw p
     (record {
       first = t .first;
       second = t .second;
       is = t .is;
-      left = record { leads = leads-a (t .first-lower); holds = t .holds-first };
-      right = record { leads = leads-b (t .second-lower); holds = t .holds-second };
+      left = record { leads = leads 0 k w a (t .first-lower); holds = t .holds-first };
+      right = record { leads = leads 1 k w b (t .second-lower); holds = t .holds-second };
     })
 
 -- an annotation or a fixpoint
@@ -87,14 +77,15 @@ pub record Noted (s : List ℕ) (i : ℕ) (y : Cell) (f : Term → Ty → Term) 
   pub lower : y .b < i
   pub holds : HoldsType s (y .b) type
 
-pub noted : {s : List ℕ} {i : ℕ} {y : Cell} {f : Term → Ty → Term} {e : Term} → y ≡ cellAt s i → TermAndType s i f e → Noted s i y f e
-noted p t =
+noted : {s : List ℕ} {i k : ℕ} {y : Cell} {f : Term → Ty → Term} {e : Term} {r : Row} → y ≡ cellAt s i → cellAt s i .kind ≡ k → rowOf k ≡ some r
+    → r .a ≡ refers term-sort → TermAndType s i f e → Noted s i y f e
+noted p k w a t =
     rw p
     (record {
       term = t .term;
       type = t .type;
       is = t .is;
-      left = record { leads = leads-a (t .term-lower); holds = t .holds-term };
+      left = record { leads = leads 0 k w a (t .term-lower); holds = t .holds-term };
       lower = t .type-lower;
       holds = t .holds-type;
     })
@@ -110,29 +101,57 @@ pub record Function (s : List ℕ) (i : ℕ) (y : Cell) (e : Term) : Type 0 wher
   pub holds-input : HoldsType s (y .b) input
   pub holds-output : HoldsType s (y .c) output
 
-pub function : {s : List ℕ} {i : ℕ} {y : Cell} {e : Term} → y ≡ cellAt s i → FunctionAt s i e → Function s i y e
-function p t =
-    rw p
-    (record {
-      body = t .body;
-      input = t .input;
-      output = t .output;
-      is = t .is;
-      left = record { leads = leads-a (t .body-lower); holds = t .holds-body };
-      input-lower = t .input-lower;
-      output-lower = t .output-lower;
-      holds-input = t .holds-input;
-      holds-output = t .holds-output;
-    })
-
 -- a record or a field read
 pub record One (s : List ℕ) (i : ℕ) (y : Cell) (f : ℕ → Term → Term) (e : Term) : Type 0 where
   pub term : Term
   pub is : e ≡ f (y .label) term
   pub left : Part s i 0 (y .a) term
 
-pub one : {s : List ℕ} {i : ℕ} {y : Cell} {f : ℕ → Term → Term} {e : Term} → y ≡ cellAt s i → OneTerm s i f e → One s i y f e
-one p t = rw p (record { term = t .term; is = t .is; left = record { leads = leads-a (t .lower); holds = t .holds } })
+one : {s : List ℕ} {i k : ℕ} {y : Cell} {f : ℕ → Term → Term} {e : Term} {r : Row} → y ≡ cellAt s i → cellAt s i .kind ≡ k → rowOf k ≡ some r
+    → r .a ≡ refers term-sort → OneTerm s i f e → One s i y f e
+one p k w a t = rw p (record { term = t .term; is = t .is; left = record { leads = leads 0 k w a (t .lower); holds = t .holds } })
+
+-- a term by the kind of its cell
+module _ {s : List ℕ} {i : ℕ} {y : Cell} {e : Term} (p : y ≡ cellAt s i) (h : HoldsTerm s i e) where
+  pub anno-of : cellAt s i .kind ≡ 19 → Noted s i y anno e
+  unfolding table rowIn rowOf
+  anno-of k = noted p k refl refl (anno-at h k)
+
+  pub app-of : cellAt s i .kind ≡ 20 → Two s i y app e
+  unfolding table rowIn rowOf
+  app-of k = two p k refl refl refl (app-at h k)
+
+  pub lam-of : cellAt s i .kind ≡ 21 → Function s i y e
+  unfolding table rowIn rowOf
+  lam-of k = let t = lam-at h k in
+      rw p
+      (record {
+        body = t .body;
+        input = t .input;
+        output = t .output;
+        is = t .is;
+        left = record { leads = leads 0 k refl refl (t .body-lower); holds = t .holds-body };
+        input-lower = t .input-lower;
+        output-lower = t .output-lower;
+        holds-input = t .holds-input;
+        holds-output = t .holds-output;
+      })
+
+  pub merge-of : cellAt s i .kind ≡ 22 → Two s i y merge e
+  unfolding table rowIn rowOf
+  merge-of k = two p k refl refl refl (merge-at h k)
+
+  pub fix-of : cellAt s i .kind ≡ 23 → Noted s i y fix e
+  unfolding table rowIn rowOf
+  fix-of k = noted p k refl refl (fix-at h k)
+
+  pub rcd-of : cellAt s i .kind ≡ 24 → One s i y rcd e
+  unfolding table rowIn rowOf
+  rcd-of k = one p k refl refl (rcd-at h k)
+
+  pub proj-of : cellAt s i .kind ≡ 25 → One s i y proj e
+  unfolding table rowIn rowOf
+  proj-of k = one p k refl refl (proj-at h k)
 
 -- a function type
 pub record Arrow (s : List ℕ) (i : ℕ) (y : Cell) (A : Ty) : Type 0 where
@@ -182,7 +201,7 @@ ready-part {e = e} r p q l k =
       holds-context = same-context q (r .context-below) (r .holds-context);
       context-below = omega (arith, r .context-below);
       term = e;
-      holds-term = same-term q (omega (arith, p .leads .lower, r .term-below)) (p .holds);
+      holds-term = same-held q (omega (arith, p .leads .lower, r .term-below)) (p .holds);
       term-below = omega (arith, p .leads .lower, r .term-below);
       room = k;
     }
@@ -197,7 +216,7 @@ ready-body {A = A} {e = e} r p w h k =
       holds-context = w .holds A (r .context) h (r .holds-context);
       context-below = omega (arith, w .counts);
       term = e;
-      holds-term = same-term (w .same) (omega (arith, p .leads .lower, r .term-below)) (p .holds);
+      holds-term = same-held (w .same) (omega (arith, p .leads .lower, r .term-below)) (p .holds);
       term-below = omega (arith, w .counts, p .leads .lower, r .term-below);
       room = omega (arith, w .counts);
     }
@@ -234,7 +253,7 @@ NoneBelow k = (((NoneOf k 16 4 × ¬ ((k ≡ 20) ⊎ (k ≡ 22))) × ¬ (k ≡ 2
 -- A term of none of the other kinds is a field read.
 pub at-last : {s : List ℕ} {n c i : ℕ} {y : Cell} → Ready s n c i → y ≡ cellAt s i → NoneBelow (y .kind) → ReadyAt s n c i 25
 at-last {y = y} p o r =
-    let b : (16 ≤ y .kind) × (y .kind ≤ 25) = rw o (term-kinds (p .holds-term)) in
+    let b : (16 ≤ y .kind) × (y .kind ≤ 25) = rw o (held-kinds (p .holds-term)) in
     let u : y .kind ≡ 20 → ⊥ = λ e. r .0 .0 .0 .1 (inl e) in
     let v : y .kind ≡ 22 → ⊥ = λ e. r .0 .0 .0 .1 (inr e) in
     let l : 25 ≤ y .kind = none-of (y .kind) 16 9 (b .0) (((((r .0 .0 .0 .0, u), r .0 .0 .1), v), r .0 .1), r .1) in
@@ -246,3 +265,45 @@ at-two p o e = record { ready = p; kinds = rw o at e }
 
 pub at-second : {s : List ℕ} {n c i : ℕ} {y : Cell} → ReadyTwo s n c i → y ≡ cellAt s i → (y .kind ≡ 20 → ⊥) → ReadyAt s n c i 22
 at-second p o u = record { ready = p .ready; kind = ⊎-elim (λ e. absurd ((rw o at u) e)) (λ e. e) (p .kinds) }
+
+-- ---- what is known at a point of the code
+
+-- A term is ready at cell i, which was read as y; the measure, with mode m, is μ.
+pub record AtTerm (m μ : ℕ) : Type 0 where
+  pub s : List ℕ
+  pub n : ℕ
+  pub c : ℕ
+  pub i : ℕ
+  pub y : Cell
+  pub ready : Ready s n c i
+  pub cell : y ≡ cellAt s i
+  pub measure : 4 * i + m ≡ μ
+
+-- A term of kind k is ready at cell i, which was read as y; the measure of its arm is μ.
+pub record Read (s : List ℕ) (n c i k μ : ℕ) (y : Cell) : Type 0 where
+  pub ready : Ready s n c i
+  pub kind : cellAt s i .kind ≡ k
+  pub cell : y ≡ cellAt s i
+  pub measure : 4 * i ≡ μ
+
+pub reading : {s : List ℕ} {n c i k μ : ℕ} {y : Cell} → ReadyAt s n c i k → 4 * i + 0 ≡ μ → y ≡ cellAt s i → Read s n c i k μ y
+reading p m o = record { ready = p .ready; kind = p .kind; cell = o; measure = omega arith }
+
+-- The same, at some cell of some buffer.
+pub record AtCell (k μ : ℕ) : Type 0 where
+  pub s : List ℕ
+  pub n : ℕ
+  pub c : ℕ
+  pub i : ℕ
+  pub y : Cell
+  pub read : Read s n c i k μ y
+
+abbrev pub at-cell : {s : List ℕ} {n c i k μ : ℕ} {y : Cell} → Read s n c i k μ y → AtCell k μ
+at-cell {s} {n} {c} {i} {y = y} p = record { s = s; n = n; c = c; i = i; y = y; read = p }
+
+-- The term at cell j was asked for its type, which is at cell x, with k cells used.
+pub record FoundAt (s u : List ℕ) (n c j x k : ℕ) : Type 0 where
+  pub answer : Found
+  pub finds : Finds s u n c j answer
+  pub is : answer ≡ Typed x k
+  pub kept : length u ≡ length s

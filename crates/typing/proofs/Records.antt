@@ -9,29 +9,31 @@ use Rattle.calculus.specs.Infer as Infer
 use Rattle.calculus.specs.Infer.{labelled, projected, infer}
 use Rattle.calculus.specs.Decide.{topLike?}
 use Rattle.format.specs.Cell.{Cell, cellAt}
+use Rattle.format.specs.Tree.{kindIn}
+use Rattle.format.specs.Terms.{fromType}
 use Rattle.format.specs.Book.{follow}
 use Rattle.outcome.specs.declared.Refusal.the-variants.{Projection}
-use Rattle.cells.specs.Held.{HoldsType, h-field}
-use Rattle.cells.proofs.Held.{same-type, same-trans, type-mark, rcd-at, proj-at}
-use Rattle.typing.specs.declared.Found.{Found}
+use Rattle.cells.specs.Held.{HoldsType}
+use Rattle.cells.proofs.Makes.{h-field}
+use Rattle.cells.proofs.Held.{kind-of-held, same-held, same-trans, type-mark}
 use Rattle.typing.specs.declared.Found.the-variants.{Typed, Refused}
-use Rattle.typing.specs.Finding.{Answered, ReadyAt, Finds, RoomFor, Adds}
+use Rattle.typing.specs.Finding.{Answered, Finds, RoomFor, Adds}
 use Rattle.typing.proofs.Answers.{finding, IsFound, typed}
-use Rattle.typing.proofs.Parts.{mark-one, type-kind, One, one, labelled-of, top-of}
+use Rattle.typing.proofs.Parts.{mark-one, One, labelled-of, top-of, Read, FoundAt, rcd-of, proj-of}
 
 -- ---- a record
 
-module _ {s : List ℕ} {n c i : ℕ} {y : Cell} (p : ReadyAt s n c i 24) (o : y ≡ cellAt s i) where
+module _ {s : List ℕ} {n c i μ : ℕ} {y : Cell} (p : Read s n c i 24 μ y) where
   own : One s i y rcd (p .ready .term)
-  own = one o (rcd-at (p .ready .holds-term) (p .kind))
+  own = rcd-of (p .cell) (p .ready .holds-term) (p .kind)
 
   own-room : n + (1 + size (own .term)) ≤ 8192
   unfolding size
   own-room = rw (own .is) at (p .ready .room)
 
-  module _ {u : List ℕ} {r : Found} {x k : ℕ} (f : Finds s u n c (y .a) r) (e : r ≡ Typed x k) where
+  module _ {u : List ℕ} {x k : ℕ} (f : FoundAt s u n c (y .a) x k) where
     content-found : IsFound s u n (size (own .term)) x k (infer (p .ready .context) (own .term))
-    content-found = typed (finding f (p .ready .holds-context) (own .left .holds)) e
+    content-found = typed (finding (f .finds) (p .ready .holds-context) (own .left .holds)) (f .is)
 
     pub rcd-room : {g : Cell} → g ≡ cellAt u x → RoomFor u k x 0 (g .c)
     rcd-room j =
@@ -50,8 +52,8 @@ module _ {s : List ℕ} {n c i : ℕ} {y : Cell} (p : ReadyAt s n c i 24) (o : y
     rcd-found {m = m} j w =
         record {
           says = λ Γ d g h.
-              let v = one o (rcd-at h (p .kind)) in
-              let z = typed (finding f g (v .left .holds)) e in
+              let v = rcd-of (p .cell) h (p .kind) in
+              let z = typed (finding (f .finds) g (v .left .holds)) (f .is) in
               rw (v .is, z .is) (
                 k,
                 m,
@@ -60,21 +62,21 @@ module _ {s : List ℕ} {n c i : ℕ} {y : Cell} (p : ReadyAt s n c i 24) (o : y
                 omega (arith, z .less, w .counts),
                 same-trans (z .same) (w .same) (z .more),
                 omega (arith, w .counts),
-                h-field (w .there) (ap (λ (x : Cell). x .c) j ∙ type-mark (z .holds)) (z .below) (same-type (w .same) (z .below) (z .holds)),
+                h-field (w .there) (ap (λ (x : Cell). x .c) j ∙ type-mark (z .holds)) (z .below) (same-held (w .same) (z .below) (z .holds)),
               );
         }
 
 -- ---- a field read
 
-module _ {s : List ℕ} {n c i : ℕ} {y : Cell} (p : ReadyAt s n c i 25) (o : y ≡ cellAt s i) where
-  module _ {u : List ℕ} {r : Found} {x k : ℕ} {g : Cell} (f : Finds s u n c (y .a) r) (e : r ≡ Typed x k) (t : g ≡ cellAt u x) where
+module _ {s : List ℕ} {n c i μ : ℕ} {y : Cell} (p : Read s n c i 25 μ y) where
+  module _ {u : List ℕ} {x k : ℕ} {g : Cell} (f : FoundAt s u n c (y .a) x k) (t : g ≡ cellAt u x) where
     pub proj-top : g .kind ≡ 2 → Finds s u n c i (Typed x k)
     unfolding infer projected size
     proj-top j =
         record {
           says = λ Γ d a h.
-              let v = one o (proj-at h (p .kind)) in
-              let z = typed (finding f a (v .left .holds)) e in
+              let v = proj-of (p .cell) h (p .kind) in
+              let z = typed (finding (f .finds) a (v .left .holds)) (f .is) in
               let w : z .type ≡ top = top-of t j (z .holds) in
               rw (v .is, z .is, w) (x, k, refl, z .more, omega (arith, z .less), z .same, z .below, rw w at (z .holds));
         }
@@ -84,8 +86,8 @@ module _ {s : List ℕ} {n c i : ℕ} {y : Cell} (p : ReadyAt s n c i 25) (o : y
     proj-found j b =
         record {
           says = λ Γ d a h.
-              let v = one o (proj-at h (p .kind)) in
-              let z = typed (finding f a (v .left .holds)) e in
+              let v = proj-of (p .cell) h (p .kind) in
+              let z = typed (finding (f .finds) a (v .left .holds)) (f .is) in
               let w = labelled-of t j (z .holds) in
               rw (v .is, z .is, w .is, eq-eqb (y .label) (g .label) (sym b))
               (g .a, k, refl, z .more, omega (arith, z .less), z .same, omega (arith, w .lower, z .below), w .holds);
@@ -96,26 +98,26 @@ module _ {s : List ℕ} {n c i : ℕ} {y : Cell} (p : ReadyAt s n c i 25) (o : y
     proj-other j b =
         record {
           says = λ Γ d a h.
-              let v = one o (proj-at h (p .kind)) in
-              let z = typed (finding f a (v .left .holds)) e in
+              let v = proj-of (p .cell) h (p .kind) in
+              let z = typed (finding (f .finds) a (v .left .holds)) (f .is) in
               let w = labelled-of t j (z .holds) in
               rw (v .is, z .is, w .is, ne-eqb (y .label) (g .label) (λ l. b (sym l))) (Projection i, refl, refl);
         }
 
     -- neither Top nor a record type
     pub proj-else : ¬ (g .kind ≡ 2) → ¬ (g .kind ≡ 5) → Finds s u n c i (Refused (Projection i))
-    unfolding infer projected follow
+    unfolding infer projected follow fromType kindIn
     proj-else a b =
         record {
           says = λ Γ d l h.
-              let v = one o (proj-at h (p .kind)) in
-              let z = typed (finding f l (v .left .holds)) e in
+              let v = proj-of (p .cell) h (p .kind) in
+              let z = typed (finding (f .finds) l (v .left .holds)) (f .is) in
               rw (v .is, z .is) (go _ _ (z .type) (z .holds));
         }
       where
         go : (m l : ℕ) (A : Ty) → HoldsType u x A → Answered s u n m i (Refused (Projection i)) (projected l (Infer.found A))
         go m l int h = (Projection i, refl, refl)
-        go m l top h = absurd (a (ap (λ (z : Cell). z .kind) t ∙ type-kind h))
+        go m l top h = absurd (a (ap (λ (z : Cell). z .kind) t ∙ kind-of-held h))
         go m l (arrow A B) h = (Projection i, refl, refl)
         go m l (inter A B) h = (Projection i, refl, refl)
-        go m l (field k A) h = absurd (b (ap (λ (z : Cell). z .kind) t ∙ type-kind h))
+        go m l (field k A) h = absurd (b (ap (λ (z : Cell). z .kind) t ∙ kind-of-held h))

@@ -52,10 +52,11 @@ Answered s t n m i r (Infer.found A) =
     (c : ℕ) × (k : ℕ) × (r ≡ Typed c k) × (n ≤ k) × (k ≤ n + m) × Same s t n × (c < k) × HoldsType t c A
 Answered s t n m i r (Infer.refused w p) = (q : Refusal) × (r ≡ Refused q) × (refusalAnswer q ≡ refused (reasonNumber w) (follow s i p))
 
+-- Finding: what infer says of the term in the context.
 pub record Finds (s t : List ℕ) (n c i : ℕ) (r : Found) : Type 0 where
   pub says : (Γ : List Ty) (e : Term) → HoldsContext s c Γ → HoldsTerm s i e → Answered s t n (size e) i r (infer Γ e)
 
--- Checking: also a wanted type.
+-- For checking, also a wanted type.
 pub record ReadyFor (s : List ℕ) (n c i w : ℕ) : Type 0 where
   pub ready : Ready s n c i
   pub wanted : Ty
@@ -67,6 +68,7 @@ abbrev pub checkedHere : Infer.Found → Ty → Infer.Found
 checkedHere (Infer.found C) A = cond (below? C A) (Infer.found A) (Infer.refused mismatch [])
 checkedHere (Infer.refused r p) A = Infer.refused r p
 
+-- Checking: what infer says of the term, checked against the wanted type.
 pub record Checks (s t : List ℕ) (n c i w : ℕ) (r : Found) : Type 0 where
   pub says : (Γ : List Ty) (e : Term) (A : Ty) → HoldsContext s c Γ → HoldsTerm s i e → HoldsType s w A →
       Answered s t n (size e) i r (checkedHere (infer Γ e) A)
@@ -77,10 +79,12 @@ pub record ContextAt (s : List ℕ) (c : ℕ) : Type 0 where
   pub context : List Ty
   pub holds : HoldsContext s c context
 
+-- A cell below c that holds the type; or none: the variable is free.
 abbrev pub BoundBy : (s : List ℕ) (c : ℕ) → Bound → Option Ty → Type 0
 BoundBy s c r none = r ≡ Free
 BoundBy s c r (some A) = (t : ℕ) × (r ≡ At t) × (t < c) × HoldsType s t A
 
+-- The answer for the variable that skips k binders.
 pub record Looks (s : List ℕ) (c k : ℕ) (r : Bound) : Type 0 where
   pub says : (Γ : List Ty) → HoldsContext s c Γ → BoundBy s c r (getElem? Γ k)
 

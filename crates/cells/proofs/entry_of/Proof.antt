@@ -1,10 +1,9 @@
 -- `cells::entry_of` meets its contract: the table's rule by one computed test. Assumes nothing.
-use Prim.Native.Nat.{ℕ}
 use native.Mathlib.Omega.{arith}
 use mathlib.Core.Path.{refl}
-use mathlib.Core.List.{List, [], _∷_}
+use mathlib.Core.List.{_∷_}
 use Rattle.format.specs.Table.{table, rowIn, rowOf}
-use Rattle.cells.proofs.Table.{digits, right-at}
+use Rattle.cells.proofs.Table.{lines, right-at}
 use borrow.Author.Needs.{needs}
 use Rattle.cells.proofs.entry_of.Statement.{statement}
 use Rattle.cells.proofs.entry_of.Tie as tie
@@ -33,30 +32,9 @@ cast-t19 c = search needs
 cast-t21 : tie.Need-cast-t21
 cast-t21 c = search needs
 
--- the code's table
-abbrev lines : List ℕ
-lines =
-    digits 0 0 0 0 0
-    ∷ digits 2 0 0 0 0
-    ∷ digits 2 0 0 0 0
-    ∷ digits 2 0 2 2 0
-    ∷ digits 2 0 2 2 0
-    ∷ digits 2 1 2 0 0
-    ∷ digits 3 0 1 0 0
-    ∷ digits 3 0 0 1 1
-    ∷ digits 3 0 0 0 0
-    ∷ digits 3 0 3 2 0
-    ∷ digits 3 0 3 3 0
-    ∷ digits 3 0 3 2 2
-    ∷ digits 3 0 3 3 0
-    ∷ digits 3 0 3 2 0
-    ∷ digits 3 1 3 0 0
-    ∷ digits 3 1 3 0 0
-    ∷ []
-
 returns : tie.Need-returns
 unfolding rowOf rowIn table
-returns c = right-at lines 0 refl (c .before .args .kind) _ (c .place .ensures .0) (omega arith)
+returns c = right-at (0 ∷ lines table) 0 refl (c .before .args .kind) _ (c .place .ensures .0) (omega arith)
 
 pub entry-of-spec : {M : Type 1} → statement M
 entry-of-spec =

@@ -1,6 +1,6 @@
 -- `emission::emit_run_to` meets its contract. Assumes nothing.
 use native.Mathlib.Omega.{arith}
-use Rattle.emission.proofs.Copies.{end-within, end-ready, end-emits}
+use Rattle.emission.proofs.Copies.{last-within, end-ready, end-emits}
 use borrow.Author.Needs.{needs}
 use Rattle.emission.proofs.emit_run_to.Statement.{statement}
 use Rattle.emission.proofs.emit_run_to.Tie as tie
@@ -11,7 +11,7 @@ begin-of-requires c κs =
 
 add-emit-run : tie.Need-add-emit-run
 add-emit-run c =
-    omega (arith, end-within (c .before .before .before .before .pre) (c .before .begin-of .ensures))
+    omega (arith, last-within (c .before .before .before .before .pre) (c .before .begin-of .ensures))
 
 emit-run-requires : tie.Need-emit-run-requires
 emit-run-requires c κs =

@@ -1,13 +1,13 @@
 -- The part by which a value is read: by the search in a merge, and any other value itself. Assumes nothing.
 use borrow.Author.Needs.{needs}
-use Rattle.cells.proofs.Held.{term-within}
+use Rattle.cells.proofs.Held.{held-within}
 use Rattle.emission.proofs.Runs.{holds-term}
 use Rattle.reading.proofs.Deciding.{found-part, itself-part}
 use Rattle.reading.proofs.part_of.Statement.{statement}
 use Rattle.reading.proofs.part_of.Tie as tie
 
 read-cell-requires : tie.Need-read-cell-requires
-read-cell-requires c κs = term-within (holds-term (c .before .pre .both .holds-value))
+read-cell-requires c κs = held-within (holds-term (c .before .pre .both .holds-value))
 
 find-part-requires : tie.Need-find-part-requires
 find-part-requires c κs = search needs

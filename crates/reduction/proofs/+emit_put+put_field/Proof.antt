@@ -4,12 +4,14 @@ use Prim.Native.Nat.{ℕ, _+_, _*_, _≤_, _<_}
 use native.Mathlib.Omega.{arith}
 use mathlib.Core.Path.{_∙_}
 use Rattle.cells.specs.Coded.{asCell}
-use Rattle.cells.proofs.Held.{term-within}
+use Rattle.cells.proofs.Held.{held-within}
 use Rattle.emission.proofs.Ends.{laid-full, laid-next, finishes-within}
 use Rattle.emission.proofs.Runs.{holds-term}
 use Rattle.reduction.specs.Steps.{sourceOf}
-use Rattle.reduction.proofs.Puts.{putMeasure, Started, Went, went, Parts, less, first-ready, none-first, second-ready, none-second, third-ready, none-third}
-use Rattle.reduction.proofs.Puts.{last-ready, all-put, variable-at, body-less, nothing-emits, copy-ready, copy-within, copy-emits, body-ready, body-emits}
+use Rattle.emission.proofs.Chain.{First, Second, Third, first, none-first, second-space, second, none-second, third-space, third, none-third, emitted}
+use Rattle.reduction.proofs.Puts.{putMeasure, Started, less, put-chain, put-ready, ready-a, each-a, ready-b, each-b, ready-c, each-c, bodies}
+use Rattle.reduction.proofs.Puts.{variable-at, body-less, nothing-emits, copy-ready, copy-within, copy-emits, body-ready, body-emits}
+use borrow.Author.Needs.{needs}
 use borrow.Fn.Kinds.{In}
 use borrow.Fn.PlainCycle.{Measures, is, falls, and}
 use Rattle.reduction.proofs.emit_put.Reads as emit-put
@@ -23,7 +25,7 @@ use Rattle.cells.proofs.read_cell.Reads as read-cell-reads
 use Rattle.emission.proofs.emit_run_to.Reads as emit-run-to-reads
 use Rattle.emission.proofs.end_of.Reads as end-of-reads
 use Rattle.emission.proofs.finish_row.Reads as finish-row-reads
-use Rattle.reduction.proofs.binders.Reads as binders-reads
+use Rattle.cells.proofs.binders.Reads as binders-reads
 use Rattle.reduction.proofs.put_variable.Reads as put-variable-reads
 use Rattle.reduction.proofs.+emit_put+put_field.{statement}
 use Rattle.reduction.proofs.+emit_put+put_field.Tie.{close}
@@ -54,67 +56,73 @@ emit-put-calls t = (read-cell-reads.Asked, read-cell-reads.Learnt, put-variable-
 abbrev put-field-calls : ℕ → put-field-lts.Claims
 put-field-calls t = (emit-run-to-reads.Asked, emit-run-to-reads.Learnt, end-of-reads.Asked, end-of-reads.Learnt, emit-put-below t, emit-put.Post)
 
--- what is known once the cell and its row are read, and after each part that fitted
-emit-put-started :
-    (t : ℕ) (c : emit-put-lts.After-binders (emit-put-calls t) (emit-put-at t) emit-put.Post) →
-    let at-entry-of = c .before in
-    let at-read-cell = at-entry-of .before .before .before in
-    let at = at-read-cell .before .before .before .args in
-    Started (at .s .now) (at .d .now) (at .i) (at .k) (at .m) (sourceOf (at .q)) (asCell (at-read-cell .read-cell .result)) (at-entry-of .entry-of .result) (c .binders .result)
-emit-put-started t c =
-    record {
-      ready = c .before .before .before .before .before .before .before .pre .1;
-      cell = c .before .before .before .before .read-cell .ensures;
-      inner = c .before .before .if1 .left;
-      row = c .before .entry-of .ensures;
-      skips = c .binders .ensures;
-      bytes = λ j. c .before .before .before .before .before .before .shared-slice-known .given j .fits;
-    }
+module _ (t : ℕ) where
+  -- the places that the answers look back to
+  abbrev at-read : emit-put-lts.After-binders (emit-put-calls t) (emit-put-at t) emit-put.Post → emit-put-lts.After-read-cell (emit-put-calls t) (emit-put-at t) emit-put.Post
+  at-read c = c .before .before .before .before
 
-emit-put-first :
-    (t : ℕ) (c : emit-put-lts.Else2 (emit-put-calls t) (emit-put-at t) emit-put.Post) →
-    let at-put-field = c .before .before .before in
-    let at-binders = at-put-field .before .before in
-    let at-entry-of = at-binders .before in
-    let at-read-cell = at-entry-of .before .before .before in
-    let at = at-read-cell .before .before .before .args in
-    Went (at .s .now) (at .d .now) (at-put-field .put-field .last .1 .0) (at-entry-of .entry-of .result .a) (at-read-cell .read-cell .result .a) (at-binders .binders .result) (at .m) (sourceOf (at .q)) (at-put-field .put-field .result)
-emit-put-first t c = went (c .before .before .before .put-field .ensures) (laid-next (c .if2 .left))
+  abbrev at-start : emit-put-lts.After-binders (emit-put-calls t) (emit-put-at t) emit-put.Post → emit-put-lts.Start (emit-put-calls t) (emit-put-at t) emit-put.Post
+  at-start c = c .before .before .before .before .before .before .before
 
-emit-put-second :
-    (t : ℕ) (c : emit-put-lts.Else3 (emit-put-calls t) (emit-put-at t) emit-put.Post) →
-    let at-put-field2 = c .before .before .before in
-    let at-put-field = at-put-field2 .before .before .before .before .before in
-    let at-entry-of = at-put-field .before .before .before in
-    let at-read-cell = at-entry-of .before .before .before in
-    let at = at-read-cell .before .before .before .args in
-    Went (at .s .now) (at-put-field .put-field .last .1 .0) (at-put-field2 .put-field2 .last .1 .0) (at-entry-of .entry-of .result .b) (at-read-cell .read-cell .result .b) (at .k) (at-put-field .put-field .result) (sourceOf (at .q)) (at-put-field2 .put-field2 .result)
-emit-put-second t c = went (c .before .before .before .put-field2 .ensures) (laid-next (c .if3 .left))
+  abbrev at-row : emit-put-lts.After-put-field (emit-put-calls t) (emit-put-at t) emit-put.Post → emit-put-lts.After-binders (emit-put-calls t) (emit-put-at t) emit-put.Post
+  at-row c = c .before .before
 
-emit-put-parts :
-    (t : ℕ) (c : emit-put-lts.Else4 (emit-put-calls t) (emit-put-at t) emit-put.Post) →
-    let at-put-field3 = c .before .before .before in
-    let at-put-field2 = at-put-field3 .before .before .before .before .before in
-    let at-put-field = at-put-field2 .before .before .before .before .before in
-    let at-binders = at-put-field .before .before in
-    let at-entry-of = at-binders .before in
-    let at-read-cell = at-entry-of .before .before .before in
-    let at = at-read-cell .before .before .before .args in
-    Parts (at .s .now) (at .d .now) (at-put-field .put-field .last .1 .0) (at-put-field2 .put-field2 .last .1 .0) (at-put-field3 .put-field3 .last .1 .0) (at .i) (at .k) (at .m)
-    (at-put-field .put-field .result) (at-put-field2 .put-field2 .result) (at-put-field3 .put-field3 .result) (sourceOf (at .q)) (asCell (at-read-cell .read-cell .result)) (at-entry-of .entry-of .result) (at-binders .binders .result)
-emit-put-parts t c =
-    let at-put-field3 = c .before .before .before in
-    let at-if3 = at-put-field3 .before .before in
-    let at-if2 = at-if3 .before .before .before .before .before in
-    record {
-      started = emit-put-started t (at-if2 .before .before .before .before .before);
-      first = emit-put-first t at-if2;
-      second = emit-put-second t at-if3;
-      third = went (at-put-field3 .put-field3 .ensures) (laid-next (c .if4 .left));
-    }
+  abbrev at-first : emit-put-lts.Else2 (emit-put-calls t) (emit-put-at t) emit-put.Post → emit-put-lts.After-put-field (emit-put-calls t) (emit-put-at t) emit-put.Post
+  at-first c = c .before .before .before
+
+  abbrev first-fits : emit-put-lts.After-put-field2 (emit-put-calls t) (emit-put-at t) emit-put.Post → emit-put-lts.Else2 (emit-put-calls t) (emit-put-at t) emit-put.Post
+  first-fits c = c .before .before
+
+  abbrev at-second : emit-put-lts.Else3 (emit-put-calls t) (emit-put-at t) emit-put.Post → emit-put-lts.After-put-field2 (emit-put-calls t) (emit-put-at t) emit-put.Post
+  at-second c = c .before .before .before
+
+  abbrev second-fits : emit-put-lts.After-put-field3 (emit-put-calls t) (emit-put-at t) emit-put.Post → emit-put-lts.Else3 (emit-put-calls t) (emit-put-at t) emit-put.Post
+  second-fits c = c .before .before
+
+  abbrev at-third : emit-put-lts.Else4 (emit-put-calls t) (emit-put-at t) emit-put.Post → emit-put-lts.After-put-field3 (emit-put-calls t) (emit-put-at t) emit-put.Post
+  at-third c = c .before .before .before
+
+  -- what is known once the cell and its row are read, and after each field that fitted
+  started :
+      (c : emit-put-lts.After-binders (emit-put-calls t) (emit-put-at t) emit-put.Post) →
+      let at = at-start c .args in
+      Started (at .s .now) (at .d .now) (at .i) (at .k) (at .m) (sourceOf (at .q)) (asCell (at-read c .read-cell .result)) (c .before .entry-of .result) (c .binders .result)
+  started c =
+      record {
+        ready = at-start c .pre .1;
+        read = record { cell = at-read c .read-cell .ensures; row = c .before .entry-of .ensures; bytes = λ j. at-read c .before .before .shared-slice-known .given j .fits };
+        inner = c .before .before .if1 .left;
+        skips = c .binders .ensures;
+      }
+
+  after-first :
+      (c : emit-put-lts.Else2 (emit-put-calls t) (emit-put-at t) emit-put.Post) →
+      let at = at-first c in First (put-chain (started (at-row at))) (at .put-field .last .1 .0) (at .put-field .result)
+  after-first c = let j = started (at-row (at-first c)) in first (put-chain j) (each-a j (at-first c .put-field .ensures)) (laid-next (c .if2 .left))
+
+  after-second :
+      (c : emit-put-lts.Else3 (emit-put-calls t) (emit-put-at t) emit-put.Post) →
+      let at-2 = at-second c in
+      let at = at-first (first-fits at-2) in
+      Second (put-chain (started (at-row at))) (at .put-field .last .1 .0) (at .put-field .result) (at-2 .put-field2 .last .1 .0) (at-2 .put-field2 .result)
+  after-second c =
+      let at = first-fits (at-second c) in
+      second (after-first at) (each-b (started (at-row (at-first at))) (at-second c .put-field2 .ensures)) (laid-next (c .if3 .left))
+
+  after-third :
+      (c : emit-put-lts.Else4 (emit-put-calls t) (emit-put-at t) emit-put.Post) →
+      let at-3 = at-third c in
+      let at-2 = at-second (second-fits at-3) in
+      let at = at-first (first-fits at-2) in
+      Third (put-chain (started (at-row at))) (at .put-field .last .1 .0) (at .put-field .result)
+      (at-2 .put-field2 .last .1 .0) (at-2 .put-field2 .result) (at-3 .put-field3 .last .1 .0) (at-3 .put-field3 .result)
+  after-third c =
+      let at = second-fits (at-third c) in
+      let j = started (at-row (at-first (first-fits (at-second at)))) in
+      third (after-second at) (each-c j (at-third c .put-field3 .ensures)) (laid-next (c .if4 .left))
 
 emit-put-read-cell-requires : (t : ℕ) → emit-put-lts.Need-read-cell-requires (emit-put-calls t) (emit-put-at t) emit-put.Post
-emit-put-read-cell-requires t c κs = term-within (holds-term (c .before .before .pre .1 .holds))
+emit-put-read-cell-requires t c κs = held-within (holds-term (c .before .before .pre .1 .holds))
 
 emit-put-put-variable-requires : (t : ℕ) → emit-put-lts.Need-put-variable-requires (emit-put-calls t) (emit-put-at t) emit-put.Post
 emit-put-put-variable-requires t c κs =
@@ -122,7 +130,7 @@ emit-put-put-variable-requires t c κs =
     variable-at (at-read-cell .read-cell .ensures) (c .before .if1 .taken) (at-read-cell .before .before .before .pre .1)
 
 emit-put-same-length : (t : ℕ) → emit-put-lts.Need-same-length (emit-put-calls t) (emit-put-at t) emit-put.Post
-emit-put-same-length t c = c .before .before .put-variable .kept .1 .0
+emit-put-same-length t c = search needs
 
 emit-put-returns : (t : ℕ) → emit-put-lts.Need-returns (emit-put-calls t) (emit-put-at t) emit-put.Post
 emit-put-returns t c = c .before .before .put-variable .ensures
@@ -134,73 +142,58 @@ emit-put-binders-requires : (t : ℕ) → emit-put-lts.Need-binders-requires (em
 emit-put-binders-requires t c κs = omega (arith, c .before .before .before .before .before .before .pre .1 .small)
 
 emit-put-put-field-requires : (t : ℕ) → emit-put-lts.Need-put-field-requires (emit-put-calls t) (emit-put-at t) emit-put.Post
-emit-put-put-field-requires t c κs =
-    let at-start = c .before .before .before .before .before .before .before .before in
-    let j = emit-put-started t (c .before) in (less j (at-start .pre .0) .0, first-ready j)
+emit-put-put-field-requires t c κs = let j = started t (c .before) in (less j (at-start t (c .before) .pre .0) .0, ready-a j)
 
 emit-put-same-length-2 : (t : ℕ) → emit-put-lts.Need-same-length-2 (emit-put-calls t) (emit-put-at t) emit-put.Post
-emit-put-same-length-2 t c = c .before .before .before .put-field .kept .1 .0
+emit-put-same-length-2 t c = search needs
 
 emit-put-returns-2 : (t : ℕ) → emit-put-lts.Need-returns-2 (emit-put-calls t) (emit-put-at t) emit-put.Post
 emit-put-returns-2 t c =
-    let at-put-field = c .before .before .before in
-    none-first (emit-put-started t (at-put-field .before .before)) (at-put-field .put-field .ensures) (laid-full (c .if2 .taken))
+    let at = c .before .before .before in
+    let j = started t (at-row t at) in bodies (none-first (put-chain j) (each-a j (at .put-field .ensures)) (laid-full (c .if2 .taken)))
 
 emit-put-put-field-requires-2 : (t : ℕ) → emit-put-lts.Need-put-field-requires-2 (emit-put-calls t) (emit-put-at t) emit-put.Post
 emit-put-put-field-requires-2 t c κs =
-    let at-if2 = c .before in
-    let at-binders = at-if2 .before .before .before .before .before in
-    let at-start = at-binders .before .before .before .before .before .before .before in
-    let j = emit-put-started t at-binders in (less j (at-start .pre .0) .1, second-ready j (emit-put-first t at-if2))
+    let at = at-row t (at-first t (c .before)) in
+    let j = started t at in (less j (at-start t at .pre .0) .1, ready-b j (second-space (after-first t (c .before))))
 
 emit-put-same-length-3 : (t : ℕ) → emit-put-lts.Need-same-length-3 (emit-put-calls t) (emit-put-at t) emit-put.Post
-emit-put-same-length-3 t c =
-    let at-put-field2 = c .before .before .before in at-put-field2 .put-field2 .kept .1 .0 ∙ at-put-field2 .before .before .before .before .before .put-field .kept .1 .0
+emit-put-same-length-3 t c = search needs
 
 emit-put-returns-3 : (t : ℕ) → emit-put-lts.Need-returns-3 (emit-put-calls t) (emit-put-at t) emit-put.Post
 emit-put-returns-3 t c =
-    let at-put-field2 = c .before .before .before in
-    let at-if2 = at-put-field2 .before .before in
-    none-second (emit-put-started t (at-if2 .before .before .before .before .before)) (emit-put-first t at-if2) (at-put-field2 .put-field2 .ensures) (laid-full (c .if3 .taken))
+    let at-2 = c .before .before .before in
+    let at = first-fits t at-2 in
+    bodies (none-second (after-first t at) (each-b (started t (at-row t (at-first t at))) (at-2 .put-field2 .ensures)) (laid-full (c .if3 .taken)))
 
 emit-put-put-field-requires-3 : (t : ℕ) → emit-put-lts.Need-put-field-requires-3 (emit-put-calls t) (emit-put-at t) emit-put.Post
 emit-put-put-field-requires-3 t c κs =
-    let at-if3 = c .before in
-    let at-if2 = at-if3 .before .before .before .before .before in
-    let at-binders = at-if2 .before .before .before .before .before in
-    let at-start = at-binders .before .before .before .before .before .before .before in
-    let j = emit-put-started t at-binders in (less j (at-start .pre .0) .2, third-ready j (emit-put-first t at-if2) (emit-put-second t at-if3))
+    let at = at-row t (at-first t (first-fits t (at-second t (c .before)))) in
+    let j = started t at in (less j (at-start t at .pre .0) .2, ready-c j (third-space (after-second t (c .before))))
 
 emit-put-same-length-4 : (t : ℕ) → emit-put-lts.Need-same-length-4 (emit-put-calls t) (emit-put-at t) emit-put.Post
-emit-put-same-length-4 t c =
-    let at-put-field3 = c .before .before .before in
-    let at-put-field2 = at-put-field3 .before .before .before .before .before in
-    at-put-field3 .put-field3 .kept .1 .0 ∙ at-put-field2 .put-field2 .kept .1 .0 ∙ at-put-field2 .before .before .before .before .before .put-field .kept .1 .0
+emit-put-same-length-4 t c = search needs
 
 emit-put-returns-4 : (t : ℕ) → emit-put-lts.Need-returns-4 (emit-put-calls t) (emit-put-at t) emit-put.Post
 emit-put-returns-4 t c =
-    let at-put-field3 = c .before .before .before in
-    let at-if3 = at-put-field3 .before .before in
-    let at-if2 = at-if3 .before .before .before .before .before in
-    none-third (emit-put-started t (at-if2 .before .before .before .before .before)) (emit-put-first t at-if2) (emit-put-second t at-if3) (at-put-field3 .put-field3 .ensures) (laid-full (c .if4 .taken))
+    let at-3 = c .before .before .before in
+    let at = second-fits t at-3 in
+    let j = started t (at-row t (at-first t (first-fits t (at-second t at)))) in
+    bodies (none-third (after-second t at) (each-c j (at-3 .put-field3 .ensures)) (laid-full (c .if4 .taken)))
 
 emit-put-finish-row-requires : (t : ℕ) → emit-put-lts.Need-finish-row-requires (emit-put-calls t) (emit-put-at t) emit-put.Post
-emit-put-finish-row-requires t c κs = last-ready (emit-put-parts t (c .before))
+emit-put-finish-row-requires t c κs = put-ready _ (after-third t (c .before))
 
 emit-put-end-of-requires : (t : ℕ) → emit-put-lts.Need-end-of-requires (emit-put-calls t) (emit-put-at t) emit-put.Post
 emit-put-end-of-requires t c κs = finishes-within (c .before .before .finish-row .ensures)
 
 emit-put-same-length-5 : (t : ℕ) → emit-put-lts.Need-same-length-5 (emit-put-calls t) (emit-put-at t) emit-put.Post
-emit-put-same-length-5 t c =
-    let at-finish-row = c .before .before .before in
-    let at-put-field3 = at-finish-row .before .before .before .before .before in
-    let at-put-field2 = at-put-field3 .before .before .before .before .before in
-    at-finish-row .finish-row .kept .0 ∙ at-put-field3 .put-field3 .kept .1 .0 ∙ at-put-field2 .put-field2 .kept .1 .0 ∙ at-put-field2 .before .before .before .before .before .put-field .kept .1 .0
+emit-put-same-length-5 t c = search needs
 
 emit-put-returns-5 : (t : ℕ) → emit-put-lts.Need-returns-5 (emit-put-calls t) (emit-put-at t) emit-put.Post
 emit-put-returns-5 t c =
-    let at-finish-row = c .before .before .before in
-    rw (c .end-of .ensures) (all-put (emit-put-parts t (at-finish-row .before .before)) (at-finish-row .finish-row .ensures))
+    let at = c .before .before .before in
+    rw (c .end-of .ensures) (bodies (emitted (after-third t (at .before .before)) (at .finish-row .ensures)))
 
 put-field-returns : (t : ℕ) → put-field-lts.Need-returns (put-field-calls t) (put-field-at t) put-field.Post
 put-field-returns t c = nothing-emits (c .if1 .taken) (c .before .before .before .pre .1)
@@ -215,7 +208,7 @@ put-field-end-of-requires t c κs =
     copy-within (at-if2 .if2 .taken) (at-if2 .before .before .before .before .pre .1) (at-emit-run-to .emit-run-to .ensures)
 
 put-field-same-length : (t : ℕ) → put-field-lts.Need-same-length (put-field-calls t) (put-field-at t) put-field.Post
-put-field-same-length t c = c .before .before .before .emit-run-to .kept .1 .0
+put-field-same-length t c = search needs
 
 put-field-returns-2 : (t : ℕ) → put-field-lts.Need-returns-2 (put-field-calls t) (put-field-at t) put-field.Post
 put-field-returns-2 t c =
@@ -225,13 +218,13 @@ put-field-returns-2 t c =
 put-field-emit-put-requires : (t : ℕ) → put-field-lts.Need-emit-put-requires (put-field-calls t) (put-field-at t) put-field.Post
 put-field-emit-put-requires t c κs =
     let at-if2 = c .before in
-    let at-if1 = c .before .before in
-    let at-start = c .before .before .before .before .before in
+    let at-if1 = at-if2 .before in
+    let at-start = at-if1 .before .before .before in
     let more : 3 ≤ at-start .args .u = omega (arith, at-if1 .if1 .left, at-if2 .if2 .left) in
     (body-less (at-start .args .u) (at-start .args .n) more (at-start .pre .0), body-ready more (at-start .pre .1))
 
 put-field-same-length-2 : (t : ℕ) → put-field-lts.Need-same-length-2 (put-field-calls t) (put-field-at t) put-field.Post
-put-field-same-length-2 t c = c .before .before .emit-put .kept .1 .0
+put-field-same-length-2 t c = search needs
 
 put-field-returns-3 : (t : ℕ) → put-field-lts.Need-returns-3 (put-field-calls t) (put-field-at t) put-field.Post
 put-field-returns-3 t c =

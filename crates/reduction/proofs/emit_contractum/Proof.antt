@@ -11,11 +11,11 @@ read-cell-requires c κs =
 
 emit-reading-requires : tie.Need-emit-reading-requires
 emit-reading-requires c κs =
-    read-ready (c .before .before .read-cell .ensures) (c .before .before .before .before .before .pre) (c .before .match .keys1)
+    let at = c .before .before in read-ready (at .read-cell .ensures) (at .before .before .before .pre) (c .before .match .keys1)
 
 next-apply-requires : tie.Need-next-apply-requires
 next-apply-requires c κs =
-    at-kind (c .before .before .read-cell .ensures) (c .before .before .before .before .before .pre) (c .before .match .keys2)
+    let at = c .before .before in at-kind (at .read-cell .ensures) (at .before .before .before .pre) (c .before .match .keys2)
 
 next-fix-requires : tie.Need-next-fix-requires
 next-fix-requires c κs =

@@ -2,18 +2,48 @@
 use mathlib.Core.Path.{refl}
 use borrow.Author.Needs.{needs}
 use Rattle.emission.specs.Emits.{laidOf}
+use Rattle.emission.proofs.Chain.{First, Third, first, none-first, second-space, second, none-second, third-none, ends, last-ready, emitted}
+use Rattle.emission.proofs.Copies.{run-ready}
 use Rattle.emission.proofs.Ends.{laid-full, laid-next}
 use Rattle.reduction.specs.Steps.{EmitsPut}
-use Rattle.reduction.proofs.Opens.{renamed-ready, renamed-emits, opened-none, type-ready, opened-no-type, opened-filled, opened-last, opened-emits}
+use Rattle.reduction.proofs.Opens.{renamed-ready, renamed-emits, opening, opened-chain, body-each, type-each}
 use Rattle.reduction.proofs.emit_opened.Statement.{statement}
 use Rattle.reduction.proofs.emit_opened.Tie as tie
+
+-- the places that the answers look back to
+abbrev at-start : tie.After-emit-put → tie.Start
+at-start c = c .before .before .before .before .before
+
+abbrev at-body : tie.Else1 → tie.After-emit-put
+at-body c = c .before .before .before
+
+abbrev at-type : tie.After-y → tie.After-emit-run-to
+at-type c = c .before .before .before .before
 
 -- the body, with the source itself put in
 body :
     (c : tie.After-emit-put) →
-    let at = c .before .before .before .before .before .args in
+    let at = at-start c .args in
     EmitsPut (at .s .now) (at .d .now) (c .emit-put .last .1 .0) (at .body) 0 (at .m) (at .p) (laidOf (c .emit-put .result))
 body c = renamed-emits (c .before .before .pack .ensures) (c .emit-put .ensures)
+
+-- what is known after each part that fitted
+after-body :
+    (c : tie.Else1) → First (opened-chain (at-start (at-body c) .pre)) (at-body c .emit-put .last .1 .0) (at-body c .emit-put .result)
+after-body c =
+    let at = at-body c in
+    let o = at-start at .pre in first (opened-chain o) (body-each o (body at)) (laid-next (c .if1 .left))
+
+after-type :
+    (c : tie.After-y) →
+    let at-2 = at-type c in
+    let at = at-body (at-2 .before .before) in
+    Third (opened-chain (at-start at .pre)) (at .emit-put .last .1 .0) (at .emit-put .result)
+    (at-2 .emit-run-to .last .1 .0) (c .y .given .0 .0) (at-2 .emit-run-to .last .1 .0) (c .y .given .0 .0)
+after-type c =
+    let at = at-type c in
+    let at-if1 = at .before .before in
+    third-none (second (after-body at-if1) (type-each (at-start (at-body at-if1) .pre) (at .emit-run-to .ensures)) (c .y .given .1)) refl
 
 pack-requires : tie.Need-pack-requires
 pack-requires c κs = search needs
@@ -25,14 +55,12 @@ same-length : tie.Need-same-length
 same-length c = search needs
 
 returns : tie.Need-returns
-returns c = opened-none (body (c .before .before .before)) (laid-full (c .if1 .taken))
+returns c =
+    let at = c .before .before .before in
+    let o = at-start at .pre in opening (none-first (opened-chain o) (body-each o (body at)) (laid-full (c .if1 .taken)))
 
 emit-run-to-requires : tie.Need-emit-run-to-requires
-emit-run-to-requires c κs =
-    let at-if1 = c .before in
-    let at-emit-put = at-if1 .before .before .before in
-    let at-start = at-emit-put .before .before .before .before .before in
-    type-ready (body at-emit-put) (laid-next (at-if1 .if1 .left)) (at-start .pre)
+emit-run-to-requires c κs = let at = c .before in run-ready (at-start (at-body at) .pre .holds .run) (second-space (after-body at))
 
 enum-known-y : tie.Need-enum-known-y
 enum-known-y c = search needs
@@ -45,48 +73,24 @@ same-length-2 c = search needs
 
 returns-2 : tie.Need-returns-2
 returns-2 c =
-    let at-emit-run-to = c .before .before .before .before in
-    let at-if1 = at-emit-run-to .before .before in
-    opened-no-type (body (at-if1 .before .before .before)) (laid-next (at-if1 .if1 .left)) (at-emit-run-to .emit-run-to .ensures) (c .enum-told .given .1)
+    let at = c .before .before .before .before in
+    let at-if1 = at .before .before in
+    opening (none-second (after-body at-if1) (type-each (at-start (at-body at-if1) .pre) (at .emit-run-to .ensures)) (c .enum-told .given .1))
 
 sub-t18 : tie.Need-sub-t18
-sub-t18 c =
-    let at-y = c .before .before in
-    let at-emit-run-to = at-y .before .before .before .before in
-    let at-if1 = at-emit-run-to .before .before in
-    let at-emit-put = at-if1 .before .before .before in
-    let at-start = at-emit-put .before .before .before .before .before in
-    opened-filled (body at-emit-put) (laid-next (at-if1 .if1 .left)) (at-emit-run-to .emit-run-to .ensures) (at-y .y .given .1) (at-start .pre) .0
+sub-t18 c = ends (after-type (c .before .before)) .0
 
 sub-t19 : tie.Need-sub-t19
-sub-t19 c =
-    let at-y = c .before .before in
-    let at-emit-run-to = at-y .before .before .before .before in
-    let at-if1 = at-emit-run-to .before .before in
-    let at-emit-put = at-if1 .before .before .before in
-    let at-start = at-emit-put .before .before .before .before .before in
-    opened-filled (body at-emit-put) (laid-next (at-if1 .if1 .left)) (at-emit-run-to .emit-run-to .ensures) (at-y .y .given .1) (at-start .pre) .1
+sub-t19 c = ends (after-type (c .before .before)) .1
 
 finish-requires : tie.Need-finish-requires
-finish-requires c κs =
-    let at-y = c .before .before in
-    let at-emit-run-to = at-y .before .before .before .before in
-    let at-if1 = at-emit-run-to .before .before in
-    let at-emit-put = at-if1 .before .before .before in
-    let at-start = at-emit-put .before .before .before .before .before in
-    opened-last (body at-emit-put) (laid-next (at-if1 .if1 .left)) (at-emit-run-to .emit-run-to .ensures) (at-y .y .given .1) (at-start .pre) refl refl refl
+finish-requires c κs = last-ready (after-type (c .before .before))
 
 same-length-3 : tie.Need-same-length-3
 same-length-3 c = search needs
 
 returns-3 : tie.Need-returns-3
-returns-3 c =
-    let at-finish = c .before .before in
-    let at-y = at-finish .before .before .before in
-    let at-emit-run-to = at-y .before .before .before .before in
-    let at-if1 = at-emit-run-to .before .before in
-    opened-emits (body (at-if1 .before .before .before)) (laid-next (at-if1 .if1 .left)) (at-emit-run-to .emit-run-to .ensures) (at-y .y .given .1)
-    (at-finish .finish .ensures)
+returns-3 c = let at = c .before .before in opening (emitted (after-type (at .before .before .before)) (at .finish .ensures))
 
 pub emit-opened-spec : {M : Type 1} → statement M
 emit-opened-spec =

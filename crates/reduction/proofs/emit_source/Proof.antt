@@ -7,15 +7,15 @@ use Rattle.reduction.proofs.emit_source.Tie as tie
 
 emit-reading-requires : tie.Need-emit-reading-requires
 emit-reading-requires c κs =
-    reading-ready (c .before .if1 .taken) (c .before .before .before .before .before .pre)
+    let at = c .before in reading-ready (at .if1 .taken) (at .before .before .before .before .pre)
 
 add-emit-run : tie.Need-add-emit-run
 add-emit-run c =
-    omega (arith, standing-within (c .before .before .if1 .left) (c .before .before .before .before .before .before .pre))
+    let at = c .before .before in omega (arith, standing-within (at .if1 .left) (at .before .before .before .before .pre))
 
 emit-run-requires : tie.Need-emit-run-requires
 emit-run-requires c κs =
-    standing-ready (c .before .before .if1 .left) (c .before .before .before .before .before .before .pre)
+    let at = c .before .before in standing-ready (at .if1 .left) (at .before .before .before .before .pre)
 
 same-length : tie.Need-same-length
 same-length c =
@@ -23,7 +23,7 @@ same-length c =
 
 returns : tie.Need-returns
 returns c =
-    reading-emits (c .before .before .before .before .if1 .taken) (c .before .before .emit-reading .ensures)
+    let at = c .before .before in reading-emits (at .before .before .if1 .taken) (at .emit-reading .ensures)
 
 same-length-2 : tie.Need-same-length-2
 same-length-2 c =
@@ -31,7 +31,7 @@ same-length-2 c =
 
 returns-2 : tie.Need-returns-2
 returns-2 c =
-    standing-emits (c .before .before .before .before .before .if1 .left) (c .before .before .emit-run .ensures)
+    let at = c .before .before in standing-emits (at .before .before .before .if1 .left) (at .emit-run .ensures)
 
 pub emit-source-spec : {M : Type 1} → statement M
 emit-source-spec =

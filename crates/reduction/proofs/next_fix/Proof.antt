@@ -15,7 +15,7 @@ begin-of-requires c κs =
 
 emit-opened-requires : tie.Need-emit-opened-requires
 emit-opened-requires c κs =
-    fix-ready (c .before .before .before .before .before .pre) (c .before .begin-of .ensures) (c .before .before .read-cell .ensures)
+    let at = c .before .before in fix-ready (at .before .before .before .pre) (c .before .begin-of .ensures) (at .read-cell .ensures)
 
 same-length : tie.Need-same-length
 same-length c =

@@ -1,47 +1,54 @@
 -- `reduction::put_variable` meets its contract. Assumes nothing.
 use borrow.Author.Needs.{needs}
-use Rattle.cells.proofs.Held.{term-within}
+use Rattle.cells.specs.Coded.{asCell}
+use Rattle.cells.proofs.Held.{held-within}
 use Rattle.emission.proofs.Ends.{finishes-within}
 use Rattle.emission.proofs.Runs.{holds-term}
-use Rattle.reduction.proofs.Puts.{source-put, variable-ready, variable-kept}
+use Rattle.reduction.specs.Steps.{sourceOf, EmitsSource}
+use Rattle.reduction.proofs.Puts.{AtVariable, source-put, variable-ready, variable-kept}
 use Rattle.reduction.proofs.Sources.{source-within}
 use Rattle.reduction.proofs.put_variable.Statement.{statement}
 use Rattle.reduction.proofs.put_variable.Tie as tie
 
+-- what is known once the cell is read, and of the source that was emitted
+variable :
+    (c : tie.After-read-cell) →
+    let at = c .before .before .before .args in
+    AtVariable (at .s .now) (at .d .now) (at .i) (at .k) (at .m) (sourceOf (at .q)) (asCell (c .read-cell .result))
+variable c =
+    let at = c .before .before in record { ready = at .before .pre; cell = c .read-cell .ensures; bytes = λ j. at .shared-slice-known .given j .fits }
+
+abbrev at-variable : tie.After-emit-source → tie.After-read-cell
+at-variable c = c .before .before .before .before .before
+
+source :
+    (c : tie.After-emit-source) →
+    let at = at-variable c .before .before .before .args in
+    EmitsSource (at .s .now) (at .d .now) (c .emit-source .last .1 .0) (at .m) (sourceOf (at .q)) (c .emit-source .result)
+source c = rw (c .before .before .unpack .ensures) at (c .emit-source .ensures)
+
 read-cell-requires : tie.Need-read-cell-requires
-read-cell-requires c κs = term-within (holds-term (c .before .before .pre .ready .holds))
+read-cell-requires c κs = held-within (holds-term (c .before .before .pre .ready .holds))
 
 unpack-requires : tie.Need-unpack-requires
 unpack-requires c κs = search needs
 
 emit-source-requires : tie.Need-emit-source-requires
-emit-source-requires c κs = rw (c .before .unpack .ensures) (c .before .before .before .before .before .before .before .pre .ready .source)
+emit-source-requires c κs = rw (c .before .unpack .ensures) (variable (c .before .before .before .before) .ready .ready .source)
 
 end-of-requires : tie.Need-end-of-requires
-end-of-requires c κs =
-    let at-emit-source = c .before .before in
-    let at-unpack = at-emit-source .before .before in
-    let at-start = at-unpack .before .before .before .before .before .before in
-    source-within (at-start .pre .ready .source) (rw (at-unpack .unpack .ensures) at (at-emit-source .emit-source .ensures))
+end-of-requires c κs = let at = c .before .before in source-within (variable (at-variable at) .ready .ready .source) (source at)
 
 same-length : tie.Need-same-length
 same-length c = search needs
 
 returns : tie.Need-returns
 returns c =
-    let at-emit-source = c .before .before .before in
-    let at-unpack = at-emit-source .before .before in
-    let at-if1 = at-unpack .before in
-    let at-read-cell = at-if1 .before .before in
-    let at-start = at-read-cell .before .before .before in
-    let is = at-read-cell .read-cell .ensures in
-    rw (c .end-of .ensures) (source-put is (rw (← is) at (at-start .pre .kind)) (at-if1 .if1 .taken) (rw (at-unpack .unpack .ensures) at (at-emit-source .emit-source .ensures)))
+    let at = c .before .before .before in
+    rw (c .end-of .ensures) (source-put (variable (at-variable at)) (at .before .before .before .if1 .taken) (source at))
 
 finish-requires : tie.Need-finish-requires
-finish-requires c κs =
-    let at-read-cell = c .before .before .before in
-    let at-known = at-read-cell .before .before in
-    variable-ready _ _ (λ j. at-known .shared-slice-known .given j .fits) (at-read-cell .read-cell .ensures) (at-known .before .pre .ready .source .space)
+finish-requires c κs = variable-ready (variable (c .before .before .before))
 
 end-of-requires-2 : tie.Need-end-of-requires-2
 end-of-requires-2 c κs = finishes-within (c .before .before .finish .ensures)
@@ -51,12 +58,9 @@ same-length-2 c = search needs
 
 returns-2 : tie.Need-returns-2
 returns-2 c =
-    let at-finish = c .before .before .before in
-    let at-if1 = at-finish .before .before in
-    let at-read-cell = at-if1 .before .before in
-    let at-start = at-read-cell .before .before .before in
-    let is = at-read-cell .read-cell .ensures in
-    rw (c .end-of2 .ensures) (variable-kept is (rw (← is) at (at-start .pre .kind)) (at-start .pre .ready .source .space .used) (at-if1 .if1 .left) (at-finish .finish .ensures))
+    let at = c .before .before .before in
+    let at-if1 = at .before .before in
+    rw (c .end-of2 .ensures) (variable-kept (variable (at-if1 .before .before)) (at-if1 .if1 .left) (at .finish .ensures))
 
 pub put-variable-spec : {M : Type 1} → statement M
 put-variable-spec =

@@ -6,20 +6,16 @@ use Rattle.running.proofs.contract.Statement.{statement}
 use Rattle.running.proofs.contract.Tie as tie
 
 read-cell-requires : tie.Need-read-cell-requires
-read-cell-requires c κs =
-    redex-within (c .before .before .before .pre .ready .standing)
+read-cell-requires c κs = search redex-within
 
 contract-anno-requires : tie.Need-contract-anno-requires
-contract-anno-requires c κs =
-    record { contracting = c .before .before .before .before .before .before .before .pre; cell = c .before .before .before .read-cell .ensures; kind = c .before .before .match .keys1 }
+contract-anno-requires c κs = search
 
 project-requires : tie.Need-project-requires
-project-requires c κs =
-    record { ready = c .before .before .before .before .before .before .pre .ready; cell = c .before .before .read-cell .ensures; kind = c .before .match .keys2 }
+project-requires c κs = search
 
 contract-through-requires : tie.Need-contract-through-requires
-contract-through-requires c κs =
-    record { contracting = c .before .before .before .before .before .before .before .pre; cell = c .before .before .before .read-cell .ensures; kind = c .before .before .match .rest .1 }
+contract-through-requires c κs = search
 
 same-length : tie.Need-same-length
 same-length c = search needs
@@ -34,8 +30,7 @@ same-length-3 : tie.Need-same-length-3
 same-length-3 c = search needs
 
 returns-2 : tie.Need-returns-2
-returns-2 c =
-    contracts-here (c .project .ensures)
+returns-2 c = search contracts-here
 
 same-length-4 : tie.Need-same-length-4
 same-length-4 c = search needs

@@ -14,15 +14,13 @@ enum-told : tie.Need-enum-told
 enum-told c = search needs
 
 contract-through-requires : tie.Need-contract-through-requires
-contract-through-requires c κs =
-    still-emitting (c .before .before .before .before .before .before .before .before .before .before .pre) (c .before .before .before .before .before .before .read-here .ensures) (c .before .before .enum-told .given .1)
+contract-through-requires c κs = search still-emitting
 
 same-length : tie.Need-same-length
 same-length c = search needs
 
 returns : tie.Need-returns
-returns c =
-    became-is (c .before .before .before .before .before .read-here .ensures) (c .before .x .given .1)
+returns c = search became-is
 
 same-length-2 : tie.Need-same-length-2
 same-length-2 c = search needs
@@ -31,8 +29,7 @@ same-length-3 : tie.Need-same-length-3
 same-length-3 c = search needs
 
 returns-2 : tie.Need-returns-2
-returns-2 c =
-    still-contracts (c .before .before .before .before .before .before .before .before .before .before .before .read-here .ensures) (c .before .before .before .before .before .before .before .enum-told .given .1) (c .before .before .before .before .contract-through .ensures)
+returns-2 c = search still-contracts
 
 pub contract-anno-spec : {M : Type 1} → statement M
 contract-anno-spec =

@@ -8,58 +8,49 @@ enum-known-focus : tie.Need-enum-known-focus
 enum-known-focus c = search needs
 
 unwind-requires : tie.Need-unwind-requires
-unwind-requires c κs =
-    unwinds-ahead (c .before .before .before .before .before .pre) (c .before .before .focus .given .1)
+unwind-requires c κs = search unwinds-ahead
 
 enum-known-focus-2 : tie.Need-enum-known-focus-2
 enum-known-focus-2 c = search needs
 
 sub-unwind : tie.Need-sub-unwind
-sub-unwind c =
-    done-some (c .before .before .before .before .before .before .pre) (c .before .before .before .focus2 .given .1)
+sub-unwind c = search done-some
 
 unwind-requires-2 : tie.Need-unwind-requires-2
-unwind-requires-2 c κs =
-    unwinds-done (c .before .before .before .before .before .before .pre) (c .before .before .before .focus2 .given .1)
+unwind-requires-2 c κs = search unwinds-done
 
 enum-known-focus-3 : tie.Need-enum-known-focus-3
 enum-known-focus-3 c = search needs
 
 unwind-requires-3 : tie.Need-unwind-requires-3
-unwind-requires-3 c κs =
-    unwinds-redex (c .before .before .before .before .before .pre) (c .before .before .focus3 .given .1)
+unwind-requires-3 c κs = search unwinds-redex
 
 enum-known-focus-4 : tie.Need-enum-known-focus-4
 enum-known-focus-4 c = search needs
 
 sub-result : tie.Need-sub-result
-sub-result c =
-    whole-some (c .before .before .before .before .before .pre) (c .before .before .focus4 .given .1)
+sub-result c = search whole-some
 
 same-length : tie.Need-same-length
 same-length c = search needs
 
 returns : tie.Need-returns
-returns c =
-    holds-ahead (c .before .before .before .before .before .focus .given .1) (c .before .before .unwind .ensures)
+returns c = search holds-ahead
 
 same-length-2 : tie.Need-same-length-2
 same-length-2 c = search needs
 
 returns-2 : tie.Need-returns-2
-returns-2 c =
-    holds-done (c .before .before .before .before .before .before .focus2 .given .1) (c .before .before .unwind2 .ensures)
+returns-2 c = search holds-done
 
 same-length-3 : tie.Need-same-length-3
 same-length-3 c = search needs
 
 returns-3 : tie.Need-returns-3
-returns-3 c =
-    holds-redex (c .before .before .before .before .before .focus3 .given .1) (c .before .before .unwind3 .ensures)
+returns-3 c = search holds-redex
 
 returns-4 : tie.Need-returns-4
-returns-4 c =
-    holds-whole (c .before .before .focus4 .given .1)
+returns-4 c = search holds-whole
 
 pub hold-spec : {M : Type 1} → statement M
 hold-spec =

@@ -1,54 +1,41 @@
 -- `running::install` meets its contract. Assumes nothing.
-use mathlib.Core.Path.{sym, ap, _∙_, subst}
-use Rattle.format.specs.Cell.{Cell}
+use mathlib.Core.Path.{sym, subst}
 use Rattle.running.specs.Places.{Installs}
+use Rattle.running.proofs.Halving.{halving}
 use Rattle.running.proofs.Contracting.{ordered, root-low, place-left, installs-left, last-some, last-within, inside-within}
 use borrow.Author.Needs.{needs}
 use Rattle.running.proofs.install.Statement.{statement}
 use Rattle.running.proofs.install.Tie as tie
 
 sub-n : tie.Need-sub-n
-sub-n c =
-    ordered (c .before .before .before .pre)
+sub-n c = search ordered
 
 place-requires : tie.Need-place-requires
-place-requires c κs =
-    place-left (c .before .before .before .before .pre)
+place-requires c κs = search place-left
 
 add-became : tie.Need-add-became
 add-became c = search needs
 
 became-requires : tie.Need-became-requires
-became-requires c κs =
-    root-low (c .before .before .before .before .before .before .before .before .pre)
+became-requires c κs = search root-low
 
 same-length : tie.Need-same-length
 same-length c = search needs
 
 returns : tie.Need-returns
-returns c =
-    subst (Installs _ _ _ _ _ _ _) (sym (c .became .ensures)) (installs-left (c .before .before .before .before .before .before .before .before .before .pre) (c .before .before .before .before .before .before .if1 .taken) (c .before .before .before .before .place .ensures))
+returns c = subst (Installs _ _ _ _ _ _ _) (sym (c .became .ensures)) (search installs-left)
 
 sub-read-cell : tie.Need-sub-read-cell
-sub-read-cell c =
-    last-some (c .before .before .before .pre)
+sub-read-cell c = search last-some
 
 read-cell-requires : tie.Need-read-cell-requires
-read-cell-requires c κs =
-    last-within (c .before .before .before .pre)
+read-cell-requires c κs = search last-within
 
 read-cell-requires-2 : tie.Need-read-cell-requires-2
-read-cell-requires-2 c κs =
-    inside-within (c .before .before .before .before .before .before .pre) _ (c .before .before .read-cell .ensures) (c .if2 .taken)
+read-cell-requires-2 c κs = search inside-within
 
 install-halves-requires : tie.Need-install-halves-requires
-install-halves-requires c κs =
-    record {
-      installing = c .before .before .before .before .before .before .before .before .before .before .pre;
-      annotated = sym (ap (λ (q : Cell). q .kind) (c .before .before .before .before .before .before .read-cell .ensures)) ∙ c .before .before .before .before .if2 .taken;
-      inside = ap (λ (q : Cell). q .a) (c .before .before .before .before .before .before .read-cell .ensures);
-      function = sym (ap (λ (q : Cell). q .kind) (c .before .before .before .read-cell2 .ensures)) ∙ c .before .if3 .taken;
-    }
+install-halves-requires c κs = search halving
 
 same-length-2 : tie.Need-same-length-2
 same-length-2 c = search needs

@@ -6,26 +6,22 @@ use Rattle.running.proofs.install_ahead.Statement.{statement}
 use Rattle.running.proofs.install_ahead.Tie as tie
 
 sub-n : tie.Need-sub-n
-sub-n c =
-    ordered (c .before .before .pre)
+sub-n c = search ordered
 
 add-right : tie.Need-add-right
-add-right c =
-    omega (arith, root-low (c .before .before .before .pre))
+add-right c = omega (arith, root-low)
 
 sub-right : tie.Need-sub-right
 sub-right c = search needs
 
 place-requires : tie.Need-place-requires
-place-requires c κs =
-    place-right (c .before .before .before .before .pre)
+place-requires c κs = search place-right
 
 same-length : tie.Need-same-length
 same-length c = search needs
 
 returns : tie.Need-returns
-returns c =
-    installs-right (c .before .before .before .before .before .before .before .pre) (c .before .before .place .ensures)
+returns c = search installs-right
 
 pub install-ahead-spec : {M : Type 1} → statement M
 install-ahead-spec =

@@ -8,8 +8,7 @@ hold-requires : tie.Need-hold-requires
 hold-requires c κs = search needs
 
 lay-here-requires : tie.Need-lay-here-requires
-lay-here-requires c κs =
-    here-ready (c .before .before .before .before .before .before .before .before .pre) (c .before .before .before .before .hold .ensures) (c .before .before .before .before .hold .kept .0)
+lay-here-requires c κs = search here-ready
 
 same-length : tie.Need-same-length
 same-length c = search needs
@@ -18,8 +17,7 @@ same-length-2 : tie.Need-same-length-2
 same-length-2 c = search needs
 
 returns : tie.Need-returns
-returns c =
-    lays-whole (c .before .before .before .before .before .before .before .before .before .hold .ensures) (c .before .before .before .before .lay-here .ensures)
+returns c = search lays-whole
 
 pub lay-whole-spec : {M : Type 1} → statement M
 lay-whole-spec =

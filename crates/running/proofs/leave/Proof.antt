@@ -1,30 +1,24 @@
 -- `running::leave` meets its contract. Assumes nothing.
-use mathlib.Core.Logic.{inl, inr}
 use Rattle.running.proofs.Ranges.{up-within}
-use Rattle.running.proofs.Leaves.{leaves-whole}
+use Rattle.running.proofs.Leaves.{leaves-whole, waiting-one}
 use borrow.Author.Needs.{needs}
 use Rattle.running.proofs.leave.Statement.{statement}
 use Rattle.running.proofs.leave.Tie as tie
 
 returns : tie.Need-returns
-returns c =
-    leaves-whole _ (c .if1 .taken)
+returns c = search leaves-whole
 
 read-cell-requires : tie.Need-read-cell-requires
-read-cell-requires c κs =
-    up-within (c .before .before .before .before .pre .standing) (c .before .if1 .left)
+read-cell-requires c κs = search up-within
 
 second-requires : tie.Need-second-requires
-second-requires c κs =
-    record { waiting = record { ready = c .before .before .before .before .before .before .before .before .before .pre; some = c .before .before .before .before .before .before .if1 .left; cell = c .before .before .before .before .read-cell .ensures }; two = c .before .before .before .match .keys1; first = c .before .if2 .taken }
+second-requires c κs = search
 
 both-requires : tie.Need-both-requires
-both-requires c κs =
-    record { waiting = record { ready = c .before .before .before .before .before .before .before .before .before .pre; some = c .before .before .before .before .before .before .if1 .left; cell = c .before .before .before .before .read-cell .ensures }; two = c .before .before .before .match .keys1; second = c .before .if2 .left }
+both-requires c κs = search
 
 single-requires : tie.Need-single-requires
-single-requires c κs =
-    record { waiting = record { ready = c .before .before .before .before .before .before .before .pre; some = c .before .before .before .before .if1 .left; cell = c .before .before .read-cell .ensures }; no-app = λ h. c .before .match .rest .1 (inl h); no-merge = λ h. c .before .match .rest .1 (inr h) }
+single-requires c κs = search waiting-one
 
 same-length : tie.Need-same-length
 same-length c = search needs

@@ -1,15 +1,14 @@
 -- `running::read_here` meets its contract. Assumes nothing.
-use mathlib.Core.Path.{refl, sym, subst}
-use Rattle.running.specs.Places.{Becomes, h-became, h-elsewhere}
-use Rattle.running.proofs.Ranges.{redex-range}
+use mathlib.Core.Path.{refl}
+use Rattle.running.specs.Places.{h-became, h-elsewhere}
+use Rattle.running.proofs.Projecting.{becomes-at, redex-root}
 use Rattle.running.proofs.Reading.{value-in, type-in, reads-number}
 use borrow.Author.Needs.{needs}
 use Rattle.running.proofs.read_here.Statement.{statement}
 use Rattle.running.proofs.read_here.Tie as tie
 
 read-cell-requires : tie.Need-read-cell-requires
-read-cell-requires c κs =
-    type-in _ _ (c .before .before .pre)
+read-cell-requires c κs = search type-in
 
 same-length : tie.Need-same-length
 same-length c = search needs
@@ -19,30 +18,25 @@ returns c =
     record { says = h-elsewhere refl refl }
 
 read-top-requires : tie.Need-read-top-requires
-read-top-requires c κs =
-    record { at = c .before .before .before .before .before .before .before .before .pre; type = c .before .before .before .before .before .read-cell .ensures; no-intersection = c .before .before .before .if1 .left; top-like = c .before .if2 .taken }
+read-top-requires c κs = search
 
 same-length-2 : tie.Need-same-length-2
 same-length-2 c = search needs
 
 returns-2 : tie.Need-returns-2
-returns-2 c =
-    record { says = h-became refl (c .before .before .read-top .ensures) }
+returns-2 c = search (h-became)
 
 read-cell-requires-2 : tie.Need-read-cell-requires-2
-read-cell-requires-2 c κs =
-    value-in _ _ (c .before .before .before .before .before .before .before .before .pre)
+read-cell-requires-2 c κs = search value-in
 
 retype-requires : tie.Need-retype-requires
-retype-requires c κs =
-    record { at = c .before .before .before .before .before .before .before .before .before .before .before .before .before .before .pre; value = c .before .before .before .before .before .read-cell2 .ensures; type = c .before .before .before .before .before .before .before .before .before .before .before .read-cell .ensures; function = c .before .before .before .if3 .taken; arrow = c .before .if4 .taken; proper = c .before .before .before .before .before .before .before .if2 .left }
+retype-requires c κs = search
 
 same-length-3 : tie.Need-same-length-3
 same-length-3 c = search needs
 
 returns-3 : tie.Need-returns-3
-returns-3 c =
-    record { says = h-became refl (c .before .before .retype .ensures) }
+returns-3 c = search h-became
 
 same-length-4 : tie.Need-same-length-4
 same-length-4 c = search needs
@@ -52,19 +46,13 @@ returns-4 c =
     record { says = h-elsewhere refl refl }
 
 became-requires : tie.Need-became-requires
-became-requires c κs =
-    redex-range (c .before .before .before .before .before .before .before .before .before .before .before .before .before .before .before .pre .ready .standing .at) .root
+became-requires c κs = search redex-root
 
 same-length-5 : tie.Need-same-length-5
 same-length-5 c = search needs
 
 returns-5 : tie.Need-returns-5
-returns-5 c =
-    record {
-      says = h-became refl
-          (subst (Becomes _ _ _) (sym (c .became .ensures))
-          (reads-number _ _ _ _ (record { at = c .before .before .before .before .before .before .before .before .before .before .before .before .before .before .before .before .pre; value = c .before .before .before .before .before .before .before .read-cell2 .ensures; type = c .before .before .before .before .before .before .before .before .before .before .before .before .before .read-cell .ensures; number = c .before .before .before .if5 .taken; int = c .before .if6 .taken })));
-    }
+returns-5 c = record { says = h-became refl (becomes-at (c .became .ensures) (search reads-number)) }
 
 same-length-6 : tie.Need-same-length-6
 same-length-6 c = search needs

@@ -6,8 +6,6 @@ use denote.Enum.Declared.{tagOf}
 use Rattle.running.specs.declared.Focus.{Focus}
 use Rattle.running.proofs.Focus.{the-type}
 use Rattle.running.proofs.Turning.{no-redex, turn-value, turn-spent, redex-ready, turn-room, contracted-ready, turn-next}
-use native.Mathlib.Omega.{arith}
-use Rattle.running.proofs.Turning.{turn-value, turn-spent, redex-ready, turn-room, contracted-ready, turn-next}
 use borrow.Author.Needs.{needs}
 use Rattle.running.proofs.step.Statement.{statement}
 use Rattle.running.proofs.step.Tie as tie
@@ -20,12 +18,10 @@ returns c =
     turn-value (c .before .before .before .pre .settled) (λ p q. no-redex (subst (λ (y : Focus). OneOf (0 ∷ 1 ∷ 3 ∷ []) (tagOf the-type y)) q (c .match .keys2)))
 
 returns-2 : tie.Need-returns-2
-returns-2 c =
-    turn-spent (c .before .before .focus .given .1) (c .if1 .taken)
+returns-2 c = search turn-spent
 
 contract-requires : tie.Need-contract-requires
-contract-requires c κs =
-    record { long = c .before .before .before .before .before .before .before .before .pre .long; ready = redex-ready (c .before .before .before .before .focus .given .1) (c .before .before .before .before .before .before .before .before .pre .ready) }
+contract-requires c κs = search redex-ready
 
 enum-known-x : tie.Need-enum-known-x
 enum-known-x c = search needs
@@ -40,12 +36,10 @@ same-length-2 : tie.Need-same-length-2
 same-length-2 c = search needs
 
 returns-3 : tie.Need-returns-3
-returns-3 c =
-    turn-room (c .before .before .before .before .before .before .before .before .before .before .before .focus .given .1) (c .before .before .before .before .before .before .contract .ensures) (omega (arith, c .before .before .before .before .before .before .before .before .before .before .before .before .before .before .before .pre .taken, c .before .before .before .before .before .before .before .before .before .if1 .left)) (c .enum-told .given .1)
+returns-3 c = search turn-room
 
 settle-requires : tie.Need-settle-requires
-settle-requires c κs =
-    contracted-ready (c .before .before .before .before .before .before .before .before .before .before .before .before .before .focus .given .1) (c .before .before .before .before .before .before .before .before .contract .ensures) (c .before .before .before .before .before .before .before .before .before .before .before .before .before .before .before .before .before .pre .ready) (c .before .before .x .given .1)
+settle-requires c κs = search contracted-ready
 
 add-t21 : tie.Need-add-t21
 add-t21 c = search needs
@@ -57,8 +51,7 @@ same-length-4 : tie.Need-same-length-4
 same-length-4 c = search needs
 
 returns-4 : tie.Need-returns-4
-returns-4 c =
-    turn-next (c .before .before .before .before .before .before .before .before .before .before .before .before .before .before .before .before .focus .given .1) (c .before .before .before .before .before .before .before .before .before .before .before .contract .ensures) (omega (arith, c .before .before .before .before .before .before .before .before .before .before .before .before .before .before .before .before .before .before .before .before .pre .taken, c .before .before .before .before .before .before .before .before .before .before .before .before .before .before .if1 .left)) (c .before .before .before .before .before .x .given .1) (c .before .before .settle .ensures)
+returns-4 c = search turn-next
 
 pub step-spec : {M : Type 1} → statement M
 step-spec =

@@ -4,10 +4,11 @@ use Prim.Native.Nat.{_*_, _+_}
 use mathlib.Core.Path.{_∙_}
 use native.Mathlib.Omega.{arith}
 use borrow.Author.Tests.{eq-eqb, not-true, not-false}
-use Rattle.cells.proofs.Held.{term-within}
+use Rattle.cells.proofs.Held.{held-within}
 use Rattle.types.specs.Says.{closedValue?}
 use Rattle.types.proofs.Single.{one-outright, one-flagged, one-passed, merge-value, record-value, function-value, number-value, other-value}
-use Rattle.types.proofs.Walks.{OneLeads, one-sets-out, one-swapped, one-goes-on, one-ends, kind-read}
+use Rattle.types.proofs.Variables.{closed-at, closed-says}
+use Rattle.types.proofs.Walks.{OneLeads, OneHalves, one-own, one-sets-out, one-swapped, one-goes-on, one-ends, kind-read}
 use Rattle.types.proofs.Below.{not-kind}
 use Prim.Native.Nat.{ℕ, _<_}
 use borrow.Fn.Kinds.{In}
@@ -16,7 +17,6 @@ use Rattle.types.proofs.closed_value.Reads as closed-value
 use Rattle.types.proofs.closed_value.Kinds as closed-value-kinds
 use Rattle.types.proofs.+closed_value+single_value.Lts-closed_value as closed-value-lts
 use Rattle.types.proofs.single_value.Reads as single-value
-use Rattle.types.proofs.single_value.Kinds as single-value-kinds
 use Rattle.types.proofs.+closed_value+single_value.Lts-single_value as single-value-lts
 use Rattle.cells.proofs.read_cell.Reads as read-cell-reads
 use Rattle.types.proofs.closed.Reads as closed-reads
@@ -24,35 +24,20 @@ use Rattle.types.proofs.kind_at.Reads as kind-at-reads
 use Rattle.types.proofs.+closed_value+single_value.{statement}
 use Rattle.types.proofs.+closed_value+single_value.Tie.{close}
 
-abbrev μ-closed-value : Measures 1 closed-value-kinds.ps ℕ
-μ-closed-value κs a = 2 * (a .1 .0) + 1
+abbrev μ : ℕ → Measures 1 closed-value-kinds.ps ℕ
+μ m κs a = 2 * a .1 .0 + m
 
-abbrev μ-single-value : Measures 1 single-value-kinds.ps ℕ
-μ-single-value κs a = 2 * (a .1 .0)
+abbrev at : ℕ → In 1 closed-value-kinds.ps → ℕ → In 1 closed-value-kinds.ps
+at m P t = and 1 closed-value-kinds.ps (is 1 closed-value-kinds.ps (μ m) t) P
 
-abbrev closed-value-at : ℕ → In 1 closed-value-kinds.ps
-closed-value-at t =
-    and 1 closed-value-kinds.ps (is 1 closed-value-kinds.ps μ-closed-value t) closed-value.Pre
+abbrev below : ℕ → In 1 closed-value-kinds.ps → ℕ → In 1 closed-value-kinds.ps
+below m P t = and 1 closed-value-kinds.ps (falls 1 closed-value-kinds.ps _<_ (μ m) t) P
 
-abbrev closed-value-below : ℕ → In 1 closed-value-kinds.ps
-closed-value-below t =
-    and
-    1
-    closed-value-kinds.ps
-    (falls 1 closed-value-kinds.ps _<_ μ-closed-value t)
-    closed-value.Pre
+abbrev closed-value-calls : ℕ → closed-value-lts.Claims
+closed-value-calls t = (kind-at-reads.Asked, kind-at-reads.Learnt, read-cell-reads.Asked, read-cell-reads.Learnt, below 1 closed-value.Pre t, closed-value.Post, below 0 single-value.Pre t, single-value.Post)
 
-abbrev single-value-at : ℕ → In 1 single-value-kinds.ps
-single-value-at t =
-    and 1 single-value-kinds.ps (is 1 single-value-kinds.ps μ-single-value t) single-value.Pre
-
-abbrev single-value-below : ℕ → In 1 single-value-kinds.ps
-single-value-below t =
-    and
-    1
-    single-value-kinds.ps
-    (falls 1 single-value-kinds.ps _<_ μ-single-value t)
-    single-value.Pre
+abbrev single-value-calls : ℕ → single-value-lts.Claims
+single-value-calls t = (read-cell-reads.Asked, read-cell-reads.Learnt, below 1 closed-value.Pre t, closed-value.Post, closed-reads.Asked, closed-reads.Learnt)
 
 abbrev closed-value-Inv-loop : closed-value-lts.InvT-loop
 closed-value-Inv-loop s i k₀ k = OneLeads s closedValue? i k
@@ -60,129 +45,37 @@ closed-value-Inv-loop s i k₀ k = OneLeads s closedValue? i k
 abbrev closed-value-μ-loop : closed-value-lts.MeasureT-loop
 closed-value-μ-loop s i k₀ k = k
 
-abbrev closed-value-calls : ℕ → closed-value-lts.Claims
-closed-value-calls t = (kind-at-reads.Asked, kind-at-reads.Learnt, read-cell-reads.Asked, read-cell-reads.Learnt, closed-value-below t, closed-value.Post, single-value-below t, single-value.Post)
+-- ---- what is known where the cells are read
 
-abbrev single-value-calls : ℕ → single-value-lts.Claims
-single-value-calls t = (read-cell-reads.Asked, read-cell-reads.Learnt, closed-value-below t, closed-value.Post, closed-reads.Asked, closed-reads.Learnt)
-
-closed-value-loop-holds : (t : ℕ) → closed-value-lts.Need-loop-holds (closed-value-calls t) (closed-value-at t) closed-value.Post closed-value-Inv-loop closed-value-μ-loop
-closed-value-loop-holds t c =
-    one-sets-out (c .before .pre .1 .0)
-
-closed-value-kind-at-requires : (t : ℕ) → closed-value-lts.Need-kind-at-requires (closed-value-calls t) (closed-value-at t) closed-value.Post closed-value-Inv-loop closed-value-μ-loop
-closed-value-kind-at-requires t c κs =
-    term-within (c .loop .inv .at .holds)
-
-closed-value-read-cell-requires : (t : ℕ) → closed-value-lts.Need-read-cell-requires (closed-value-calls t) (closed-value-at t) closed-value.Post closed-value-Inv-loop closed-value-μ-loop
-closed-value-read-cell-requires t c κs =
-    term-within (c .before .before .loop .inv .at .holds)
-
-closed-value-kind-at-requires-2 : (t : ℕ) → closed-value-lts.Need-kind-at-requires-2 (closed-value-calls t) (closed-value-at t) closed-value.Post closed-value-Inv-loop closed-value-μ-loop
-closed-value-kind-at-requires-2 t c κs =
-    term-within (merge-value (c .read-cell .ensures) (c .before .before .before .loop .inv .at .holds) (kind-read (c .read-cell .ensures) (c .before .before .kind-at .ensures) (c .before .if1 .taken)) .second .holds)
-
-closed-value-closed-value-requires : (t : ℕ) → closed-value-lts.Need-closed-value-requires (closed-value-calls t) (closed-value-at t) closed-value.Post closed-value-Inv-loop closed-value-μ-loop
-closed-value-closed-value-requires t c κs =
-    let p = merge-value (c .before .before .read-cell .ensures) (c .before .before .before .before .before .loop .inv .at .holds) (kind-read (c .before .before .read-cell .ensures) (c .before .before .before .before .kind-at .ensures) (c .before .before .before .if1 .taken)) in
-    (omega (arith, c .before .before .before .before .before .before .before .pre .0, p .first-less, c .before .before .before .before .before .loop .inv .lower), (p .first, omega (arith, c .before .before .before .before .before .before .before .pre .1 .1, p .first-less, c .before .before .before .before .before .loop .inv .lower)))
-
-closed-value-returns : (t : ℕ) → closed-value-lts.Need-returns (closed-value-calls t) (closed-value-at t) closed-value.Post closed-value-Inv-loop closed-value-μ-loop
-closed-value-returns t c =
-    one-ends (c .before .before .before .before .before .before .before .loop .inv) (λ e h. merge-value (c .before .before .before .before .read-cell .ensures) h (kind-read (c .before .before .before .before .read-cell .ensures) (c .before .before .before .before .before .before .kind-at .ensures) (c .before .before .before .before .before .if1 .taken))) (c .before .closed-value .ensures) (not-true _ (c .if3 .taken))
-
-closed-value-loop-less : (t : ℕ) → closed-value-lts.Need-loop-less (closed-value-calls t) (closed-value-at t) closed-value.Post closed-value-Inv-loop closed-value-μ-loop
-closed-value-loop-less t c =
-    let p = merge-value (c .before .before .before .before .read-cell .ensures) (c .before .before .before .before .before .before .before .loop .inv .at .holds) (kind-read (c .before .before .before .before .read-cell .ensures) (c .before .before .before .before .before .before .kind-at .ensures) (c .before .before .before .before .before .if1 .taken)) in
-    omega (arith, p .second-less)
-
-closed-value-loop-again : (t : ℕ) → closed-value-lts.Need-loop-again (closed-value-calls t) (closed-value-at t) closed-value.Post closed-value-Inv-loop closed-value-μ-loop
-closed-value-loop-again t c =
-    one-goes-on (c .before .before .before .before .before .before .before .loop .inv) (λ e h. merge-value (c .before .before .before .before .read-cell .ensures) h (kind-read (c .before .before .before .before .read-cell .ensures) (c .before .before .before .before .before .before .kind-at .ensures) (c .before .before .before .before .before .if1 .taken))) (c .before .closed-value .ensures) (not-false _ (c .if3 .left))
-
-closed-value-single-value-requires : (t : ℕ) → closed-value-lts.Need-single-value-requires (closed-value-calls t) (closed-value-at t) closed-value.Post closed-value-Inv-loop closed-value-μ-loop
-closed-value-single-value-requires t c κs =
-    let p = merge-value (c .before .before .read-cell .ensures) (c .before .before .before .before .before .loop .inv .at .holds) (kind-read (c .before .before .read-cell .ensures) (c .before .before .before .before .kind-at .ensures) (c .before .before .before .if1 .taken)) in
-    (omega (arith, c .before .before .before .before .before .before .before .pre .0, p .second-less, c .before .before .before .before .before .loop .inv .lower), (record { at = p .second; single = λ k. c .if2 .left (c .before .kind-at2 .ensures ∙ k) }, omega (arith, c .before .before .before .before .before .before .before .pre .1 .1, p .second-less, c .before .before .before .before .before .loop .inv .lower)))
-
-closed-value-returns-2 : (t : ℕ) → closed-value-lts.Need-returns-2 (closed-value-calls t) (closed-value-at t) closed-value.Post closed-value-Inv-loop closed-value-μ-loop
-closed-value-returns-2 t c =
-    one-ends (c .before .before .before .before .before .before .before .loop .inv) (λ e h. one-swapped (merge-value (c .before .before .before .before .read-cell .ensures) h (kind-read (c .before .before .before .before .read-cell .ensures) (c .before .before .before .before .before .before .kind-at .ensures) (c .before .before .before .before .before .if1 .taken)))) (c .before .single-value .ensures) (not-true _ (c .if4 .taken))
-
-closed-value-loop-less-2 : (t : ℕ) → closed-value-lts.Need-loop-less-2 (closed-value-calls t) (closed-value-at t) closed-value.Post closed-value-Inv-loop closed-value-μ-loop
-closed-value-loop-less-2 t c =
-    let p = merge-value (c .before .before .before .before .read-cell .ensures) (c .before .before .before .before .before .before .before .loop .inv .at .holds) (kind-read (c .before .before .before .before .read-cell .ensures) (c .before .before .before .before .before .before .kind-at .ensures) (c .before .before .before .before .before .if1 .taken)) in
-    omega (arith, p .first-less)
-
-closed-value-loop-again-2 : (t : ℕ) → closed-value-lts.Need-loop-again-2 (closed-value-calls t) (closed-value-at t) closed-value.Post closed-value-Inv-loop closed-value-μ-loop
-closed-value-loop-again-2 t c =
-    one-goes-on (c .before .before .before .before .before .before .before .loop .inv) (λ e h. one-swapped (merge-value (c .before .before .before .before .read-cell .ensures) h (kind-read (c .before .before .before .before .read-cell .ensures) (c .before .before .before .before .before .before .kind-at .ensures) (c .before .before .before .before .before .if1 .taken)))) (c .before .single-value .ensures) (not-false _ (c .if4 .left))
-
-closed-value-single-value-requires-2 : (t : ℕ) → closed-value-lts.Need-single-value-requires-2 (closed-value-calls t) (closed-value-at t) closed-value.Post closed-value-Inv-loop closed-value-μ-loop
-closed-value-single-value-requires-2 t c κs =
-    (omega (arith, c .before .before .before .before .pre .0, c .before .before .loop .inv .lower), (record { at = c .before .before .loop .inv .at; single = λ k. c .if1 .left (c .before .kind-at .ensures ∙ k) }, omega (arith, c .before .before .before .before .pre .1 .1, c .before .before .loop .inv .lower)))
-
-closed-value-returns-3 : (t : ℕ) → closed-value-lts.Need-returns-3 (closed-value-calls t) (closed-value-at t) closed-value.Post closed-value-Inv-loop closed-value-μ-loop
-closed-value-returns-3 t c =
-    c .before .before .before .loop .inv .on _ (c .single-value2 .ensures)
-
-single-value-read-cell-requires : (t : ℕ) → single-value-lts.Need-read-cell-requires (single-value-calls t) (single-value-at t) single-value.Post
-single-value-read-cell-requires t c κs =
-    term-within (c .before .pre .1 .0 .at .holds)
-
-single-value-closed-value-requires : (t : ℕ) → single-value-lts.Need-closed-value-requires (single-value-calls t) (single-value-at t) single-value.Post
-single-value-closed-value-requires t c κs =
-    let p = record-value (c .before .before .read-cell .ensures) (c .before .before .before .before .pre .1 .0 .at .holds) (c .if1 .taken) in
-    (omega (arith, p .less, c .before .before .before .before .pre .0), (p .part, omega (arith, p .less, c .before .before .before .before .pre .1 .1)))
-
-single-value-returns : (t : ℕ) → single-value-lts.Need-returns (single-value-calls t) (single-value-at t) single-value.Post
-single-value-returns t c =
-    one-passed (λ e h. record-value (c .before .before .before .read-cell .ensures) h (c .before .if1 .taken)) (c .closed-value .ensures)
-
-single-value-closed-requires : (t : ℕ) → single-value-lts.Need-closed-requires (single-value-calls t) (single-value-at t) single-value.Post
-single-value-closed-requires t c κs =
-    let p = function-value (c .before .before .before .before .read-cell .ensures) (c .before .before .before .before .before .before .pre .1 .0 .at .holds) (c .if2 .taken) in
-    (p .part, omega (arith, p .less, c .before .before .before .before .before .before .pre .1 .1))
-
-single-value-returns-2 : (t : ℕ) → single-value-lts.Need-returns-2 (single-value-calls t) (single-value-at t) single-value.Post
-single-value-returns-2 t c =
-    one-passed (λ e h. function-value (c .before .before .before .before .before .read-cell .ensures) h (c .before .if2 .taken)) (c .closed .ensures)
-
-single-value-returns-3 : (t : ℕ) → single-value-lts.Need-returns-3 (single-value-calls t) (single-value-at t) single-value.Post
-single-value-returns-3 t c =
-    one-flagged (eq-eqb _ _ (c .if3 .taken)) (λ e h. number-value (c .before .before .before .before .before .before .read-cell .ensures) h (c .if3 .taken))
-
-single-value-returns-4 : (t : ℕ) → single-value-lts.Need-returns-4 (single-value-calls t) (single-value-at t) single-value.Post
-single-value-returns-4 t c =
-    one-outright (λ e h. other-value (c .before .before .before .before .before .before .before .read-cell .ensures) h (not-kind (c .before .before .before .before .before .before .before .read-cell .ensures) (c .before .before .before .before .before .before .before .before .before .pre .1 .0 .single)) (c .before .before .before .before .before .if1 .left) (c .before .before .before .if2 .left) (c .before .if3 .left))
+abbrev value-halves : (t : ℕ) → closed-value-lts.After-read-cell (closed-value-calls t) (at 1 closed-value.Pre t) closed-value.Post closed-value-Inv-loop closed-value-μ-loop → OneHalves closedValue? t
+value-halves t c =
+    record { s = _; i = _; k = _; a = _; b = _; leads = c .before .before .before .loop .inv; halves = λ e h. merge-value (c .read-cell .ensures) h (kind-read (c .read-cell .ensures) (c .before .before .kind-at .ensures) (c .before .if1 .taken)); small = c .before .before .before .before .before .pre .1 .1; measure = c .before .before .before .before .before .pre .0 }
 
 pub +closed-value+single-value-spec : {M : Type 1} → statement M
-+closed-value+single-value-spec = close μ-closed-value μ-single-value (λ t. closed-value-lts.spec (closed-value-calls t)
-    (closed-value-at t)
-    closed-value.Post
-    closed-value-Inv-loop
-    closed-value-μ-loop
-    (closed-value-loop-holds t)
-    (closed-value-kind-at-requires t)
-    (closed-value-read-cell-requires t)
-    (closed-value-kind-at-requires-2 t)
-    (closed-value-closed-value-requires t)
-    (closed-value-returns t)
-    (closed-value-loop-less t)
-    (closed-value-loop-again t)
-    (closed-value-single-value-requires t)
-    (closed-value-returns-2 t)
-    (closed-value-loop-less-2 t)
-    (closed-value-loop-again-2 t)
-    (closed-value-single-value-requires-2 t)
-    (closed-value-returns-3 t))
-    λ t. single-value-lts.spec (single-value-calls t)
-    (single-value-at t)
-    single-value.Post
-    (single-value-read-cell-requires t)
-    (single-value-closed-value-requires t)
-    (single-value-returns t)
-    (single-value-closed-requires t)
-    (single-value-returns-2 t)
-    (single-value-returns-3 t)
-    (single-value-returns-4 t)
++closed-value+single-value-spec =
+    close
+    (μ 1)
+    (μ 0)
+    (λ t. closed-value-lts.spec (closed-value-calls t) (at 1 closed-value.Pre t) closed-value.Post closed-value-Inv-loop closed-value-μ-loop
+    (λ c. one-sets-out (c .before .pre .1 .0))
+    (λ c κs. held-within (c .loop .inv .at .holds))
+    (λ c κs. held-within (c .before .before .loop .inv .at .holds))
+    (λ c κs. held-within (one-own (value-halves t c) .second .holds))
+    (λ c κs. let w = value-halves t (c .before .before) in let v = one-own w in (omega (arith, w .measure, v .first-less, w .leads .lower), (v .first, omega (arith, w .small, v .first-less, w .leads .lower))))
+    (λ c. let w = value-halves t (c .before .before .before .before) in one-ends (w .leads) (w .halves) (c .before .closed-value .ensures) (not-true _ (c .if3 .taken)))
+    (λ c. omega (arith, one-own (value-halves t (c .before .before .before .before)) .second-less))
+    (λ c. let w = value-halves t (c .before .before .before .before) in one-goes-on (w .leads) (w .halves) (c .before .closed-value .ensures) (not-false _ (c .if3 .left)))
+    (λ c κs. let w = value-halves t (c .before .before) in let v = one-own w in (omega (arith, w .measure, v .second-less, w .leads .lower), (record { at = v .second; single = λ k. c .if2 .left (c .before .kind-at2 .ensures ∙ k) }, omega (arith, w .small, v .second-less, w .leads .lower))))
+    (λ c. let w = value-halves t (c .before .before .before .before) in one-ends (w .leads) (λ e h. one-swapped (w .halves e h)) (c .before .single-value .ensures) (not-true _ (c .if4 .taken)))
+    (λ c. omega (arith, one-own (value-halves t (c .before .before .before .before)) .first-less))
+    (λ c. let w = value-halves t (c .before .before .before .before) in one-goes-on (w .leads) (λ e h. one-swapped (w .halves e h)) (c .before .single-value .ensures) (not-false _ (c .if4 .left)))
+    (λ c κs. let walk = c .before .before in let start = walk .before .before in (omega (arith, start .pre .0, walk .loop .inv .lower), (record { at = walk .loop .inv .at; single = λ k. c .if1 .left (c .before .kind-at .ensures ∙ k) }, omega (arith, start .pre .1 .1, walk .loop .inv .lower))))
+    (λ c. c .before .before .before .loop .inv .on _ (c .single-value2 .ensures)))
+    λ t. single-value-lts.spec (single-value-calls t) (at 0 single-value.Pre t) single-value.Post
+    (λ c κs. held-within (c .before .pre .1 .0 .at .holds))
+    (λ c κs. let start = c .before .before .before .before in let p = record-value (c .before .before .read-cell .ensures) (start .pre .1 .0 .at .holds) (c .if1 .taken) in (omega (arith, p .less, start .pre .0), (p .part, omega (arith, p .less, start .pre .1 .1))))
+    (λ c. one-passed (λ e h. record-value (c .before .before .before .read-cell .ensures) h (c .before .if1 .taken)) (c .closed-value .ensures))
+    (λ c κs. let read = c .before .before .before .before in let start = read .before .before in let p = function-value (read .read-cell .ensures) (start .pre .1 .0 .at .holds) (c .if2 .taken) in closed-at (omega (arith, p .less, start .pre .1 .1)) (p .part))
+    (λ c. one-passed (λ e h. function-value (c .before .before .before .before .before .read-cell .ensures) h (c .before .if2 .taken)) (closed-says (c .closed .ensures)))
+    (λ c. one-flagged (eq-eqb _ _ (c .if3 .taken)) (λ e h. number-value (c .before .before .before .before .before .before .read-cell .ensures) h (c .if3 .taken)))
+    (λ c. let read = c .before .before .before .before .before .before .before in one-outright (λ e h. other-value (read .read-cell .ensures) h (not-kind (read .read-cell .ensures) (read .before .before .pre .1 .0 .single)) (c .before .before .before .before .before .if1 .left) (c .before .before .before .if2 .left) (c .before .if3 .left)))

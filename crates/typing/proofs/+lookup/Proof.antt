@@ -23,34 +23,14 @@ lookup-below t = and 1 lookup-kinds.ps (falls 1 lookup-kinds.ps _<_ μ-lookup t)
 abbrev lookup-calls : ℕ → lookup-lts.Claims
 lookup-calls t = (read-cell-reads.Asked, read-cell-reads.Learnt, lookup-below t, lookup.Post)
 
-lookup-returns : (t : ℕ) → lookup-lts.Need-returns (lookup-calls t) (lookup-at t) lookup.Post
-lookup-returns t c = looks-free (c .if1 .taken)
-
-lookup-read-cell-requires : (t : ℕ) → lookup-lts.Need-read-cell-requires (lookup-calls t) (lookup-at t) lookup.Post
-lookup-read-cell-requires t c κs = context-within (c .before .before .pre .1 .holds) (c .if1 .left)
-
-lookup-returns-2 : (t : ℕ) → lookup-lts.Need-returns-2 (lookup-calls t) (lookup-at t) lookup.Post
-lookup-returns-2 t c = looks-here (c .before .read-cell .ensures) (c .before .before .if1 .left) (c .if2 .taken)
-
-lookup-sub-lookup : (t : ℕ) → lookup-lts.Need-sub-lookup (lookup-calls t) (lookup-at t) lookup.Post
-lookup-sub-lookup t c = omega arith
-
-lookup-lookup-requires : (t : ℕ) → lookup-lts.Need-lookup-requires (lookup-calls t) (lookup-at t) lookup.Post
-lookup-lookup-requires t c κs =
-    let v = looks-asks (c .before .read-cell .ensures) (c .before .before .if1 .left) (c .before .before .before .before .pre .1) in
-    (omega (arith, v .0, c .before .before .before .before .pre .0), v .1)
-
-lookup-returns-3 : (t : ℕ) → lookup-lts.Need-returns-3 (lookup-calls t) (lookup-at t) lookup.Post
-lookup-returns-3 t c =
-    looks-on (c .before .before .read-cell .ensures) (c .before .before .before .if1 .left) (c .before .if2 .left) (c .lookup .ensures)
-
 pub +lookup-spec : {M : Type 1} → statement M
-+lookup-spec = close μ-lookup λ t. lookup-lts.spec (lookup-calls t)
-    (lookup-at t)
-    lookup.Post
-    (lookup-returns t)
-    (lookup-read-cell-requires t)
-    (lookup-returns-2 t)
-    (lookup-sub-lookup t)
-    (lookup-lookup-requires t)
-    (lookup-returns-3 t)
++lookup-spec =
+    close
+    μ-lookup
+    λ t. lookup-lts.spec (lookup-calls t) (lookup-at t) lookup.Post
+    (λ c. looks-free (c .if1 .taken))
+    (λ c κs. context-within (c .before .before .pre .1 .holds) (c .if1 .left))
+    (λ c. looks-here (c .before .read-cell .ensures) (c .before .before .if1 .left) (c .if2 .taken))
+    (λ c. omega arith)
+    (λ c κs. let read = c .before in let start = read .before .before .before in let v = looks-asks (read .read-cell .ensures) (read .before .if1 .left) (start .pre .1) in (omega (arith, v .0, start .pre .0), v .1))
+    (λ c. let read = c .before .before in looks-on (read .read-cell .ensures) (read .before .if1 .left) (c .before .if2 .left) (c .lookup .ensures))

@@ -6,14 +6,10 @@ use borrow.Author.Needs.{needs}
 use Rattle.typing.proofs.find_lit.Statement.{statement}
 use Rattle.typing.proofs.find_lit.Tie as tie
 
-add-requires : tie.Need-add-requires
-add-requires c κs = omega (arith, room-one (c .before .before .pre .ready))
-
-same-length : tie.Need-same-length
-same-length c = search needs
-
-returns : tie.Need-returns
-returns c = lit-found (c .before .before .before .before .before .pre) (c .before .before .add .ensures)
-
 pub find-lit-spec : {M : Type 1} → statement M
-find-lit-spec = tie.close (tie.spec add-requires same-length returns)
+find-lit-spec =
+    tie.close
+    (tie.spec
+    (λ c κs. omega (arith, room-one (c .before .before .pre .ready)))
+    (λ c. search needs)
+    (λ c. lit-found (c .before .before .before .before .before .pre) (c .before .before .add .ensures)))

@@ -1,8 +1,8 @@
--- `reduction::binders` meets its contract. Assumes nothing.
+-- `cells::binders` meets its contract. Assumes nothing.
 use native.Mathlib.Omega.{arith}
-use Rattle.reduction.proofs.Puts.{binds, binds-none}
-use Rattle.reduction.proofs.binders.Statement.{statement}
-use Rattle.reduction.proofs.binders.Tie as tie
+use Rattle.cells.proofs.Inside.{binds, binds-none}
+use Rattle.cells.proofs.binders.Statement.{statement}
+use Rattle.cells.proofs.binders.Tie as tie
 
 add-result : tie.Need-add-result
 add-result c = omega arith

@@ -1,0 +1,78 @@
+-- Document 01, "To the testers": the impostors, as engines, and which of demands 2 and 3 stops each. Assumes nothing.
+use Prim.Native.Nat.{ℕ, zero, suc}
+use mathlib.Core.Path.{_≡_}
+use mathlib.Core.Logic.{_≢_}
+use mathlib.Core.List.{List}
+use Rattle.answers.specs.Answer.{Stop, value, spent, room, accepted, stopped, Result, result}
+use Rattle.answers.specs.Engine.{Engine, laid}
+use Rattle.answers.specs.Definition.{check, judge, turnedBack, told, Ended, ending}
+use Rattle.answers.specs.Demands.{Accepts, Demand2, Demand3}
+
+-- The engine that checks and turns back truly, and answers g to the run of an accepted book: the most convincing impostors are such.
+unfoldable pub posing : (List ℕ → ℕ → Result) → Engine
+posing g = record { check = check; run = λ b w l. judge b w (λ A. g b l) }
+
+-- The limit, but for the steps after the first.
+unfoldable pub atMostOne : ℕ → ℕ
+atMostOne zero = 0
+atMostOne (suc n) = 1
+
+-- Where a step has been taken, s is the reason to stop.
+unfoldable pub hurried : Stop → Ended → Ended
+hurried s r = record { stop = elim (r .steps) [ zero ↦ r .stop | suc n ↦ s ]; steps = r .steps; term = r .term }
+
+-- "An engine that reports `room` or `spent` early, at one step wherever the book has one with room and the limit allows it"
+unfoldable pub early : Stop → Engine
+early s = posing (λ b l. told (hurried s (ending b (atMostOne l))))
+
+-- The true run, but for its step figure: k makes one from the limit and the steps taken.
+unfoldable pub figured : (ℕ → ℕ → ℕ) → ℕ → Ended → Ended
+figured k l r = record { stop = r .stop; steps = k l (r .steps); term = r .term }
+
+-- "one whose step figure is invented"
+unfoldable pub inventedSteps : (ℕ → ℕ → ℕ) → Engine
+inventedSteps k = posing (λ b l. told (figured k l (ending b l)))
+
+-- Where the limit of one step is spent, the figure counts on to the whole limit l.
+unfoldable pub repeating : ℕ → Ended → Ended
+repeating l r = record { stop = r .stop; steps = elim (r .stop) [ value ↦ r .steps | spent ↦ l | room ↦ r .steps ]; term = r .term }
+
+-- one "that takes the first step truly and then repeats that term"
+unfoldable pub repeatsFirst : Engine
+repeatsFirst = posing (λ b l. told (repeating l (ending b (atMostOne l))))
+
+-- "one that hands the book back untouched"
+unfoldable pub handsBack : Engine
+handsBack = posing (λ b l. result (stopped value 0) (laid b))
+
+-- "one with a fixed reply": c to every check and r to every run
+unfoldable pub fixedReply : Result → Result → Engine
+fixedReply c r = record { check = λ b w. c; run = λ b w l. r }
+
+-- "one that turns every book away", by whatever refusals
+abbrev pub RefusesAll : Engine → Type 0
+RefusesAll E = (b : List ℕ) → ¬ Accepts E b
+
+-- Such is the engine that has one refusal for every book.
+abbrev pub oneRefusal : ℕ → ℕ → Engine
+oneRefusal n i = fixedReply (turnedBack n i) (turnedBack n i)
+
+-- Which demand stops each. A figure k is invented if it is not 1 where the limit is 1 and one step is taken.
+pub record Impostors : Type 0 where
+  -- "An engine that reports `room` or `spent` early .. obeys demand 3 and is stopped by demand 2";
+  pub early-2 : (s : Stop) → s ≢ value → ¬ Demand2 (early s)
+  pub early-3 : (s : Stop) → Demand3 (early s)
+  -- "one whose step figure is invented, or that takes the first step truly and then repeats that term, is stopped by both."
+  pub invented-2 : (k : ℕ → ℕ → ℕ) → k 1 1 ≢ 1 → ¬ Demand2 (inventedSteps k)
+  pub invented-3 : (k : ℕ → ℕ → ℕ) → k 1 1 ≢ 1 → ¬ Demand3 (inventedSteps k)
+  pub repeats-2 : ¬ Demand2 repeatsFirst
+  pub repeats-3 : ¬ Demand3 repeatsFirst
+  -- "Demand 2 also shuts out one that hands the book back untouched, one with a fixed reply and one that turns every book away."
+  pub hands-back-2 : ¬ Demand2 handsBack
+  pub fixed-2 : (c r : Result) → ¬ Demand2 (fixedReply c r)
+  pub refuses-2 : (E : Engine) → RefusesAll E → ¬ Demand2 E
+  pub one-refusal : (n i : ℕ) → RefusesAll (oneRefusal n i)
+  -- Demand 3 stops the first of these, and a fixed reply that accepts; one that turns every book away obeys it.
+  pub hands-back-3 : ¬ Demand3 handsBack
+  pub fixed-3 : (c r : Result) (n : ℕ) → c .answer ≡ accepted n → ¬ Demand3 (fixedReply c r)
+  pub refuses-3 : (E : Engine) → RefusesAll E → Demand3 E

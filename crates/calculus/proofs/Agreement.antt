@@ -1,0 +1,30 @@
+-- The source's definitions and document 01's lists agree, and the executable functions decide the relations. Assumes nothing.
+use Rattle.calculus.specs.Agreement.{ListsAgree, Decides}
+use Rattle.calculus.proofs.Disjointness.{list→disjoint, disjoint→list}
+use Rattle.calculus.proofs.Decisions.{topLike?-says, below?-says, disjoint?-says}
+use Rattle.calculus.proofs.Consistency.{list→consistent, consistent→list}
+use Rattle.calculus.proofs.Tests.{value?-says, consistent?-says}
+use Rattle.calculus.proofs.Typing.{typed-by-list}
+use Rattle.calculus.proofs.Inference.{infer-says}
+use Rattle.calculus.proofs.Evaluation.{cast-says, next-says}
+
+pub lists-agree : ListsAgree
+lists-agree =
+    record {
+      disjoint = λ A B. (disjoint→list A B, list→disjoint);
+      consistent = λ v w A B a b. (consistent→list a b, list→consistent);
+      typed = λ Γ e A. typed-by-list;
+    }
+
+pub decides : Decides
+decides =
+    record {
+      top-like = topLike?-says;
+      below = below?-says;
+      disjoint = disjoint?-says;
+      value = value?-says;
+      consistent = λ v w A B. consistent?-says;
+      finds = infer-says;
+      reads = λ v x A B. cast-says x;
+      steps = λ e f A. next-says f;
+    }

@@ -1,0 +1,62 @@
+-- Functions that go by the five forms of a value, of a term whose kind has no form that they tell apart. Assumes nothing.
+use Prim.Native.Nat.{ℕ}
+use mathlib.Core.Path.{_≡_, refl}
+use lib.IntN.{ℤ}
+use Rattle.calculus.specs.Syntax.{Ty, Term, var, lit, unit, anno, app, lam, merge, fix, rcd, proj, byForm, foldValue, foldParts}
+use Rattle.format.specs.Table.{term-sort}
+use Rattle.format.specs.Tree.{kindIn}
+use Rattle.format.specs.Terms.{fromTerm}
+use Rattle.cells.proofs.Held.{kindOf}
+
+pub form-else : {X : Type 0} {n : ℤ → X} {u : X} {f : Term → Ty → Ty → X} {r : ℕ → Term → X} {z : X} (e : Term)
+    → (kindOf term-sort e ≡ 17 → (i : ℤ) → n i ≡ z) → (kindOf term-sort e ≡ 18 → u ≡ z)
+    → (kindOf term-sort e ≡ 21 → (b : Term) (A B : Ty) → f b A B ≡ z) → (kindOf term-sort e ≡ 24 → (l : ℕ) (b : Term) → r l b ≡ z)
+    → byForm n u f r z e ≡ z
+unfolding fromTerm kindIn
+form-else (var k) p q g h = refl
+form-else (lit i) p q g h = p refl i
+form-else unit p q g h = q refl
+form-else (anno e A) p q g h = refl
+form-else (app e f) p q g h = refl
+form-else (lam e A B) p q g h = g refl e A B
+form-else (merge e f) p q g h = refl
+form-else (fix e A) p q g h = refl
+form-else (rcd l e) p q g h = h refl l e
+form-else (proj l e) p q g h = refl
+
+-- the kinds of values
+pub record NoValue (k : ℕ) : Type 0 where
+  pub number : k ≡ 17 → ⊥
+  pub top-value : k ≡ 18 → ⊥
+  pub function : k ≡ 21 → ⊥
+  pub merged : k ≡ 22 → ⊥
+  pub recorded : k ≡ 24 → ⊥
+
+pub fold-else : {X : Type 0} (n : ℤ → X) (u : X) (f : Term → Ty → Ty → X) (m : X → X → X) (r : ℕ → X → X) {z : X} (e : Term)
+    → NoValue (kindOf term-sort e) → foldValue n u f m r z e ≡ z
+unfolding fromTerm kindIn
+fold-else n u g m r (var k) h = refl
+fold-else n u g m r (lit i) h = absurd (h .number refl)
+fold-else n u g m r unit h = absurd (h .top-value refl)
+fold-else n u g m r (anno e A) h = refl
+fold-else n u g m r (app e f) h = refl
+fold-else n u g m r (lam e A B) h = absurd (h .function refl)
+fold-else n u g m r (merge e f) h = absurd (h .merged refl)
+fold-else n u g m r (fix e A) h = refl
+fold-else n u g m r (rcd l e) h = absurd (h .recorded refl)
+fold-else n u g m r (proj l e) h = refl
+
+-- a function of the parts asks such a term itself, and goes by form there
+pub parts-else : {X : Type 0} (n : ℤ → X) (u : X) (f : Term → Ty → Ty → X) (r : ℕ → Term → X) {z : X} (m : X → X → X) (e : Term)
+    → NoValue (kindOf term-sort e) → foldParts (byForm n u f r z) m e ≡ z
+unfolding fromTerm kindIn
+parts-else n u g r m (var k) h = refl
+parts-else n u g r m (lit i) h = absurd (h .number refl)
+parts-else n u g r m unit h = absurd (h .top-value refl)
+parts-else n u g r m (anno e A) h = refl
+parts-else n u g r m (app e f) h = refl
+parts-else n u g r m (lam e A B) h = absurd (h .function refl)
+parts-else n u g r m (merge e f) h = absurd (h .merged refl)
+parts-else n u g r m (fix e A) h = refl
+parts-else n u g r m (rcd l e) h = absurd (h .recorded refl)
+parts-else n u g r m (proj l e) h = refl
