@@ -29,6 +29,7 @@ pub record Emits (d e : List ℕ) (m : ℕ) (r : Laid) (t : Tree) : Type 0 where
   pub fits : m + cells t ≤ sizeLimit → (r ≡ Next (m + cells t)) × (e ≡ sets d (8 * m) (lay m t))
   pub full : sizeLimit < m + cells t → r ≡ Full
 
+-- No room, or the next free cell.
 abbrev pickLaid : Bool → ℕ → Laid
 pickLaid true n = Full
 pickLaid false n = Next n
@@ -73,6 +74,7 @@ rowCell t y x v w =
       c = referBy (useOf (y .c)) (t .c) w;
     }
 
+-- A buffer for that cell, whose fields fit, and where the trees of its fields end.
 pub record RowReady (d : List ℕ) (t : Format.Cell) (y : Entry) (x v w : ℕ) : Type 0 where
   pub long : 32768 ≤ length d
   pub fits : (t .a < 65536) × (t .b < 65536) × (t .c < 65536)
@@ -87,5 +89,6 @@ pub record FieldReady (s d : List ℕ) (u x m : ℕ) : Type 0 where
   pub tree : Tree
   pub holds : HeldField false s cell (useOf u) x tree
 
+-- The tree that the field holds, emitted.
 pub record EmitsField (s d e : List ℕ) (u x m : ℕ) (r : Laid) : Type 0 where
   pub says : (n : ℕ) (t : Tree) → HeldField false s n (useOf u) x t → Emits d e m r t
