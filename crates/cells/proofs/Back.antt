@@ -6,20 +6,20 @@ use Rattle.calculus.specs.Syntax.{Ty}
 use mathlib.Core.Bool.{true}
 use mathlib.Core.List.{List}
 use Rattle.format.specs.Table.{Sort, type-sort, term-sort, Use, unused, plain, refers, Row, table, rowOf}
-use Rattle.format.specs.Cell.{IsBytes, cellAt}
+use Rattle.format.specs.Cell.{IsBytes}
 use Rattle.format.specs.Tree.{Tree, raw, node}
 use Rattle.format.specs.Terms.{fromType, fromTerm, toType, toTerm}
 use Rattle.format.proofs.Trees.{type-back, term-back}
 use Rattle.format.proofs.Tests as Format
 use Rattle.format.proofs.Tests.{Named, Opens, Reads, rows, All, _also_, view, cell-fits}
-use Rattle.cells.specs.Held.{labelBy, Thing, thing, Fields, HeldField, f-unused, f-plain, f-refers, Holds, HoldsType}
+use Rattle.cells.specs.Held.{labelBy, Thing, thing, HeldField, f-unused, f-plain, f-refers, Holds, HoldsType}
 
 pub named : (u : Use) (l : ℕ) → l < 256 → Named u (labelBy u l)
 named unused l h = refl
 named plain l h = h
 named (refers o) l h = tt
 
-pub opens : {s : List ℕ} {n x : ℕ} {u : Use} {t : Tree} → IsBytes s → (u ≡ plain → x < 65536) → HeldField true s n u x t → Format.Holds u t
+opens : {s : List ℕ} {n x : ℕ} {u : Use} {t : Tree} → IsBytes s → (u ≡ plain → x < 65536) → HeldField true s n u x t → Format.Holds u t
 unfolding rowOf
 opens y b f-unused = refl
 opens {x = x} y b f-plain = (x, refl, b refl)
@@ -29,20 +29,8 @@ opens {s} {x = x} y b (f-refers {k = k} {r = r} l p e m mk u v w) =
     rw (z .0, ← mk .0, m)
     (z .1 record { label = _; ta = _; tb = _; tc = _; name = named (r .label) _ (f .0); a = opens y (λ _. f .1) u; b = opens y (λ _. f .2) v; c = opens y (λ _. f .3) w })
 
--- the parts of a held cell's tree
-abbrev pub held-parts : {s : List ℕ} {i k : ℕ} {r : Row} {t : Tree} → IsBytes s → Fields true s i k r (cellAt s i) t → Format.Parts r
-held-parts {s} {i} {r = r} y f =
-    let b = cell-fits s y i in
-    record {
-      label = labelBy (r .label) (cellAt s i .label);
-      ta = f .a;
-      tb = f .b;
-      tc = f .c;
-      name = named (r .label) _ (b .0);
-      a = opens y (λ _. b .1) (f .held-a);
-      b = opens y (λ _. b .2) (f .held-b);
-      c = opens y (λ _. b .3) (f .held-c);
-    }
+pub reference-opens : {s : List ℕ} {n x : ℕ} {o : Sort} {t : Tree} → IsBytes s → HeldField true s n (refers o) x t → Opens o t
+reference-opens y h = opens y (λ e. let z : _≡_ {A = ℕ} 0 1 = cc in absurd (omega arith)) h
 
 abbrev pub from : (o : Sort) → Thing o → Tree
 from type-sort A = fromType A
@@ -53,7 +41,7 @@ back type-sort t h = ap fromType (ap toType (sym (h .1)) ∙ type-back (h .0)) �
 back term-sort t h = ap fromTerm (ap toTerm (sym (h .1)) ∙ term-back (h .0) (h .2)) ∙ h .1
 
 pub held-back : {s : List ℕ} {i : ℕ} {o : Sort} {x : Thing o} → IsBytes s → (h : Holds s o i x) → from o x ≡ h .tree
-held-back {o = o} y h = ap (from o) (h .is) ∙ back o (h .tree) (opens y (λ e. let z : _≡_ {A = ℕ} 0 1 = cc in absurd (omega arith)) (h .held))
+held-back {o = o} y h = ap (from o) (h .is) ∙ back o (h .tree) (reference-opens y (h .held))
 
 -- a type's tree, whatever the bytes are: no type has a plain field
 abbrev Own : Use → Tree → Type 0

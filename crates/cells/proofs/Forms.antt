@@ -1,6 +1,6 @@
 -- Functions that go by the five forms of a value, of a term whose kind has no form that they tell apart. Assumes nothing.
 use Prim.Native.Nat.{ℕ}
-use mathlib.Core.Path.{_≡_, refl}
+use mathlib.Core.Path.{_≡_, refl, ap, _∙_}
 use lib.IntN.{ℤ}
 use Rattle.calculus.specs.Syntax.{Ty, Term, var, lit, unit, anno, app, lam, merge, fix, rcd, proj, byForm, foldValue, foldParts}
 use Rattle.format.specs.Table.{term-sort}
@@ -46,17 +46,23 @@ fold-else n u g m r (fix e A) h = refl
 fold-else n u g m r (rcd l e) h = absurd (h .recorded refl)
 fold-else n u g m r (proj l e) h = refl
 
--- a function of the parts asks such a term itself, and goes by form there
+-- a function of the parts asks a term that is no merge itself
+pub parts-single : {X : Type 0} (f : Term → X) (m : X → X → X) (e : Term) → ((v w : Term) → e ≡ merge v w → ⊥) → foldParts f m e ≡ f e
+parts-single f m (var k) h = refl
+parts-single f m (lit i) h = refl
+parts-single f m unit h = refl
+parts-single f m (anno e A) h = refl
+parts-single f m (app e g) h = refl
+parts-single f m (lam e A B) h = refl
+parts-single f m (merge v w) h = absurd (h v w refl)
+parts-single f m (fix e A) h = refl
+parts-single f m (rcd l e) h = refl
+parts-single f m (proj l e) h = refl
+
+-- and goes by form there
 pub parts-else : {X : Type 0} (n : ℤ → X) (u : X) (f : Term → Ty → Ty → X) (r : ℕ → Term → X) {z : X} (m : X → X → X) (e : Term)
     → NoValue (kindOf term-sort e) → foldParts (byForm n u f r z) m e ≡ z
 unfolding fromTerm kindIn
-parts-else n u g r m (var k) h = refl
-parts-else n u g r m (lit i) h = absurd (h .number refl)
-parts-else n u g r m unit h = absurd (h .top-value refl)
-parts-else n u g r m (anno e A) h = refl
-parts-else n u g r m (app e f) h = refl
-parts-else n u g r m (lam e A B) h = absurd (h .function refl)
-parts-else n u g r m (merge e f) h = absurd (h .merged refl)
-parts-else n u g r m (fix e A) h = refl
-parts-else n u g r m (rcd l e) h = absurd (h .recorded refl)
-parts-else n u g r m (proj l e) h = refl
+parts-else n u f r m e h =
+    parts-single _ m e (λ v w q. h .merged (ap (kindOf term-sort) q))
+    ∙ form-else e (λ k. absurd (h .number k)) (λ k. absurd (h .top-value k)) (λ k. absurd (h .function k)) (λ k. absurd (h .recorded k))

@@ -9,6 +9,7 @@ use Rattle.format.specs.Table.{type-sort, term-sort, Use, unused, plain, refers
 use Rattle.format.specs.Cell.{Cell}
 use Rattle.format.specs.Tree.{Tree, raw, node, cells}
 use Rattle.format.specs.Terms.{fromType, fromTerm}
+use Rattle.format.proofs.Trees.{type-positive, term-positive}
 use Rattle.cells.specs.Coded.{asCell, useOf}
 use Rattle.cells.specs.declared.Cell.{Cell as Struct}
 use Rattle.cells.specs.declared.Entry.{Entry}
@@ -16,7 +17,7 @@ use Rattle.cells.specs.Held.{labelBy}
 use Rattle.emission.specs.Emits.{Space, Emits, LastReady, Finishes, referBy, RowReady}
 use Rattle.emission.specs.declared.Laid.{Laid}
 use Rattle.emission.specs.declared.Laid.the-variants.{Next, Full}
-use Rattle.emission.proofs.Compose.{Placed, placed, no-room, placed-raw, placed-space, type-positive, term-positive}
+use Rattle.emission.proofs.Compose.{Placed, placed, no-room, placed-raw, placed-space}
 use Rattle.emission.proofs.Compose.{Stands, s-unused, s-plain, s-refers, refer-stands, refer-ready, refer-fits}
 use Rattle.emission.proofs.Compose.{emits-node, too-big}
 

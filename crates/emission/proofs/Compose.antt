@@ -7,12 +7,11 @@ use mathlib.Core.Path.{_≡_, refl, sym, ap, _∙_}
 use mathlib.Core.List.{List, _++_}
 use lib.ListN.{length}
 use lib.Seq.{sets, length-sets}
-use Rattle.calculus.specs.Syntax.{Ty, int, top, arrow, inter, field}
-use Rattle.calculus.specs.Syntax.{Term, var, lit, unit, anno, app, lam, merge, fix, rcd, proj}
+use Rattle.calculus.specs.Syntax.{unit}
 use Rattle.format.specs.Table.{Sort, Use, unused, plain, refers}
 use Rattle.format.specs.Cell.{Cell, cellBytes}
 use Rattle.format.specs.Tree.{Tree, raw, node, cells, refer, lay}
-use Rattle.format.specs.Terms.{fromType, fromTerm}
+use Rattle.format.specs.Terms.{fromTerm}
 use Rattle.format.specs.Book.{sizeLimit}
 use Rattle.format.proofs.Laying.{sets-append, length-lay}
 use Rattle.cells.specs.Coded.{useOf}
@@ -74,27 +73,6 @@ pub refer-last : {d e : List ℕ} {m x : ℕ} {t : Tree} → Placed d e m x t �
 unfolding cells refer
 refer-last {t = raw x} p h = absurd (omega arith)
 refer-last {t = node k l a b c} p h = omega (arith, p .next)
-
-pub type-positive : (A : Ty) → 1 ≤ cells (fromType A)
-unfolding cells fromType
-type-positive int = omega arith
-type-positive top = omega arith
-type-positive (arrow A B) = omega arith
-type-positive (inter A B) = omega arith
-type-positive (field l A) = omega arith
-
-pub term-positive : (e : Term) → 1 ≤ cells (fromTerm e)
-unfolding cells fromTerm
-term-positive (var n) = omega arith
-term-positive (lit z) = omega arith
-term-positive unit = omega arith
-term-positive (anno e A) = omega arith
-term-positive (app e f) = omega arith
-term-positive (lam e A B) = omega arith
-term-positive (merge e f) = omega arith
-term-positive (fix e A) = omega arith
-term-positive (rcd l e) = omega arith
-term-positive (proj l e) = omega arith
 
 -- the last cell of a tree that is referred to
 pub refer-refers : (u x n : ℕ) → 2 ≤ u → n - 1 ≡ referBy (useOf u) x n

@@ -9,11 +9,11 @@ use lib.ListN.{length}
 use Rattle.calculus.specs.Syntax.{Ty, Term}
 use Rattle.format.specs.Table.{Sort, type-sort, Use, plain, refers, Row, rowOf}
 use Rattle.format.specs.Cell.{cellAt}
-use Rattle.format.specs.Tree.{Tree, raw, node, cells}
+use Rattle.format.specs.Tree.{Tree, raw, node, kindIn, cells}
 use Rattle.format.specs.Terms.{fromType, fromTerm}
 use Rattle.format.proofs.Trees.{type-back, term-back}
 use Rattle.cells.specs.Held.{IsCell, labelBy, HeldField, f-unused, f-plain, f-refers, HoldsType, HoldsTerm}
-use Rattle.cells.proofs.Held.{below as lowered, unmarked, kept-cell}
+use Rattle.cells.proofs.Held.{kind-of, below as lowered, unmarked, kept-cell}
 use Rattle.emission.specs.Runs.{Run, r-unused, r-plain, r-refers, RunsType, RunsTerm}
 
 pub grows : {q : Bool} {s : List ℕ} {x n e : ℕ} {u : Use} {t : Tree} → Run q s x u n t e → x ≤ e
@@ -74,6 +74,11 @@ pub parts : {q : Bool} {s : List ℕ} {x i e k m : ℕ} {o : Sort} {f g h : Tree
 parts {q} {s} {x} {i} {e} {k} {m} {o} {f} {g} {h} {r} (r-refers {y = y} {z = z} {l = l} {a = a′} {b = b′} {c = c′} {r = v′} p w n a b c d _) v =
     let j : v′ ≡ r = cc (v, w) in
     subst (Parts q s x i e k m f g h) j (record { l = l; a = a′; b = b′; c = c′; y = y; z = z; cell = p; label = n; first = a; second = b; third = c; last = d })
+
+-- the kind of its last cell is its tree's
+pub run-kind : {q : Bool} {s : List ℕ} {x i e : ℕ} {o : Sort} {t : Tree} → Run q s x (refers o) i t e → cellAt s i .kind ≡ kindIn t
+unfolding kindIn
+run-kind (r-refers p w n a b c d _) = kind-of p
 
 -- a run's last cell is what refers to it
 pub below : {s : List ℕ} {x n i e : ℕ} {o : Sort} {t : Tree} → Run true s x (refers o) n t e → e ≤ i → n < i

@@ -18,8 +18,7 @@ use Rattle.outcome.specs.Numbers.{answerOf}
 use Rattle.outcome.specs.declared.Outcome.{Outcome}
 use Rattle.outcome.specs.declared.Outcome.the-variants.{Stopped}
 use Rattle.format.specs.Terms.{fromTerm}
-use Rattle.format.proofs.Trees.{term-cells}
-use Rattle.emission.proofs.Compose.{term-positive}
+use Rattle.format.proofs.Trees.{term-cells, term-positive}
 use Rattle.emission.proofs.Fields.{term-field}
 use Rattle.layout.specs.Lays.{HereReady, LaysDown, SomeTree, Closes}
 use Rattle.layout.proofs.Laid.{lay-ready}

@@ -13,7 +13,7 @@ use Rattle.format.specs.Cell.{IsBytes, Cell}
 use Rattle.format.specs.Table.{term-sort}
 use Rattle.format.specs.Tree.{Tree, cells}
 use Rattle.format.specs.Terms.{toTerm, fromType}
-use Rattle.format.proofs.Trees.{type-cells}
+use Rattle.format.proofs.Trees.{type-cells, type-positive}
 use Rattle.format.specs.Book.{count, WellFormed, rootOf, leadsTo, follow, opened, book, sizeLimit}
 use Rattle.format.proofs.Ways.{follow-alike}
 use Rattle.format.proofs.Tests.{opened-small, opened-fits}
@@ -23,7 +23,6 @@ use Rattle.outcome.specs.Numbers.{refusalAnswer}
 use Rattle.outcome.specs.declared.Refusal.{Refusal}
 use Rattle.cells.specs.Held.{HoldsType, HoldsTerm, h-empty}
 use Rattle.loading.specs.Loaded.{Loaded}
-use Rattle.emission.proofs.Compose.{type-positive}
 use Rattle.emission.proofs.Fields.{type-field}
 use Rattle.layout.specs.Lays.{LiesTree, HereReady, LaysDown, SomeTree, Closes}
 use Rattle.layout.proofs.Laid.{lay-ready}

@@ -1,4 +1,5 @@
 -- Types and terms as trees: sizes agree, and a tree made of a type or a term is that type or term again. Assumes nothing.
+use Prim.Native.Nat.{_≤_}
 use mathlib.Core.Path.{_≡_, refl, ap, _∙_}
 use native.Mathlib.Omega.{arith}
 use Rattle.calculus.specs.Syntax.{Ty, int, top, arrow, inter, field}
@@ -28,6 +29,28 @@ term-cells (merge e f) = omega (arith, term-cells e, term-cells f)
 term-cells (fix e A) = omega (arith, term-cells e, type-cells A)
 term-cells (rcd l e) = omega (arith, term-cells e)
 term-cells (proj l e) = omega (arith, term-cells e)
+
+-- there is a last cell
+pub type-positive : (A : Ty) → 1 ≤ cells (fromType A)
+unfolding cells fromType
+type-positive int = omega arith
+type-positive top = omega arith
+type-positive (arrow A B) = omega arith
+type-positive (inter A B) = omega arith
+type-positive (field l A) = omega arith
+
+pub term-positive : (e : Term) → 1 ≤ cells (fromTerm e)
+unfolding cells fromTerm
+term-positive (var n) = omega arith
+term-positive (lit z) = omega arith
+term-positive unit = omega arith
+term-positive (anno e A) = omega arith
+term-positive (app e f) = omega arith
+term-positive (lam e A B) = omega arith
+term-positive (merge e f) = omega arith
+term-positive (fix e A) = omega arith
+term-positive (rcd l e) = omega arith
+term-positive (proj l e) = omega arith
 
 pub type-back : (A : Ty) → toType (fromType A) ≡ A
 unfolding toType fromType

@@ -4,8 +4,7 @@ use Prim.Native.Nat.{ℕ}
 use mathlib.Core.Path.{_≡_, refl, ap, _∙_}
 use mathlib.Core.List.{List}
 use mathlib.Core.Option.{Option, none}
-use Rattle.calculus.specs.Syntax.{Ty, int, arrow, field}
-use Rattle.calculus.specs.Syntax.{Term, var, lit, unit, anno, app, lam, merge, fix, rcd, proj}
+use Rattle.calculus.specs.Syntax.{Ty, int, arrow, field, Term}
 use Rattle.calculus.specs.Subtyping.{TopLike}
 use Rattle.calculus.specs.Evaluate.{firstPart, castInt, castArrow, castField, cast}
 use Rattle.calculus.proofs.Tests.{cast-arrow, cast-field}
@@ -14,22 +13,13 @@ use Rattle.format.specs.Cell.{cellAt}
 use Rattle.format.specs.Tree.{kindIn}
 use Rattle.format.specs.Terms.{fromTerm}
 use Rattle.cells.proofs.Held.{kindOf, kind-of-held}
-use Rattle.cells.proofs.Forms.{form-else}
+use Rattle.cells.proofs.Forms.{form-else, parts-single}
 use Rattle.cells.specs.Held.{HoldsTerm}
 use Rattle.reading.specs.Reads.{NoMerge}
 
 first-single : (f : Term → Option Term) (e : Term) → NoMerge e → firstPart f e ≡ f e
 unfolding firstPart
-first-single f (var n) h = refl
-first-single f (lit i) h = refl
-first-single f unit h = refl
-first-single f (anno e A) h = refl
-first-single f (app e g) h = refl
-first-single f (lam e A B) h = refl
-first-single f (merge v w) h = absurd (h v w refl)
-first-single f (fix e A) h = refl
-first-single f (rcd l e) h = refl
-first-single f (proj l e) h = refl
+first-single f e h = parts-single f _ e h
 
 pub single-int : (e : Term) → NoMerge e → cast int e ≡ castInt e
 unfolding cast

@@ -9,11 +9,11 @@ use Rattle.calculus.specs.Syntax.{Ty, Term, unit, anno, fix, put}
 use Rattle.format.specs.Cell.{Cell, cellAt}
 use Rattle.format.specs.Tree.{raw, node}
 use Rattle.format.specs.Terms.{fromType, fromTerm}
+use Rattle.format.proofs.Trees.{term-positive}
 use Rattle.cells.proofs.Held.{held-within, unit-at}
 use Rattle.emission.specs.Emits.{Emits}
 use Rattle.emission.specs.Copies.{BeginReady, Begins, EmitsEnd}
 use Rattle.emission.specs.declared.Laid.{Laid}
-use Rattle.emission.proofs.Compose.{term-positive}
 use Rattle.emission.proofs.Chain.{of-none, of-type, of-term, Each, Chain}
 use Rattle.emission.proofs.Copies.{begin-ready, begin-is, run-emits}
 use Rattle.emission.specs.Runs.{RunsType, RunsTerm}

@@ -1,32 +1,34 @@
 -- A body with a source put in, by the cell of the body and the row of its kind: what each call needs, and what it leaves. Over kind and
--- field; that the trees of a term and its fields agree is one line a kind. Assumes nothing.
+-- field; `put-law` has one line a kind. Assumes nothing.
 use Prim.Native.Nat.{ℕ, zero, suc, _+_, _*_, _≤_, _<_}
 use native.Mathlib.Omega.{arith}
-use mathlib.Core.Path.{_≡_, refl, ap, _∙_}
+use mathlib.Core.Path.{_≡_, refl, sym, ap, _∙_}
 use mathlib.Core.Bool.{true}
-use mathlib.Core.Option.{some}
+use mathlib.Core.Option.{Option, none, some}
 use mathlib.Core.List.{List}
 use borrow.Author.Tests.{eq-eqb, ne-eqb}
 use Rattle.calculus.specs.Syntax.{Ty, Term, var, lit, unit, anno, app, lam, merge, fix, rcd, proj, put}
-use Rattle.format.specs.Table.{type-sort, term-sort, Use, refers, Row, table, rowIn, rowOf, inside}
+use Rattle.format.specs.Table.{Sort, type-sort, term-sort, Use, unused, plain, refers, Row, table, rowIn, rowOf, inside}
 use Rattle.format.specs.Cell.{IsBytes, Cell, cellAt}
-use Rattle.format.specs.Tree.{Tree, raw, node}
-use Rattle.format.specs.Terms.{fromType, fromTerm, TermFits}
+use Rattle.format.specs.Tree.{Tree, raw, node, kindIn}
+use Rattle.format.specs.Terms.{fromType, fromTerm, toTerm, TermFits}
 use Rattle.format.specs.Book.{sizeLimit}
-use Rattle.cells.specs.Held.{IsCell, labelBy}
+use Rattle.format.proofs.Tests.{Opens}
+use Rattle.format.proofs.Trees.{type-positive, term-positive, term-back}
 use Rattle.cells.specs.Coded.{useOf}
 use Rattle.cells.specs.declared.Entry.{Entry}
-use Rattle.cells.proofs.Held.{var-at}
+use Rattle.cells.proofs.Held.{var-at, kindOf}
+use Rattle.cells.proofs.Back.{reference-opens}
 use Rattle.cells.proofs.Inside.{inside-most}
 use Rattle.emission.specs.Emits.{laidOf, Within, Space, Emits, LastReady, Finishes, RowReady}
-use Rattle.emission.specs.Runs.{Run, RunsType, RunsTerm}
+use Rattle.emission.specs.Runs.{Run, r-unused, r-plain, r-refers, RunsType, RunsTerm}
 use Rattle.emission.specs.Copies.{EndReady, EmitsEnd}
 use Rattle.emission.specs.declared.Laid.{Laid}
 use Rattle.emission.specs.declared.Laid.the-variants.{Next}
-use Rattle.emission.proofs.Compose.{Stands, s-unused, s-plain, s-refers, type-positive, term-positive, emits-raw, emits-leaf}
+use Rattle.emission.proofs.Compose.{Stands, s-unused, s-plain, s-refers, emits-raw, emits-leaf}
 use Rattle.emission.proofs.Chain.{Each, Chain, Third, Opened, row-chain, row-ready}
 use Rattle.emission.proofs.Emitting.{fields-fit, Read, read-fits, by-row}
-use Rattle.emission.proofs.Runs.{grows, parts, below, plain-is, holds-term}
+use Rattle.emission.proofs.Runs.{grows, held, below, holds-term}
 use Rattle.emission.proofs.RunParts.{runs-type, runs-term}
 use Rattle.emission.proofs.Copies.{run-ready, run-emits}
 use Rattle.emission.proofs.Ends.{laid-within, emits-within}
@@ -146,6 +148,38 @@ module _ {s d : List ℕ} {i k m : ℕ} {p : Source} {t : Cell} (j : AtVariable 
   unfolding put fromTerm
   variable-kept q w = record { says = λ e x h b. rw (variable h, ne-eqb (t .a) k q) (emits-leaf (j .ready .ready .source .space .used) w) }
 
+-- ---- a term other than a variable, with x put in for the variable that skips k binders: by the row of its kind
+
+-- the tree of a field, by its use
+abbrev putTree : ℕ → Term → Use → Tree → Tree
+putTree k x unused f = f
+putTree k x plain f = f
+putTree k x (refers type-sort) f = f
+putTree k x (refers term-sort) f = fromTerm (put k x (toTerm f))
+
+-- the tree of the term, by its row: k binders and those of its kind are over field a
+abbrev putNode : ℕ → Term → Option Row → Tree → Tree
+putNode k x none f = f
+putNode k x (some r) (raw n) = raw n
+putNode k x (some r) (node kind l a b c) = node kind l (putTree (inside kind k) x (r .a) a) (putTree k x (r .b) b) (putTree k x (r .c) c)
+
+put-law : (k : ℕ) (x e : Term) → TermFits e → (kindOf term-sort e ≡ 16 → ⊥) → fromTerm (put k x e) ≡ putNode k x (rowOf (kindOf term-sort e)) (fromTerm e)
+unfolding fromTerm kindIn put table rowIn rowOf
+put-law k x (var n) f h = absurd (h refl)
+put-law k x (lit z) f h = refl
+put-law k x unit f h = refl
+put-law k x (anno e A) f h = cc (term-back e (f .0))
+put-law k x (app e g) f h = cc (term-back e (f .0), term-back g (f .1))
+put-law k x (lam e A B) f h = cc (term-back e (f .0))
+put-law k x (merge e g) f h = cc (term-back e (f .0), term-back g (f .1))
+put-law k x (fix e A) f h = cc (term-back e (f .0))
+put-law k x (rcd l e) f h = cc (term-back e (f .1))
+put-law k x (proj l e) f h = cc (term-back e (f .1))
+
+-- a field that refers to a run is the tree of a type or a term
+run-opens : {s : List ℕ} {v n z : ℕ} {o : Sort} {f : Tree} → IsBytes s → Run true s v (refers o) n f z → Opens o f
+run-opens {z = z} b r = reference-opens b (held {m = z} (omega arith) r)
+
 -- ---- the cell that `emit_put` reads
 
 -- t is cell i, y its row, g how many binders the variable skips in field a
@@ -161,55 +195,25 @@ FieldOf s i w u n f = PutField s i (w .0) (w .1) u n f
 
 -- a body that it holds, with x put in, by the fields
 module _ {s d : List ℕ} {i k m : ℕ} {p : Source} {t : Cell} {y : Entry} {g : ℕ} (j : Started s d i k m p t y g) (x : Term) where
-  of-row : {kind l a b c : ℕ} {r : Row} {e f h o : Tree} → IsCell s i kind l a b c → rowOf kind ≡ some r → e ≡ node kind (labelBy (r .label) l) f h o
-      → PutField s i (inside kind k) x (r .a) a f → PutField s i k x (r .b) b h → PutField s i k x (r .c) c o
-      → Opened (FieldOf s i) t y (g, x) (k, x) e
-  of-row q e is u v w =
-      let c : t ≡ _ = j .read .cell ∙ q .is in by-row (FieldOf s i) (g, x) (k, x) (j .read) q e is (rw (j .skips, c) u) v w
+  put-field : {l n v z : ℕ} {f : Tree} (u : Use) → Run true s v u n f z → z ≤ i → PutField s i l x u n (putTree l x u f)
+  put-field unused r-unused h = p-unused
+  put-field plain r-plain h = p-plain
+  put-field (refers type-sort) r h = let o = run-opens (j .read .bytes) r in rw (← o .1) (p-type (below r h) (runs-type (rw (← o .1) at r)))
+  put-field (refers term-sort) r h =
+      let o = run-opens (j .read .bytes) r in
+      rw (← o .1, term-back (o .0) (o .2)) (p-term (below r h) (runs-term (o .2) (rw (← o .1) at r)))
 
-  -- a term, a type that stands in a field
-  as-term : (e : Term) {l n y z : ℕ} → TermFits e → Run true s y (refers term-sort) n (fromTerm e) z → z ≤ i
-      → PutField s i l x (refers term-sort) n (fromTerm (put l x e))
-  as-term e f r h = p-term (below r h) (runs-term f r)
-
-  as-type : (A : Ty) {n y z : ℕ} → Run true s y (refers type-sort) n (fromType A) z → z ≤ i → PutField s i k x (refers type-sort) n (fromType A)
-  as-type A r h = p-type (below r h) (runs-type r)
+  by-run : (e : Term) {f : Tree} {v z : ℕ} → TermFits e → fromTerm e ≡ f → Run true s v (refers term-sort) i f z
+      → Opened (FieldOf s i) t y (g, x) (k, x) (fromTerm (put k x e))
+  unfolding kindIn
+  by-run e w q (r-refers {r = r} c v n a b o z u) =
+      let d : t ≡ _ = j .read .cell ∙ c .is in
+      let law = put-law k x e w (λ h. j .inner (rw d (sym (ap kindIn q) ∙ h))) ∙ ap (λ f. putNode k x (rowOf (kindIn f)) f) q in
+      by-row (FieldOf s i) (g, x) (k, x) (j .read) c v (rw (v, n) at law)
+      (rw (j .skips, d) (put-field (r .a) a (omega (arith, grows b, grows o)))) (put-field (r .b) b (grows o)) (put-field (r .c) o (omega arith))
 
   pub opened : (e : Term) → RunsTerm s i e → Opened (FieldOf s i) t y (g, x) (k, x) (fromTerm (put k x e))
-  unfolding fromTerm put table rowIn rowOf
-  opened (var n) r = let p = parts (r .run) refl in absurd (j .inner (rw (j .read .cell, p .cell .is)))
-  opened (lit z) r =
-      let p = parts (r .run) refl in
-      of-row (p .cell) refl (rw (plain-is (p .second), plain-is (p .third))) p-unused p-plain p-plain
-  opened unit r = let p = parts (r .run) refl in of-row (p .cell) refl refl p-unused p-unused p-unused
-  opened (anno e A) r =
-      let p = parts (r .run) refl in
-      let h = grows (p .third) in
-      of-row (p .cell) refl refl (as-term e (r .fits .0) (p .first) (omega (arith, grows (p .second)))) (as-type A (p .second) h) p-unused
-  opened (app e f) r =
-      let p = parts (r .run) refl in
-      let h = grows (p .third) in
-      of-row (p .cell) refl refl (as-term e (r .fits .0) (p .first) (omega (arith, grows (p .second)))) (as-term f (r .fits .1) (p .second) h) p-unused
-  opened (lam e A B) r =
-      let p = parts (r .run) refl in
-      let h = grows (p .third) in
-      of-row (p .cell) refl refl (as-term e (r .fits .0) (p .first) (omega (arith, grows (p .second)))) (as-type A (p .second) h) (as-type B (p .third) (omega arith))
-  opened (merge e f) r =
-      let p = parts (r .run) refl in
-      let h = grows (p .third) in
-      of-row (p .cell) refl refl (as-term e (r .fits .0) (p .first) (omega (arith, grows (p .second)))) (as-term f (r .fits .1) (p .second) h) p-unused
-  opened (fix e A) r =
-      let p = parts (r .run) refl in
-      let h = grows (p .third) in
-      of-row (p .cell) refl refl (as-term e (r .fits .0) (p .first) (omega (arith, grows (p .second)))) (as-type A (p .second) h) p-unused
-  opened (rcd l e) r =
-      let p = parts (r .run) refl in
-      let h = grows (p .third) in
-      of-row (p .cell) refl (ap (λ a. node 24 a (fromTerm (put k x e)) (raw 0) (raw 0)) (p .label)) (as-term e (r .fits .1) (p .first) (omega (arith, grows (p .second)))) p-unused p-unused
-  opened (proj l e) r =
-      let p = parts (r .run) refl in
-      let h = grows (p .third) in
-      of-row (p .cell) refl (ap (λ a. node 25 a (fromTerm (put k x e)) (raw 0) (raw 0)) (p .label)) (as-term e (r .fits .1) (p .first) (omega (arith, grows (p .second)))) p-unused p-unused
+  opened e r = by-run e (r .fits) refl (r .run)
 
 -- ---- the fields emitted one after the other
 

@@ -20,7 +20,7 @@ use Rattle.calculus.proofs.Soundness.{value-no-step}
 use Rattle.calculus.proofs.Evaluation.{next-sound}
 use Rattle.format.specs.Table.{term-sort, refers, rowOf, rowIn, table}
 use Rattle.format.specs.Cell.{Cell, cellAt}
-use Rattle.format.specs.Tree.{cells, lay}
+use Rattle.format.specs.Tree.{kindIn, cells, lay}
 use Rattle.format.specs.Terms.{fromTerm, TermFits}
 use Rattle.format.specs.Book.{sizeLimit}
 use Rattle.format.proofs.Trees.{term-cells}
@@ -30,7 +30,7 @@ use Rattle.emission.specs.Emits.{Emits}
 use Rattle.emission.specs.Runs.{Run}
 use Rattle.emission.specs.declared.Laid.{Laid}
 use Rattle.emission.specs.declared.Laid.the-variants as Out
-use Rattle.emission.proofs.Runs.{grows, parts}
+use Rattle.emission.proofs.Runs.{grows, parts, run-kind}
 use Rattle.emission.proofs.LaidRuns.{laid-run}
 use Rattle.moving.specs.Moves.{Kept, PlaceReady, Places}
 use Rattle.moving.proofs.Runs.{place-ready}
@@ -51,7 +51,7 @@ use Rattle.running.specs.declared.Contracted.the-variants.{To, Full}
 use Rattle.running.proofs.Contexts.{Inside, next-inside, next-whole}
 use Rattle.running.proofs.Waiting.{kept-waits, waiting, waits-right}
 use Rattle.running.proofs.Going.{ends, at-run}
-use Rattle.running.proofs.Entering.{kindOf, kind-of, Kind, k-anno, term-kind}
+use Rattle.running.proofs.Entering.{Kind, k-anno, term-kind}
 use Rattle.running.proofs.Ranges.{last, redex-range, redex-low, kind-at, kind-not}
 use Rattle.running.proofs.Standing.{goes, focus-fits, successor-fits}
 use Rattle.running.proofs.Projecting.{size-whole, redex-value}
@@ -223,13 +223,13 @@ module _ {w : List ℕ} (p : Place) {e : Term} (s : Standing w (Redex p) e) (r :
 
   -- an annotated value becomes a value
   value-after : {g : Term} (n : next e ≡ some g) → cellAt w (p .root) .kind ≡ 19 → value? (within-of n .to) ≡ true
-  unfolding kindOf
+  unfolding fromTerm kindIn
   value-after n k = let i = within-of n in go (s .at .parts) (i .steps)
     where
       go : {f h : Term} → RedexParts w p f → next f ≡ some h → value? h ≡ true
       go {f} {h} (of-anno c v a b) q = anno-value v (next-sound f h q)
       go (of-app c v u a b z) q = absurd (omega (arith, k, ap (λ (q : Cell). q .kind) (c .is)))
-      go (of-fix {e = x} {A = A} z y) q = absurd (omega (arith, k, kind-of (fix x A) y))
+      go (of-fix z y) q = absurd (omega (arith, k, run-kind y))
       go (of-proj c v a z) q = absurd (omega (arith, k, ap (λ (q : Cell). q .kind) (c .is)))
 
 pub emit-ready : {s w : List ℕ} {p : Place} {t : Cell} → Emitting s w p t → Reduction.ContractReady w s (p .root) (p .start + 8191 - p .root)

@@ -1,7 +1,7 @@
 -- A focus that is to come: what it becomes by the kind of its cell. Assumes nothing.
-use Prim.Native.Nat.{ℕ, suc, _<_}
+use Prim.Native.Nat.{ℕ, suc}
 use native.Mathlib.Omega.{arith}
-use mathlib.Core.Path.{_≡_, refl, sym, ap, _∙_, subst}
+use mathlib.Core.Path.{_≡_, refl, sym, _∙_, subst}
 use mathlib.Core.Bool.{Bool, true}
 use mathlib.Core.List.{List, _∷_}
 use mathlib.Core.Option.{some}
@@ -10,43 +10,18 @@ use Rattle.calculus.specs.Syntax.{Ty, Term, var, lit, unit, anno, app, lam, mer
 use Rattle.calculus.specs.Decide.{value?}
 use Rattle.format.specs.Table.{Sort, term-sort, unused, refers, Row, rowOf, rowIn, table}
 use Rattle.format.specs.Cell.{Cell, cellAt}
-use Rattle.format.specs.Tree.{Tree}
+use Rattle.format.specs.Tree.{Tree, kindIn}
 use Rattle.format.specs.Terms.{fromTerm}
 use Rattle.cells.specs.Held.{IsCell}
+use Rattle.cells.proofs.Held.{kindOf}
 use Rattle.emission.specs.Runs.{Run}
-use Rattle.emission.proofs.Runs.{Parts, parts}
+use Rattle.emission.proofs.Runs.{Parts, parts, run-kind}
 use Rattle.moving.specs.Moves.{Wrote}
 use Rattle.running.specs.Waiting.{Frame, first, Waits}
 use Rattle.running.specs.Contexts.{Around, anno-of, app-left, merge-left, rcd-of, proj-of, within1, Proper, frame, frames}
 use Rattle.running.specs.Places.{IsAhead, IsRedex, of-fix}
 use Rattle.running.specs.declared.Place.{Place}
 use Rattle.running.proofs.Going.{descends}
-
--- the kind of a term's cell
-unfoldable pub kindOf : Term → ℕ
-kindOf (var n) = 16
-kindOf (lit i) = 17
-kindOf unit = 18
-kindOf (anno e A) = 19
-kindOf (app e f) = 20
-kindOf (lam e A B) = 21
-kindOf (merge e f) = 22
-kindOf (fix e A) = 23
-kindOf (rcd l e) = 24
-kindOf (proj l e) = 25
-
-pub kind-of : {q : Bool} {w : List ℕ} {x i e : ℕ} {o : Sort} (f : Term) → Run q w x (refers o) i (fromTerm f) e → cellAt w i .kind ≡ kindOf f
-unfolding fromTerm kindOf table rowIn rowOf
-kind-of (var n) r = ap (λ (c : Cell). c .kind) (parts r refl .cell .is)
-kind-of (lit i) r = ap (λ (c : Cell). c .kind) (parts r refl .cell .is)
-kind-of unit r = ap (λ (c : Cell). c .kind) (parts r refl .cell .is)
-kind-of (anno e A) r = ap (λ (c : Cell). c .kind) (parts r refl .cell .is)
-kind-of (app e f) r = ap (λ (c : Cell). c .kind) (parts r refl .cell .is)
-kind-of (lam e A B) r = ap (λ (c : Cell). c .kind) (parts r refl .cell .is)
-kind-of (merge e f) r = ap (λ (c : Cell). c .kind) (parts r refl .cell .is)
-kind-of (fix e A) r = ap (λ (c : Cell). c .kind) (parts r refl .cell .is)
-kind-of (rcd l e) r = ap (λ (c : Cell). c .kind) (parts r refl .cell .is)
-kind-of (proj l e) r = ap (λ (c : Cell). c .kind) (parts r refl .cell .is)
 
 -- a term by the kind of its cell
 pub data Kind : ℕ → Term → Type 0 where
@@ -61,8 +36,8 @@ pub data Kind : ℕ → Term → Type 0 where
   k-rcd : {l : ℕ} {e : Term} → Kind 24 (rcd l e)
   k-proj : {l : ℕ} {e : Term} → Kind 25 (proj l e)
 
-by-kind : (f : Term) → Kind (kindOf f) f
-unfolding kindOf
+by-kind : (f : Term) → Kind (kindOf term-sort f) f
+unfolding fromTerm kindIn
 by-kind (var n) = k-var
 by-kind (lit z) = k-lit
 by-kind unit = k-unit
@@ -76,7 +51,7 @@ by-kind (proj l e) = k-proj
 
 -- the term of which a cell of kind k is the last
 pub term-kind : {q : Bool} {w : List ℕ} {x i e k : ℕ} {o : Sort} (f : Term) → Run q w x (refers o) i (fromTerm f) e → cellAt w i .kind ≡ k → Kind k f
-term-kind f r h = subst (λ (n : ℕ). Kind n f) (sym (kind-of f r) ∙ h) (by-kind f)
+term-kind f r h = subst (λ (n : ℕ). Kind n f) (sym (run-kind r) ∙ h) (by-kind f)
 
 -- numbers, the top value and functions are values at sight
 pub value-lit : {f : Term} → Kind 17 f → value? f ≡ true
@@ -107,41 +82,39 @@ pub record Descends (v : List ℕ) (p : Place) (K : List Around) (f : Term) (a :
   pub proper : Proper around
   pub ahead : IsAhead v (below p a) (around ∷ K) part
 
+-- the kinds of terms that step in their first part
+abbrev Steps : ℕ → Type 0
+Steps k = (k ≡ 16 → ⊥) × (k ≡ 17 → ⊥) × (k ≡ 18 → ⊥) × (k ≡ 21 → ⊥) × (k ≡ 23 → ⊥)
+
 module _ {w v : List ℕ} (p : Place) {K : List Around} (d : Wrote w v (p .root)) where
   -- the cell of a term that steps in its first part waits, whatever its kind
-  waits-for : {k m : ℕ} {g h : Tree} {r : Row} (F : Around) (x : Term) (t : Cell) → frame F ≡ first k m g h → rowOf k ≡ some r → r .a ≡ refers term-sort →
-      r .c ≡ unused → Proper F → Parts true w (p .right) (p .root) (suc (p .root)) k m (fromTerm x) g h r → p .start ≡ p .left →
-      Waits w (p .up) (p .start) (suc (p .root)) (frames K) → p .start < p .right → t ≡ cellAt w (p .root) →
+  waits-for : {f : Term} {k m : ℕ} {g h : Tree} {r : Row} (F : Around) (x : Term) (t : Cell) → IsAhead w p K f → frame F ≡ first k m g h → rowOf k ≡ some r →
+      r .a ≡ refers term-sort → r .c ≡ unused → Proper F → Parts true w (p .right) (p .root) (suc (p .root)) k m (fromTerm x) g h r → t ≡ cellAt w (p .root) →
       IsCell v (p .root) (t .kind) (t .label) (p .up) (t .b) 0 → Descends v p K (within1 F x) (t .a)
   unfolding frames
-  waits-for {k} F x t i n one two f q b u l e c =
+  waits-for {k = k} F x t o i n one two f q e c =
       let s : t ≡ record { kind = k; label = q .l; a = q .a; b = q .b; c = q .c } = e ∙ q .cell .is in
-      let y = descends (q .cell) n (q .label) (q .first) (q .second) (q .third) one two u l d (rw s at c) in
+      let y = descends (q .cell) n (q .label) (q .first) (q .second) (q .third) one two (o .waits) (o .apart) d (rw s at c) in
       rw s
       (record {
         around = F;
         part = x;
         is = refl;
         proper = f;
-        ahead = record { begins = b; run = y .run; waits = subst (λ (G : Frame). Waits v (p .root) (p .start) (suc (q .a)) (G ∷ frames K)) (sym i) (y .waits); apart = y .apart };
+        ahead = record { begins = o .begins; run = y .run; waits = subst (λ (G : Frame). Waits v (p .root) (p .start) (suc (q .a)) (G ∷ frames K)) (sym i) (y .waits); apart = y .apart };
       })
 
   -- the cell t of the focus waits
-  pub enters-part : (f : Term) (t : Cell) → IsAhead w p K f → t ≡ cellAt w (p .root) → IsCell v (p .root) (t .kind) (t .label) (p .up) (t .b) 0 →
-      (kindOf f ≡ 16 → ⊥) → (kindOf f ≡ 17 → ⊥) → (kindOf f ≡ 18 → ⊥) → (kindOf f ≡ 21 → ⊥) → (kindOf f ≡ 23 → ⊥) → Descends v p K f (t .a)
-  unfolding kindOf fromTerm table rowIn rowOf within1 frame
-  enters-part (var n) t a e c h16 h17 h18 h21 h23 = absurd (h16 refl)
-  enters-part (lit i) t a e c h16 h17 h18 h21 h23 = absurd (h17 refl)
-  enters-part unit t a e c h16 h17 h18 h21 h23 = absurd (h18 refl)
-  enters-part (lam x A B) t a e c h16 h17 h18 h21 h23 = absurd (h21 refl)
-  enters-part (fix x A) t a e c h16 h17 h18 h21 h23 = absurd (h23 refl)
-  enters-part (anno x A) t a e c h16 h17 h18 h21 h23 =
-      waits-for (anno-of A) x t refl refl refl refl Prim.tt (parts (a .run) refl) (a .begins) (a .waits) (a .apart) e c
-  enters-part (app x y) t a e c h16 h17 h18 h21 h23 =
-      waits-for (app-left y) x t refl refl refl refl Prim.tt (parts (a .run) refl) (a .begins) (a .waits) (a .apart) e c
-  enters-part (merge x y) t a e c h16 h17 h18 h21 h23 =
-      waits-for (merge-left y) x t refl refl refl refl Prim.tt (parts (a .run) refl) (a .begins) (a .waits) (a .apart) e c
-  enters-part (rcd l x) t a e c h16 h17 h18 h21 h23 =
-      waits-for (rcd-of l) x t refl refl refl refl Prim.tt (parts (a .run) refl) (a .begins) (a .waits) (a .apart) e c
-  enters-part (proj l x) t a e c h16 h17 h18 h21 h23 =
-      waits-for (proj-of l) x t refl refl refl refl Prim.tt (parts (a .run) refl) (a .begins) (a .waits) (a .apart) e c
+  pub enters-part : (f : Term) (t : Cell) → IsAhead w p K f → t ≡ cellAt w (p .root) → IsCell v (p .root) (t .kind) (t .label) (p .up) (t .b) 0 → Steps (kindOf term-sort f) →
+      Descends v p K f (t .a)
+  unfolding fromTerm kindIn table rowIn rowOf within1 frame
+  enters-part (var n) t a e c h = absurd (h .0 refl)
+  enters-part (lit i) t a e c h = absurd (h .1 refl)
+  enters-part unit t a e c h = absurd (h .2 refl)
+  enters-part (lam x A B) t a e c h = absurd (h .3 refl)
+  enters-part (fix x A) t a e c h = absurd (h .4 refl)
+  enters-part (anno x A) t a e c h = waits-for (anno-of A) x t a refl refl refl refl Prim.tt (parts (a .run) refl) e c
+  enters-part (app x y) t a e c h = waits-for (app-left y) x t a refl refl refl refl Prim.tt (parts (a .run) refl) e c
+  enters-part (merge x y) t a e c h = waits-for (merge-left y) x t a refl refl refl refl Prim.tt (parts (a .run) refl) e c
+  enters-part (rcd l x) t a e c h = waits-for (rcd-of l) x t a refl refl refl refl Prim.tt (parts (a .run) refl) e c
+  enters-part (proj l x) t a e c h = waits-for (proj-of l) x t a refl refl refl refl Prim.tt (parts (a .run) refl) e c

@@ -11,7 +11,9 @@ use Rattle.calculus.specs.Decide.{value?}
 use Rattle.format.specs.Cell.{Cell, cellAt, cellBytes}
 use Rattle.format.specs.Table.{term-sort, refers}
 use Rattle.format.specs.Terms.{fromTerm}
+use Rattle.cells.proofs.Held.{kindOf}
 use Rattle.emission.specs.Runs.{Run}
+use Rattle.emission.proofs.Runs.{run-kind}
 use Rattle.moving.specs.Moves.{Kept, ShiftReady, Shifts}
 use Rattle.moving.proofs.Runs.{shift-ready, run-shifted}
 use Rattle.running.specs.Contexts.{Around, whole, AllProper, p-more}
@@ -22,7 +24,7 @@ use Rattle.running.proofs.Waiting.{kept-waits}
 use Rattle.running.proofs.Going.{at-run}
 use Rattle.running.proofs.Standing.{no-variable}
 use Rattle.running.proofs.Ranges.{ahead-range, above-some, stored, root-within}
-use Rattle.running.proofs.Entering.{kindOf, kind-of, Kind, k-var, term-kind, value-lit, value-unit, value-lam, enters-fix, Descends, enters-part}
+use Rattle.running.proofs.Entering.{Kind, k-var, term-kind, value-lit, value-unit, value-lam, enters-fix, Descends, enters-part}
 
 -- the cells of the focus
 pub focus-cells : {w : List ℕ} {p : Place} {e : Term} → Standing w (Ahead p) e → ShiftReady w (p .right) (p .left) (p .root + 1 - p .right)
@@ -104,9 +106,10 @@ enters-below {w} {v} {p} {t = t} d o i =
     go : {e : Term} → Standing w (Ahead p) e → Runnable e → Standing v (Ahead (below p (t .a))) e
     go s r =
         let x = stored _ (root-within s) o in
-        let k : t .kind ≡ kindOf (s .focus) = ap (λ (c : Cell). c .kind) (d .cell) ∙ kind-of (s .focus) (s .at .run) in
-        let c : Descends v p (s .around) (s .focus) (t .a) = enters-part p (x .wrote) (s .focus) t (s .at) (d .cell) (x .there) (λ h. not-16 (s .around) (s .is) (s .proper) r (term-kind (s .focus) (s .at .run) (kind-of (s .focus) (s .at .run) ∙ h)))
-        (λ h. d .no-number (k ∙ h)) (λ h. d .no-top (k ∙ h)) (λ h. d .no-function (k ∙ h)) (λ h. d .no-fixpoint (k ∙ h)) in
+        let k : t .kind ≡ kindOf term-sort (s .focus) = ap (λ (c : Cell). c .kind) (d .cell) ∙ run-kind (s .at .run) in
+        let n : kindOf term-sort (s .focus) ≡ 16 → ⊥ = λ h. not-16 (s .around) (s .is) (s .proper) r (term-kind (s .focus) (s .at .run) (run-kind (s .at .run) ∙ h)) in
+        let c : Descends v p (s .around) (s .focus) (t .a) = enters-part p (x .wrote) (s .focus) t (s .at) (d .cell) (x .there)
+        (n, λ h. d .no-number (k ∙ h), λ h. d .no-top (k ∙ h), λ h. d .no-function (k ∙ h), λ h. d .no-fixpoint (k ∙ h)) in
         record {
           long = x .wrote .long ∙ s .long;
           around = c .around ∷ s .around;

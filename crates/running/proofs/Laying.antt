@@ -11,14 +11,13 @@ use Rattle.calculus.specs.Typing.{Typed}
 use Rattle.format.specs.Table.{term-sort, unused, refers, Row, rowOf, rowIn, table}
 use Rattle.format.specs.Tree.{Tree, cells, lay}
 use Rattle.format.specs.Terms.{fromTerm}
-use Rattle.format.proofs.Trees.{term-cells}
+use Rattle.format.proofs.Trees.{term-cells, term-positive}
 use Rattle.format.proofs.Laying.{Part, root-last}
 use Rattle.format.proofs.RoundTrip.{term-good}
 use Rattle.cells.specs.Held.{HeldField, f-unused, f-refers}
 use Rattle.emission.specs.Runs.{Run}
 use Rattle.emission.proofs.Runs.{grows, bare}
 use Rattle.emission.proofs.LaidRuns.{laid-run}
-use Rattle.emission.proofs.Compose.{term-positive}
 use Rattle.layout.specs.Lays.{LaysDown, HereReady}
 use Rattle.layout.proofs.Laid.{lay-ready}
 use Rattle.moving.specs.Moves.{PlaceReady, Places, Copies}

@@ -7,16 +7,19 @@ use mathlib.Core.List.{List}
 use mathlib.Core.Option.{none, some, Option·some-injective, Option·none-ne-some}
 use lib.Dec.{eqb}
 use lib.ListN.{length}
-use Rattle.calculus.specs.Syntax.{Term, var, lit, unit, anno, app, lam, merge, fix, rcd, proj, size}
+use Rattle.calculus.specs.Syntax.{Ty, Term, unit, rcd, proj, Value, v-lit, v-unit, v-lam, v-merge, v-rcd, size}
 use Rattle.calculus.specs.Decide.{value?}
 use Rattle.calculus.specs.Evaluate.{next, project}
+use Rattle.calculus.proofs.Bools.{true-says}
+use Rattle.calculus.proofs.Tests.{value?-says}
 use Rattle.format.specs.Table.{term-sort, refers, rowOf, rowIn, table}
 use Rattle.format.specs.Cell.{Cell, cellAt}
+use Rattle.format.specs.Tree.{kindIn}
 use Rattle.format.specs.Terms.{fromTerm}
 use Rattle.format.proofs.Trees.{term-cells}
-use Rattle.cells.specs.Held.{IsCell}
+use Rattle.cells.proofs.Held.{kind-of}
 use Rattle.emission.specs.Runs.{Run}
-use Rattle.emission.proofs.Runs.{parts}
+use Rattle.emission.proofs.Runs.{parts, run-kind}
 use Rattle.moving.specs.Moves.{Kept}
 use Rattle.running.specs.Waiting.{Waits, around}
 use Rattle.running.specs.Contexts.{Around, whole, frames}
@@ -27,7 +30,7 @@ use Rattle.running.specs.declared.Focus.the-variants.{Redex}
 use Rattle.running.proofs.Contexts.{next-inside, framed}
 use Rattle.running.proofs.Waiting.{filled, kept-waits}
 use Rattle.running.proofs.Going.{ends, nothing, at-run}
-use Rattle.running.proofs.Entering.{kindOf, kind-of, Kind, k-unit, term-kind}
+use Rattle.running.proofs.Entering.{Kind, k-unit, term-kind}
 use Rattle.running.proofs.Ranges.{redex-range, redex-low, kind-at, kind-not}
 
 -- the size of the whole term: the cells around the focus, and the focus
@@ -51,14 +54,11 @@ pub record Read (w : List ℕ) (p : Place) (f : Term) (a : ℕ) : Type 0 where
   pub final : value? value ≡ true
   pub run : Run true w (p .start) (refers term-sort) a (fromTerm value) (p .left)
 
-kinds : {w : List ℕ} {i k l a b c : ℕ} → IsCell w i k l a b c → cellAt w i .kind ≡ k
-kinds p = ap (λ (c : Cell). c .kind) (p .is)
-
 pub read-of : {w : List ℕ} (p : Place) {f : Term} (t : Cell) → RedexParts w p f → t ≡ cellAt w (p .root) → t .kind ≡ 25 → Read w p f (t .a)
 unfolding fromTerm table rowIn rowOf
-read-of p t (of-anno c v a b) e k = absurd (omega (arith, k, ap (λ (c : Cell). c .kind) e, kinds c))
-read-of p t (of-app c v u a b r) e k = absurd (omega (arith, k, ap (λ (c : Cell). c .kind) e, kinds c))
-read-of p t (of-fix r x) e k = absurd (omega (arith, k, ap (λ (c : Cell). c .kind) e, kinds (parts x refl .cell)))
+read-of p t (of-anno c v a b) e k = absurd (omega (arith, k, ap (λ (c : Cell). c .kind) e, kind-of c))
+read-of p t (of-app c v u a b r) e k = absurd (omega (arith, k, ap (λ (c : Cell). c .kind) e, kind-of c))
+read-of p t (of-fix r x) e k = absurd (omega (arith, k, ap (λ (c : Cell). c .kind) e, kind-of (parts x refl .cell)))
 read-of {w} p t (of-proj {l = l} {v = v} c f r i) e k =
     let a : t .a ≡ _ = ap (λ (c : Cell). c .a) (e ∙ c .is) in
     record { label = l; value = v; is = refl; final = f; run = at-run refl (sym a) refl r }
@@ -120,11 +120,11 @@ module _ {w : List ℕ} {start left a : ℕ} (l : ℕ) where
       subst (Content w start left 2) (Option·some-injective unit h n)
       (record { final = refl; run = at-run refl (omega (arith, ends r)) refl r; small = omega arith })
 
-  content-record : (v h : Term) → value? v ≡ true → Run true w start (refers term-sort) a (fromTerm v) left → (cellAt w a .kind ≡ 18 → ⊥) → project l v ≡ some h →
+  content-record : {v : Term} {A : Ty} (h : Term) → Value v A → value? v ≡ true → Run true w start (refers term-sort) a (fromTerm v) left → (cellAt w a .kind ≡ 18 → ⊥) → project l v ≡ some h →
       Content w start (left - 1) (size (proj l v)) h
-  unfolding project value? size kindOf fromTerm table rowIn rowOf
-  content-record unit h f r k n = absurd (k (kind-of unit r))
-  content-record (rcd m x) h f r k n =
+  unfolding project value? size kindIn fromTerm table rowIn rowOf
+  content-record h v-unit f r k n = absurd (k (run-kind r))
+  content-record h (v-rcd {l = m} {v = x} _) f r k n =
       let q = parts r refl in
       let y : q .y ≡ a = nothing (q .second) ∙ nothing (q .third) in
       subst (Content w start (left - 1) (size (proj l (rcd m x)))) (inside (eqb l m) x h n)
@@ -133,14 +133,9 @@ module _ {w : List ℕ} {start left a : ℕ} (l : ℕ) where
         run = at-run refl (omega (arith, ends (q .first), y, q .last)) (omega (arith, y, q .last)) (q .first);
         small = omega arith;
       })
-  content-record (var x) h f r k n = absurd (Option·none-ne-some h n)
-  content-record (lit x) h f r k n = absurd (Option·none-ne-some h n)
-  content-record (anno x A) h f r k n = absurd (Option·none-ne-some h n)
-  content-record (app x y) h f r k n = absurd (Option·none-ne-some h n)
-  content-record (lam x A B) h f r k n = absurd (Option·none-ne-some h n)
-  content-record (merge x y) h f r k n = absurd (Option·none-ne-some h n)
-  content-record (fix x A) h f r k n = absurd (Option·none-ne-some h n)
-  content-record (proj m x) h f r k n = absurd (Option·none-ne-some h n)
+  content-record h v-lit f r k n = absurd (Option·none-ne-some h n)
+  content-record h v-lam f r k n = absurd (Option·none-ne-some h n)
+  content-record h (v-merge _ _) f r k n = absurd (Option·none-ne-some h n)
 
 pub redex-root : {w : List ℕ} {p : Place} {t : Cell} {k : ℕ} → RedexAt w p t k → p .root < 8192
 redex-root d = redex-low (d .ready .standing .at)
@@ -177,4 +172,5 @@ module _ {w : List ℕ} (p : Place) (t : Cell) (d : RedexAt w p t 25) where
   pub projects-record : {v : Cell} → v ≡ cellAt w (t .a) → (v .kind ≡ 18 → ⊥) → Becomes w w p (doneAt p (p .left - 1))
   projects-record i k =
       becomes p (unchanged p) (omega (arith, left-low))
-      (λ e s h n. sized s (content-record (field-read s .label) (field-read s .value) h (field-read s .final) (field-read s .run) (kind-not i k) (project-is s n)))
+      (λ e s h n. let q = field-read s in
+      sized s (content-record (q .label) h (value?-says (q .value) .0 (true-says _ .1 (q .final)) .1) (q .final) (q .run) (kind-not i k) (project-is s n)))

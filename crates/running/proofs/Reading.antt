@@ -14,11 +14,12 @@ use Rattle.calculus.specs.Decide.{value?, topLike?, below?}
 use Rattle.calculus.specs.Evaluate.{next, cast, firstPart, castInt, castArrow}
 use Rattle.format.specs.Table.{Sort, type-sort, term-sort, refers, rowOf, rowIn, table}
 use Rattle.format.specs.Cell.{Cell, cellAt, cellBytes}
+use Rattle.format.specs.Tree.{kindIn}
 use Rattle.format.specs.Terms.{fromType, fromTerm}
-use Rattle.cells.specs.Held.{IsCell, mark}
-use Rattle.cells.proofs.Held.{type-mark}
+use Rattle.cells.specs.Held.{mark}
+use Rattle.cells.proofs.Held.{kind-of, type-mark}
 use Rattle.emission.specs.Runs.{Run, r-unused, r-refers}
-use Rattle.emission.proofs.Runs.{parts, run-type, kept-run}
+use Rattle.emission.proofs.Runs.{parts, run-kind, run-type, kept-run}
 use Rattle.moving.specs.Moves.{Kept, Wrote, ShiftReady, Shifts}
 use Rattle.moving.proofs.Runs.{shift-ready, run-shifted}
 use Rattle.running.specs.Places.{RedexParts, of-anno, of-app, of-fix, of-proj, Standing, doneAt, Becomes, RedexAt, TopAt, FunctionAt}
@@ -38,18 +39,15 @@ pub record Annotated (w : List ℕ) (p : Place) (f : Term) (a b : ℕ) : Type 0 
   pub run : Run true w (p .start) (refers term-sort) a (fromTerm value) (p .left)
   pub under : Run true w (p .right) (refers type-sort) b (fromType type) (p .root)
 
-kinds : {w : List ℕ} {i k l a b c : ℕ} → IsCell w i k l a b c → cellAt w i .kind ≡ k
-kinds p = ap (λ (c : Cell). c .kind) (p .is)
-
 annotated-of : {w : List ℕ} (p : Place) {f : Term} (t : Cell) → RedexParts w p f → t ≡ cellAt w (p .root) → t .kind ≡ 19 → Annotated w p f (t .a) (t .b)
 unfolding fromTerm table rowIn rowOf
 annotated-of p t (of-anno {v = v} {A = A} c f r u) e k =
     let a : t .a ≡ _ = ap (λ (c : Cell). c .a) (e ∙ c .is) in
     let b : t .b ≡ _ = ap (λ (c : Cell). c .b) (e ∙ c .is) in
     record { value = v; type = A; is = refl; final = f; run = at-run refl (sym a) refl r; under = at-run refl (sym b) refl u }
-annotated-of p t (of-app c v u a b r) e k = absurd (omega (arith, k, ap (λ (c : Cell). c .kind) e, kinds c))
-annotated-of p t (of-fix r x) e k = absurd (omega (arith, k, ap (λ (c : Cell). c .kind) e, kinds (parts x refl .cell)))
-annotated-of p t (of-proj c v a r) e k = absurd (omega (arith, k, ap (λ (c : Cell). c .kind) e, kinds c))
+annotated-of p t (of-app c v u a b r) e k = absurd (omega (arith, k, ap (λ (c : Cell). c .kind) e, kind-of c))
+annotated-of p t (of-fix r x) e k = absurd (omega (arith, k, ap (λ (c : Cell). c .kind) e, kind-of (parts x refl .cell)))
+annotated-of p t (of-proj c v a r) e k = absurd (omega (arith, k, ap (λ (c : Cell). c .kind) e, kind-of c))
 
 -- an annotated value is read
 next-anno : (v : Term) (A : Ty) → value? v ≡ true → next (anno v A) ≡ cast A v
@@ -65,12 +63,12 @@ data TypeKind : ℕ → Ty → Type 0 where
   k-field : {l : ℕ} {A : Ty} → TypeKind 5 (field l A)
 
 kind-type : {w : List ℕ} {x i e : ℕ} {o : Sort} (A : Ty) → Run true w x (refers o) i (fromType A) e → TypeKind (cellAt w i .kind) A
-unfolding fromType table rowIn rowOf
-kind-type int r = rw (kinds (parts r refl .cell)) k-int
-kind-type top r = rw (kinds (parts r refl .cell)) k-top
-kind-type (arrow A B) r = rw (kinds (parts r refl .cell)) k-arrow
-kind-type (inter A B) r = rw (kinds (parts r refl .cell)) k-inter
-kind-type (field l A) r = rw (kinds (parts r refl .cell)) k-field
+unfolding fromType kindIn
+kind-type int r = rw (run-kind r) k-int
+kind-type top r = rw (run-kind r) k-top
+kind-type (arrow A B) r = rw (run-kind r) k-arrow
+kind-type (inter A B) r = rw (run-kind r) k-inter
+kind-type (field l A) r = rw (run-kind r) k-field
 
 module _ {w : List ℕ} (p : Place) (t : Cell) (d : RedexAt w p t 19) where
   pub annotated : {e : Term} (s : Standing w (Redex p) e) → Annotated w p (s .focus) (t .a) (t .b)

@@ -9,11 +9,12 @@ use mathlib.Core.List.{List, _∷_}
 use mathlib.Core.Option.{some}
 use lib.ListN.{length}
 use Rattle.calculus.specs.Syntax.{Ty, top, arrow, field}
-use Rattle.calculus.specs.Syntax.{Term, var, lit, unit, anno, app, lam, merge, fix, rcd, proj, size}
+use Rattle.calculus.specs.Syntax.{Term, anno, app, lam, merge, fix, rcd, proj, size}
 use Rattle.calculus.specs.Infer.{infer}
 use Rattle.calculus.specs.Decide.{topLike?}
 use Rattle.format.specs.Table.{term-sort, refers, Row, table, rowIn, rowOf}
 use Rattle.format.specs.Cell.{Cell, cellAt}
+use Rattle.format.proofs.Trees.{term-cells, term-positive}
 use Rattle.cells.specs.Held.{mark, HoldsType, HoldsTerm, Same}
 use Rattle.cells.proofs.Held.{TermAndType, TwoTerms, OneTerm, held-kinds, top-at, arrow-at, field-at, anno-at, app-at, lam-at, merge-at, fix-at, rcd-at, proj-at}
 use Rattle.cells.proofs.Held.{same-held, same-context}
@@ -24,17 +25,7 @@ use Rattle.typing.proofs.Ways.{Leads, leads}
 use Rattle.typing.proofs.Answers.{finding, IsFound, typed}
 
 pub size-one : (e : Term) → 1 ≤ size e
-unfolding size
-size-one (var n) = omega arith
-size-one (lit i) = omega arith
-size-one unit = omega arith
-size-one (anno e A) = omega arith
-size-one (app e f) = omega arith
-size-one (lam e A B) = omega arith
-size-one (merge e f) = omega arith
-size-one (fix e A) = omega arith
-size-one (rcd l e) = omega arith
-size-one (proj l e) = omega arith
+size-one e = omega (arith, term-cells e, term-positive e)
 
 pub mark-one : (A : Ty) → mark A ≤ 1
 mark-one A = go (topLike? A)
