@@ -43,7 +43,7 @@ pub const WORK: usize = 65_536;
 /// measured to take.
 pub const STACK: usize = 1_110_016;
 
-// The tags of an answer, as crates/report/specs/Numbers.antt defines them: a refusal has its own number.
+// The tags of an answer, as crates/answers/specs/Exported.antt defines them: a refusal has its own number.
 const LAST_REFUSAL: u8 = 31;
 const ACCEPTED: u8 = 32;
 const TO_VALUE: u8 = 33;

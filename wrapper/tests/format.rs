@@ -68,7 +68,7 @@ fn blocks(text: &str) -> Vec<Block> {
 /// FORMAT.md before the refusals, and the section of each refusal with the number that it begins with.
 fn format() -> (String, Vec<(u8, String)>) {
     let text = text("docs/FORMAT.md");
-    let (before, after) = text.split_once("\n## Where a book is turned back\n").expect("the refusals");
+    let (before, after) = text.split_once("\n## Where a book is refused\n").expect("the refusals");
     let (refusals, _) = after.split_once("\n## ").expect("the end of the refusals");
     let sections = refusals.split("\n### ").skip(1).map(|section| {
         let (head, rest) = section.split_once(": ").expect("a number and a condition");

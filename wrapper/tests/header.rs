@@ -99,7 +99,7 @@ fn constants() -> BTreeMap<String, usize> {
 
 /// The definition of an answer's numbers.
 fn definition() -> String {
-    read("../crates/report/specs/Numbers.antt")
+    read("../crates/answers/specs/Exported.antt")
 }
 
 /// The header's name for the tag of an answer.

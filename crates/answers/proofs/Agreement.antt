@@ -1,4 +1,4 @@
--- Two runs of one term, by what a run is (`Runs`) and two facts of its chain: the lower limit's run reports the lesser of its limit and
+-- Two runs of one term, by what a run is (`TakesSteps`) and two facts of its chain: the lower limit's run reports the lesser of its limit and
 -- the other's steps, and says the same unless it was stopped for steps. Assumes nothing.
 use Prim.Native.Nat.{ℕ, suc, _≤_, _<_, min}
 use mathlib.Core.Path.{_≡_, refl, sym, _∙_, subst, subst₂}
@@ -9,13 +9,13 @@ use Rattle.calculus.specs.Syntax.{Term, size, IsValue}
 use Rattle.calculus.specs.Step.{Step, Reaches, r-suc}
 use Rattle.format.specs.Book.{sizeLimit, termBook}
 use Rattle.answers.specs.Answer.{Stop, value, spent, room, Result, result, stopped}
-use Rattle.answers.specs.Engine.{laid}
-use Rattle.answers.specs.Demands.{StopsBy, Runs}
+use Rattle.answers.specs.Engine.{padded}
+use Rattle.answers.specs.Demands.{StopsBy, TakesSteps}
 use Rattle.answers.proofs.Reaching.{onward}
 
-pub told-alike : {s t : Stop} {n m : ℕ} {f g : Term} → s ≡ t → n ≡ m → f ≡ g →
-    result (stopped s n) (laid (termBook f)) ≡ result (stopped t m) (laid (termBook g))
-told-alike p q o = rw (p, q, o)
+pub end-result-alike : {s t : Stop} {n m : ℕ} {f g : Term} → s ≡ t → n ≡ m → f ≡ g →
+    result (stopped s n) (padded (termBook f)) ≡ result (stopped t m) (padded (termBook g))
+end-result-alike p q o = rw (p, q, o)
 
 module _
     {e : Term}
@@ -44,7 +44,7 @@ module _
     same-stop room spent n f h v w d = absurd (omega (arith, v .1, w .1))
     same-stop room room n f h v w d = refl
 
-    module _ {l k : ℕ} {r q : Result} (x : Runs e l r) (y : Runs e k q) (h : l ≤ k) where
+    module _ {l k : ℕ} {r q : Result} (x : TakesSteps e l r) (y : TakesSteps e k q) (h : l ≤ k) where
       -- the one whose limit is no higher stopped no later
       no-later : x .steps ≤ y .steps
       no-later =
@@ -74,4 +74,4 @@ module _
           only (y .steps) (x .term) (y .term) (subst (λ (i : ℕ). Reaches i e (x .term)) n (x .reached)) (y .reached) in
           let w : StopsBy (y .stop) k (x .steps) (x .term) = subst₂ (λ (i : ℕ) (g : Term). StopsBy (y .stop) k i g) (sym n) (sym f) (y .why) in
           let s : x .stop ≡ y .stop = same-stop (x .stop) (y .stop) (x .steps) (x .term) h (x .why) w d in
-          x .says ∙ told-alike s n f ∙ sym (y .says)
+          x .says ∙ end-result-alike s n f ∙ sym (y .says)

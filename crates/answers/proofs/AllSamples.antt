@@ -6,28 +6,28 @@ use mathlib.Core.Bool.{decide}
 use mathlib.Core.Option.{orElse}
 use mathlib.Core.List.{List, [], _∷_, map}
 use native.Mathlib.Decide.{ℕ-discrete}
-use Rattle.calculus.specs.Syntax.{Ty, int, size, size-type, Term, var, anno, fix, put}
+use Rattle.calculus.specs.Syntax.{Ty, int, size, size-type, Term, var, anno, fix, substitute}
 use Rattle.calculus.specs.Decide.{topLike?, belowWithin, below?, disjointInt, disjointArrow, disjointField, disjoint?, value?, closed?}
 use Rattle.calculus.specs.Decide.{sameUnder, sameInteger, sameType, sameTerm, eachPart, consistentLit, consistentLam, consistentRcd, consistent?}
 use Rattle.calculus.specs.Infer.{lookup, checked, applied, projected, labelled, mergeable?, merged, infer}
 use Rattle.calculus.specs.Evaluate.{mergeBoth, firstPart, castInt, castArrow, castField, cast, apply, project, next}
 use Rattle.format.specs.Table.{All, table, rowIn, rowOf}
 use Rattle.format.specs.Cell.{cellAt, cellBytes, signed, unsigned}
-use Rattle.format.specs.Tree.{cells, branch, grow, openWithin, treeAt, refer, lay}
+use Rattle.format.specs.Tree.{cells, fieldTree, cellTree, unshareWithin, treeAt, refer, encode}
 use Rattle.format.specs.Terms.{fromType, fromTerm, plainOf, toType, toTerm}
-use Rattle.format.specs.Book.{firstBad, rowFault, cellFault, cellsFinding, rootFinding, cellsForm, formFinding, follow, opened, trailer, book}
+use Rattle.format.specs.Book.{firstBad, rowFault, cellFault, cellsFinding, rootFinding, cellsForm, formFinding, follow, rootTerm, trailer, book}
 use Rattle.answers.specs.Answer.{spent, room, refused, Result, result}
-use Rattle.answers.specs.Engine.{IsWork, zeros, laid}
-use Rattle.answers.specs.Definition.{definition, turnedBack, afterTyping, afterForm, shown, full?, firstStop, ended, evaluate, told, reported}
+use Rattle.answers.specs.Engine.{IsWork, zeros, padded}
+use Rattle.answers.specs.Definition.{definition, refusalResult, afterTyping, afterForm, shown, full?, firstStop, ended, evaluate, endResult, reported}
 use Rattle.answers.specs.Definition.{judge, check, run}
 use Rattle.answers.specs.Samples as Samples
-use Rattle.answers.specs.Samples.{Call, Sample, called, expected, Holds, samples}
+use Rattle.answers.specs.Samples.{Call, Sample, called, expected, Meets, samples}
 use Rattle.answers.specs.Samples.{equalNumbers, unequalNumbers, mergedVariable, twiceRead, identityOnMerge, identityUnderTop}
 use Rattle.answers.specs.Samples.{appliedTop, appliedNumber, hiddenField, ownFixpoint, doubled, refusals}
 
 -- to name it on a line is to unfold every definition that a computation of an answer meets, but for the zero tail
 unfoldable pub computing : ℕ
-unfolding size size-type put topLike? belowWithin below? disjointInt disjointArrow disjointField disjoint? value? closed? decide sameUnder sameInteger ℕ-discrete sameType sameTerm eachPart consistentLit consistentLam consistentRcd consistent? lookup checked applied projected labelled mergeable? merged infer orElse mergeBoth firstPart castInt castArrow castField cast apply project next table rowIn rowOf cellAt cellBytes signed unsigned cells branch grow openWithin treeAt refer lay fromType fromTerm plainOf toType toTerm firstBad rowFault cellFault cellsFinding rootFinding cellsForm formFinding follow opened trailer book turnedBack afterTyping afterForm shown full? firstStop evaluate told laid
+unfolding size size-type substitute topLike? belowWithin below? disjointInt disjointArrow disjointField disjoint? value? closed? decide sameUnder sameInteger ℕ-discrete sameType sameTerm eachPart consistentLit consistentLam consistentRcd consistent? lookup checked applied projected labelled mergeable? merged infer orElse mergeBoth firstPart castInt castArrow castField cast apply project next table rowIn rowOf cellAt cellBytes signed unsigned cells fieldTree cellTree unshareWithin treeAt refer encode fromType fromTerm plainOf toType toTerm firstBad rowFault cellFault cellsFinding rootFinding cellsForm formFinding follow rootTerm trailer book refusalResult afterTyping afterForm shown full? firstStop evaluate endResult padded
 computing = 0
 
 -- with a work buffer of 65,536 bytes the rows from 2 on decide
@@ -56,18 +56,18 @@ as-answered s w k = by (s .call) refl
     by Samples.check e = rw (e, called, answered) (in-work (s .book) w shown k)
     by (Samples.run l) e = rw (e, called, answered) (in-work (s .book) w (reported (s .book) l) k)
 
-each : (ss : List Sample) → map answered ss ≡ map expected ss → All (Holds definition) ss
+each : (ss : List Sample) → map answered ss ≡ map expected ss → All (Meets definition) ss
 each [] e = tt
 each (s ∷ ss) e = ((λ w k. as-answered s w k ∙ cc), each ss cc)
 
-pub samples-hold : All (Holds definition) samples
+pub samples-hold : All (Meets definition) samples
 samples-hold = each samples computed
 
 refusals-computed : map answered refusals ≡ map expected refusals
 unfolding computing answered refusals unequalNumbers appliedNumber doubled
 refusals-computed = refl
 
-pub refusals-hold : All (Holds definition) refusals
+pub refusals-hold : All (Meets definition) refusals
 refusals-hold = each refusals refusals-computed
 
 -- ---- closed facts beside the samples

@@ -18,14 +18,14 @@ use Rattle.calculus.proofs.Chain.{sound}
 use Rattle.calculus.proofs.Soundness.{value-no-step}
 use Rattle.calculus.proofs.Inference.{infer-says}
 use Rattle.format.specs.Cell.{IsBytes}
-use Rattle.format.specs.Book.{sizeLimit, Finding, formFinding, WellFormed, rootOf, follow, opened, termBook}
-use Rattle.format.proofs.Tests.{formFinding-says, opened-fits, opened-small}
-use Rattle.format.specs.RoundTrip.{TermLaid}
-use Rattle.format.proofs.RoundTrip.{term-laid}
+use Rattle.format.specs.Book.{sizeLimit, Finding, formFinding, WellFormed, rootOf, follow, rootTerm, termBook}
+use Rattle.format.proofs.Tests.{formFinding-says, rootTerm-fits, rootTerm-small}
+use Rattle.format.specs.RoundTrip.{TermRoundTrip}
+use Rattle.format.proofs.RoundTrip.{term-round-trip}
 use Rattle.answers.specs.Answer.{faultNumber, reasonNumber, Stop, refused, accepted, stopped, stepsOf, Result, result}
 use Rattle.answers.specs.Engine.{Engine, workLength, IsWork, IsLimit, zeros}
-use Rattle.answers.specs.Definition.{definition, check, run, judge, afterForm, afterTyping, turnedBack, shown, told, ending, reported}
-use Rattle.answers.specs.Demands.{Accepts, Runs, Agree, Demand2, Demand3For, Demand3}
+use Rattle.answers.specs.Definition.{definition, check, run, judge, afterForm, afterTyping, refusalResult, shown, endResult, ending, reported}
+use Rattle.answers.specs.Demands.{Accepts, TakesSteps, Agree, Demand2, Demand3For, Demand3}
 use Rattle.answers.proofs.AllSamples.{in-work}
 use Rattle.answers.proofs.Fits.{reaches-fits}
 use Rattle.answers.proofs.Running.{Ran, ran}
@@ -35,7 +35,7 @@ use Rattle.answers.proofs.Agreement.{lesser-steps, same-result}
 only-one : {e : Term} {A : Ty} → Typed [] e A → (n : ℕ) (f g : Term) → Reaches n e f → Reaches n e g → f ≡ g
 only-one t n f g r q = sound t n g q .only f r
 
-pub runs-agree : {e : Term} {A : Ty} {l k : ℕ} {x y : Result} → Typed [] e A → Runs e l x → Runs e k y → Agree l k x y
+pub runs-agree : {e : Term} {A : Ty} {l k : ℕ} {x y : Result} → Typed [] e A → TakesSteps e l x → TakesSteps e k y → Agree l k x y
 runs-agree {e} {l = l} t p q =
     record {
       lesser = λ h. steps-of p ∙ lesser-steps (only-one t) final p q h ∙ ap (min l) (sym (steps-of q));
@@ -46,23 +46,23 @@ runs-agree {e} {l = l} t p q =
     final : (f g : Term) → IsValue f → ¬ Step f g
     final f g v s = value-no-step (v .1) s
 
-    steps-of : {n : ℕ} {r : Result} (z : Runs e n r) → stepsOf (r .answer) ≡ z .steps
+    steps-of : {n : ℕ} {r : Result} (z : TakesSteps e n r) → stepsOf (r .answer) ≡ z .steps
     steps-of z = ap (λ (r : Result). stepsOf (r .answer)) (z .says)
 
 -- Demand 2 fixes what an engine says of accepted books, so the theorem of the calculus gives demand 3.
 module _ (E : Engine) (d : Demand2 E) (b : List ℕ) (bytes : IsBytes b) (a : Accepts E b) where
-  well-typed : WellFormed b × ((A : Ty) × Typed [] (opened b) A)
+  well-typed : WellFormed b × ((A : Ty) × Typed [] (rootTerm b) A)
   well-typed = d b bytes .accepts .0 a
 
-  book-accepted : (n : ℕ) (f : Term) → Reaches n (opened b) f → size f ≤ sizeLimit → (w : List ℕ) → IsWork w →
+  book-accepted : (n : ℕ) (f : Term) → Reaches n (rootTerm b) f → size f ≤ sizeLimit → (w : List ℕ) → IsWork w →
       (m : ℕ) × (E .check (termBook f) w .answer ≡ accepted m)
   book-accepted n f r h w k =
-      let l : TermLaid f = term-laid f (reaches-fits r (opened-fits b bytes (well-typed .0))) h in
+      let l : TermRoundTrip f = term-round-trip f (reaches-fits r (rootTerm-fits b bytes (well-typed .0))) h in
       let t = sound (well-typed .1 .1) n f r .typed in
-      let u : Typed [] (opened (termBook f)) (t .0) = subst⁻¹ (λ (x : Term). Typed [] x (t .0)) (l .opens) (t .1) in
+      let u : Typed [] (rootTerm (termBook f)) (t .0) = subst⁻¹ (λ (x : Term). Typed [] x (t .0)) (l .decodes) (t .1) in
       (_, ap (λ (x : Result). x .answer) (d (termBook f) (l .bytes) .shows (t .0) (l .well-formed) u w k))
 
-  runs-of : (w : List ℕ) (l : ℕ) → IsWork w → IsLimit l → Runs (opened b) l (E .run b w l)
+  runs-of : (w : List ℕ) (l : ℕ) → IsWork w → IsLimit l → TakesSteps (rootTerm b) l (E .run b w l)
   runs-of = d b bytes .runs a
 
   pub demand3-for : Demand3For E b
@@ -72,7 +72,7 @@ module _ (E : Engine) (d : Demand2 E) (b : List ℕ) (bytes : IsBytes b) (a : Ac
         ends = λ n f r. sound (well-typed .1 .1) n f r .ends;
         typed = λ n f r. let p = sound (well-typed .1 .1) n f r .typed in (well-typed .1 .0, p .0, well-typed .1 .1, p .1, p .2);
         book = book-accepted;
-        lays-down = λ w l k h. let x = runs-of w l k h in (x .stop, x .steps, x .term, x .reached, x .says);
+        encodes = λ w l k h. let x = runs-of w l k h in (x .stop, x .steps, x .term, x .reached, x .says);
         agree = λ w v l m j k h i. runs-agree (well-typed .1 .1) (runs-of w l j h) (runs-of v m k i);
       }
 
@@ -80,26 +80,26 @@ pub demand3-from-2 : (E : Engine) → Demand2 E → Demand3 E
 demand3-from-2 E d b bytes a = demand3-for E d b bytes a
 
 -- The definitions.
-pub outcome : (b w : List ℕ) (g : Ty → Result) (A : Ty) → IsWork w → WellFormed b → Typed [] (opened b) A → judge b w g ≡ g A
+pub outcome : (b w : List ℕ) (g : Ty → Result) (A : Ty) → IsWork w → WellFormed b → Typed [] (rootTerm b) A → judge b w g ≡ g A
 unfolding afterForm afterTyping
-outcome b w g A k f t = in-work b w g k ∙ rw (formFinding-says b .1 f) (rw (infer-says [] (opened b) A .1 t))
+outcome b w g A k f t = in-work b w g k ∙ rw (formFinding-says b .1 f) (rw (infer-says [] (rootTerm b) A .1 t))
 
--- a book is well-formed and typed, or turned back whatever is answered for a type
+-- a book is well-formed and typed, or refused whatever is answered for a type
 abbrev Judged : List ℕ → Type 0
 Judged b =
-    (WellFormed b × ((A : Ty) × Typed [] (opened b) A))
-    ⊎ ((n : ℕ) × (i : ℕ) × ((g : Ty → Result) → afterForm b g (formFinding b) ≡ turnedBack n i))
+    (WellFormed b × ((A : Ty) × Typed [] (rootTerm b) A))
+    ⊎ ((n : ℕ) × (i : ℕ) × ((g : Ty → Result) → afterForm b g (formFinding b) ≡ refusalResult n i))
 
 judged : (b : List ℕ) → Judged b
 unfolding afterForm afterTyping
 judged b = form (formFinding b) refl
   where
-    typing : (x : Found) → formFinding b ≡ none → infer [] (opened b) ≡ x → Judged b
-    typing (found A) f e = inl (formFinding-says b .0 f, (A, infer-says [] (opened b) A .0 e))
+    typing : (x : Found) → formFinding b ≡ none → infer [] (rootTerm b) ≡ x → Judged b
+    typing (found A) f e = inl (formFinding-says b .0 f, (A, infer-says [] (rootTerm b) A .0 e))
     typing (Infer.refused r p) f e = inr (reasonNumber r, follow b (rootOf b) p, λ g. rw f (rw e))
 
     form : (x : Option Finding) → formFinding b ≡ x → Judged b
-    form none f = typing (infer [] (opened b)) f refl
+    form none f = typing (infer [] (rootTerm b)) f refl
     form (some y) f = inr (faultNumber (y .fault), y .cell, λ g. rw f)
 
 pub work-at-hand : IsWork (zeros workLength)
@@ -110,15 +110,15 @@ pub refused-accepted : (m i n : ℕ) → refused m i ≢ accepted n
 refused-accepted m i n h = let z : _≡_ {A = ℕ} 0 1 = cc in absurd (omega arith)
 
 -- a check that accepts met no row
-accepts-typed : (b : List ℕ) → Accepts definition b → Judged b → WellFormed b × ((A : Ty) × Typed [] (opened b) A)
-unfolding check turnedBack
+accepts-typed : (b : List ℕ) → Accepts definition b → Judged b → WellFormed b × ((A : Ty) × Typed [] (rootTerm b) A)
+unfolding check refusalResult
 accepts-typed b a (inl t) = t
 accepts-typed b a (inr x) =
     absurd
     (refused-accepted (x .0) (x .1) (a .size)
     (sym (ap (λ (y : Result). y .answer) (in-work b (a .work) shown (a .is-work) ∙ x .2 shown)) ∙ a .answers))
 
-pub typed-accepts : (b : List ℕ) → WellFormed b × ((A : Ty) × Typed [] (opened b) A) → Accepts definition b
+pub typed-accepts : (b : List ℕ) → WellFormed b × ((A : Ty) × Typed [] (rootTerm b) A) → Accepts definition b
 unfolding check shown
 typed-accepts b t =
     record {
@@ -129,20 +129,20 @@ typed-accepts b t =
     }
 
 -- the term after no steps is the root
-first-small : (b : List ℕ) → IsBytes b → WellFormed b → (n : ℕ) (f : Term) → n ≤ 0 → Reaches n (opened b) f → size f ≤ sizeLimit
-first-small b bytes t n f h r-zero = opened-small b bytes t
+first-small : (b : List ℕ) → IsBytes b → WellFormed b → (n : ℕ) (f : Term) → n ≤ 0 → Reaches n (rootTerm b) f → size f ≤ sizeLimit
+first-small b bytes t n f h r-zero = rootTerm-small b bytes t
 first-small b bytes t n f h (r-suc q s) = absurd (omega arith)
 
 -- the executable run from the root
-pub root-ran : (b : List ℕ) (l : ℕ) {A : Ty} → IsBytes b → WellFormed b → Typed [] (opened b) A → Ran (opened b) l (ending b l)
+pub root-ran : (b : List ℕ) (l : ℕ) {A : Ty} → IsBytes b → WellFormed b → Typed [] (rootTerm b) A → Ran (rootTerm b) l (ending b l)
 root-ran b l bytes f t =
-    subst (λ (n : ℕ). Ran (opened b) n (ending b l)) (zero-add l) (ran t l 0 (opened b) r-zero (first-small b bytes f))
+    subst (λ (n : ℕ). Ran (rootTerm b) n (ending b l)) (zero-add l) (ran t l 0 (rootTerm b) r-zero (first-small b bytes f))
 
-pub definition-runs : (b w : List ℕ) (l : ℕ) → IsBytes b → IsWork w → Accepts definition b → Runs (opened b) l (run b w l)
-unfolding run told
+pub definition-runs : (b w : List ℕ) (l : ℕ) → IsBytes b → IsWork w → Accepts definition b → TakesSteps (rootTerm b) l (run b w l)
+unfolding run endResult
 definition-runs b w l bytes k a =
     let t = accepts-typed b a (judged b) in
-    let r : Ran (opened b) l (ending b l) = root-ran b l bytes (t .0) (t .1 .1) in
+    let r : Ran (rootTerm b) l (ending b l) = root-ran b l bytes (t .0) (t .1 .1) in
     record {
       stop = _;
       steps = _;
@@ -154,10 +154,10 @@ definition-runs b w l bytes k a =
       why = r .why;
     }
 
--- whatever is answered for a type, a book that is turned back is turned back alike
-turned-alike : (b w : List ℕ) (g h : Ty → Result) → afterForm b g (formFinding b) ≡ afterForm b h (formFinding b) → judge b w g ≡ judge b w h
+-- whatever is answered for a type, a book that is refused is refused alike
+refused-alike : (b w : List ℕ) (g h : Ty → Result) → afterForm b g (formFinding b) ≡ afterForm b h (formFinding b) → judge b w g ≡ judge b w h
 unfolding judge
-turned-alike b w g h e = go (eqb (length w) workLength)
+refused-alike b w g h e = go (eqb (length w) workLength)
   where
     go : (x : Bool) →
         _≡_ {A = Result} (elim x [ true ↦ afterForm b g (formFinding b) | false ↦ result (refused 1 0) w ])
@@ -165,10 +165,10 @@ turned-alike b w g h e = go (eqb (length w) workLength)
     go true = e
     go false = refl
 
-definition-turns-back : (b w : List ℕ) (l : ℕ) → Judged b → ¬ Accepts definition b → run b w l ≡ check b w
+definition-refuses : (b w : List ℕ) (l : ℕ) → Judged b → ¬ Accepts definition b → run b w l ≡ check b w
 unfolding run check
-definition-turns-back b w l (inl t) n = absurd (n (typed-accepts b t))
-definition-turns-back b w l (inr x) n = turned-alike b w (reported b l) shown (x .2 _ ∙ sym (x .2 shown))
+definition-refuses b w l (inl t) n = absurd (n (typed-accepts b t))
+definition-refuses b w l (inr x) n = refused-alike b w (reported b l) shown (x .2 _ ∙ sym (x .2 shown))
 
 pub demand2 : Demand2 definition
 unfolding check shown
@@ -177,7 +177,7 @@ demand2 b bytes =
       accepts = ((λ a. accepts-typed b a (judged b)), typed-accepts b);
       shows = λ A f t w k. outcome b w shown A k f t;
       runs = λ a w l k h. definition-runs b w l bytes k a;
-      turns-back = λ n w l h. definition-turns-back b w l (judged b) n;
+      refuses = λ n w l h. definition-refuses b w l (judged b) n;
     }
 
 pub demand3 : Demand3 definition

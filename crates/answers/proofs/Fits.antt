@@ -1,7 +1,7 @@
 -- Steps keep labels, indices and numbers within their fields. Assumes nothing.
 use Prim.Native.Nat.{ℕ, suc}
 use lib.Dec.{eqb}
-use Rattle.calculus.specs.Syntax.{Ty, Term, var, lit, unit, anno, app, lam, merge, fix, rcd, proj, put}
+use Rattle.calculus.specs.Syntax.{Ty, Term, var, lit, unit, anno, app, lam, merge, fix, rcd, proj, substitute}
 use Rattle.calculus.specs.TypedReduction.{Cast, c-lit, c-top, c-arrow, c-rcd, c-left, c-right, c-both}
 use Rattle.calculus.specs.Step.{Step, s-app-left, s-app-right, s-merge-left, s-merge-right, s-anno, s-rcd, s-proj, s-cast, s-beta}
 use Rattle.calculus.specs.Step.{s-app-unit, s-proj-unit, s-proj-rcd, s-fix, Reaches, r-zero, r-suc}
@@ -18,18 +18,18 @@ cast-fits (c-left w o c) f t = cast-fits c (f .0) t
 cast-fits (c-right v o c) f t = cast-fits c (f .1) t
 cast-fits (c-both c d) f t = (cast-fits c f (t .0), cast-fits d f (t .1))
 
-put-fits : (k : ℕ) (s e : Term) → TermFits s → TermFits e → TermFits (put k s e)
-unfolding put
-put-fits k s (var n) h f = by-test TermFits (eqb n k) {x = s} {y = var n} (λ t. h) (λ t. f)
-put-fits k s (lit i) h f = f
-put-fits k s unit h f = f
-put-fits k s (anno e A) h f = (put-fits k s e h (f .0), f .1)
-put-fits k s (app e g) h f = (put-fits k s e h (f .0), put-fits k s g h (f .1))
-put-fits k s (lam e A B) h f = (put-fits (suc k) s e h (f .0), f .1, f .2)
-put-fits k s (merge e g) h f = (put-fits k s e h (f .0), put-fits k s g h (f .1))
-put-fits k s (fix e A) h f = (put-fits (suc k) s e h (f .0), f .1)
-put-fits k s (rcd l e) h f = (f .0, put-fits k s e h (f .1))
-put-fits k s (proj l e) h f = (f .0, put-fits k s e h (f .1))
+substitute-fits : (k : ℕ) (s e : Term) → TermFits s → TermFits e → TermFits (substitute k s e)
+unfolding substitute
+substitute-fits k s (var n) h f = by-test TermFits (eqb n k) {x = s} {y = var n} (λ t. h) (λ t. f)
+substitute-fits k s (lit i) h f = f
+substitute-fits k s unit h f = f
+substitute-fits k s (anno e A) h f = (substitute-fits k s e h (f .0), f .1)
+substitute-fits k s (app e g) h f = (substitute-fits k s e h (f .0), substitute-fits k s g h (f .1))
+substitute-fits k s (lam e A B) h f = (substitute-fits (suc k) s e h (f .0), f .1, f .2)
+substitute-fits k s (merge e g) h f = (substitute-fits k s e h (f .0), substitute-fits k s g h (f .1))
+substitute-fits k s (fix e A) h f = (substitute-fits (suc k) s e h (f .0), f .1)
+substitute-fits k s (rcd l e) h f = (f .0, substitute-fits k s e h (f .1))
+substitute-fits k s (proj l e) h f = (f .0, substitute-fits k s e h (f .1))
 
 step-fits : {e g : Term} → Step e g → TermFits e → TermFits g
 step-fits (s-app-left s) f = (step-fits s (f .0), f .1)
@@ -40,11 +40,11 @@ step-fits (s-anno s) f = (step-fits s (f .0), f .1)
 step-fits (s-rcd s) f = (f .0, step-fits s (f .1))
 step-fits (s-proj s) f = (f .0, step-fits s (f .1))
 step-fits (s-cast c) f = cast-fits c (f .0) (f .1)
-step-fits (s-beta {e} {v} {x} c) f = (put-fits 0 x e (cast-fits c (f .1) (f .0 .1)) (f .0 .0), f .0 .2)
+step-fits (s-beta {e} {v} {x} c) f = (substitute-fits 0 x e (cast-fits c (f .1) (f .0 .1)) (f .0 .0), f .0 .2)
 step-fits (s-app-unit v) f = tt
 step-fits s-proj-unit f = tt
 step-fits (s-proj-rcd v) f = f .1 .1
-step-fits (s-fix {e} {A}) f = (put-fits 0 (fix e A) e f (f .0), f .1)
+step-fits (s-fix {e} {A}) f = (substitute-fits 0 (fix e A) e f (f .0), f .1)
 
 pub reaches-fits : {n : ℕ} {e f : Term} → Reaches n e f → TermFits e → TermFits f
 reaches-fits r-zero h = h

@@ -20,18 +20,18 @@ use Rattle.calculus.proofs.Chain.{reaches-unique}
 use Rattle.calculus.proofs.Soundness.{value-no-step}
 use Rattle.calculus.proofs.Inference.{infer-says}
 use Rattle.format.specs.Cell.{IsBytes}
-use Rattle.format.specs.Book.{sizeLimit, formFinding, WellFormed, opened, termBook}
+use Rattle.format.specs.Book.{sizeLimit, formFinding, WellFormed, rootTerm, termBook}
 use Rattle.format.proofs.Tests.{formFinding-says}
 use Rattle.answers.specs.Answer.{Stop, value, spent, room, accepted, stopped, stepsOf, Result, result}
-use Rattle.answers.specs.Engine.{Engine, workLength, IsWork, IsLimit, zeros, laid}
-use Rattle.answers.specs.Definition.{definition, run, turnedBack, told, Ended, ending}
-use Rattle.answers.specs.Demands.{Accepts, Runs, Demand2, Demand3For, Demand3}
-use Rattle.answers.specs.Impostors.{posing, atMostOne, hurried, early, figured, inventedSteps, repeating, repeatsFirst, handsBack, fixedReply}
+use Rattle.answers.specs.Engine.{Engine, workLength, IsWork, IsLimit, zeros, padded}
+use Rattle.answers.specs.Definition.{definition, run, refusalResult, endResult, Ended, ending}
+use Rattle.answers.specs.Demands.{Accepts, TakesSteps, Demand2, Demand3For, Demand3}
+use Rattle.answers.specs.Impostors.{posing, atMostOne, hurried, early, figured, inventedSteps, repeating, repeatsFirst, returnsBook, fixedReply}
 use Rattle.answers.specs.Impostors.{RefusesAll, oneRefusal, Impostors}
 use Rattle.answers.specs.Samples.{line, equalNumbers, unequalNumbers, twiceRead}
 use Rattle.answers.proofs.Reaching.{onward}
 use Rattle.answers.proofs.Running.{Ran, evaluate-value, evaluate-spent}
-use Rattle.answers.proofs.Agreement.{told-alike, lesser-steps, same-result}
+use Rattle.answers.proofs.Agreement.{end-result-alike, lesser-steps, same-result}
 use Rattle.answers.proofs.Demands.{outcome, work-at-hand, refused-accepted, typed-accepts, root-ran, demand2, demand3}
 use Rattle.answers.proofs.AllSamples.{computing}
 
@@ -45,7 +45,7 @@ clash z = omega arith
 record Accepted (b : List ℕ) (A : Ty) : Type 0 where
   bytes : IsBytes b
   formed : WellFormed b
-  typed : Typed [] (opened b) A
+  typed : Typed [] (rootTerm b) A
 
 bytes? : List ℕ → Bool
 bytes? [] = true
@@ -58,8 +58,8 @@ all-bytes (n ∷ s) h zero = ltb→lt n 256 (subst⁻¹ T (and-eq-true-iff (ltb 
 all-bytes (n ∷ s) h (suc i) = all-bytes s (and-eq-true-iff (ltb n 256) (bytes? s) .0 h .1) i
 
 -- three computations
-computed : (b : List ℕ) (A : Ty) → bytes? b ≡ true → formFinding b ≡ none → infer [] (opened b) ≡ found A → Accepted b A
-computed b A h f t = record { bytes = all-bytes b h; formed = formFinding-says b .0 f; typed = infer-says [] (opened b) A .0 t }
+computed : (b : List ℕ) (A : Ty) → bytes? b ≡ true → formFinding b ≡ none → infer [] (rootTerm b) ≡ found A → Accepted b A
+computed b A h f t = record { bytes = all-bytes b h; formed = formFinding-says b .0 f; typed = infer-says [] (rootTerm b) A .0 t }
 
 -- 1 annotated with Int: 1 after 1 step
 annotated : List ℕ
@@ -92,9 +92,9 @@ unequal-bytes : IsBytes unequalNumbers
 unfolding bytes? unequalNumbers
 unequal-bytes = all-bytes unequalNumbers refl
 
-unequal-untyped : (A : Ty) → ¬ Typed [] (opened unequalNumbers) A
+unequal-untyped : (A : Ty) → ¬ Typed [] (rootTerm unequalNumbers) A
 unfolding computing unequalNumbers
-unequal-untyped A t = let p : Infer.refused conflict [] ≡ found A = infer-says [] (opened unequalNumbers) A .1 t in clash (cc p)
+unequal-untyped A t = let p : Infer.refused conflict [] ≡ found A = infer-says [] (rootTerm unequalNumbers) A .1 t in clash (cc p)
 
 -- ---- what the demands leave to an engine
 
@@ -104,13 +104,13 @@ spent? spent = yes refl
 spent? room = no (λ h. clash cc)
 
 -- a run of a typed term has one answer
-runs-unique : {e : Term} {A : Ty} {l : ℕ} {r q : Result} → Typed [] e A → Runs e l r → Runs e l q → r ≡ q
+runs-unique : {e : Term} {A : Ty} {l : ℕ} {r q : Result} → Typed [] e A → TakesSteps e l r → TakesSteps e l q → r ≡ q
 runs-unique {e} {l = l} t x y =
     elim (spent? (x .stop)) [
       | no n ↦ same-result only final x y (le-refl l) n
       | yes h ↦ elim (spent? (y .stop)) [
         | no n ↦ sym (same-result only final y x (le-refl l) n)
-        | yes k ↦ x .says ∙ told-alike (h ∙ sym k) steps term ∙ sym (y .says)
+        | yes k ↦ x .says ∙ end-result-alike (h ∙ sym k) steps term ∙ sym (y .says)
       ]
     ]
   where
@@ -136,15 +136,15 @@ module _ {b : List ℕ} {A : Ty} (a : Accepted b A) where
       let e : Accepts E b = d b (a .bytes) .accepts .1 (a .formed, (A, a .typed)) in
       runs-unique (a .typed) (d b (a .bytes) .runs e w l k h) (demand2 b (a .bytes) .runs true-accepts w l k h)
 
-  true-ran : (l : ℕ) → Ran (opened b) l (ending b l)
+  true-ran : (l : ℕ) → Ran (rootTerm b) l (ending b l)
   true-ran l = root-ran b l (a .bytes) (a .formed) (a .typed)
 
   -- the only term after the steps of a true run is its last
-  true-term : (l : ℕ) {f : Term} → Reaches (ending b l .steps) (opened b) f → f ≡ ending b l .term
+  true-term : (l : ℕ) {f : Term} → Reaches (ending b l .steps) (rootTerm b) f → f ≡ ending b l .term
   true-term l r = reaches-unique (a .typed) (true-ran l .reached) r
 
   -- and past a value there is none
-  no-further : (l : ℕ) {n : ℕ} {f : Term} → IsValue (ending b l .term) → Reaches n (opened b) f → n ≤ ending b l .steps
+  no-further : (l : ℕ) {n : ℕ} {f : Term} → IsValue (ending b l .term) → Reaches n (rootTerm b) f → n ≤ ending b l .steps
   no-further l {n} v r =
       elim (decLe n (ending b l .steps)) [
         | yes h ↦ h
@@ -153,9 +153,9 @@ module _ {b : List ℕ} {A : Ty} (a : Accepted b A) where
             absurd (value-no-step (v .1) (subst (λ (e : Term). Step e (o .1)) (true-term l (o .2)) (o .3)))
       ]
 
--- ---- engines that check and turn back truly; the definitions are such an engine
+-- ---- engines that check and refuse truly; the definitions are such an engine
 
-posing-true : posing (λ b l. told (ending b l)) ≡ definition
+posing-true : posing (λ b l. endResult (ending b l)) ≡ definition
 unfolding posing run
 posing-true = refl
 
@@ -171,29 +171,29 @@ module _ (g : List ℕ → ℕ → Result) {b : List ℕ} {A : Ty} (a : Accepted
   posing-runs w l k = outcome b w (λ A. g b l) A k (a .formed) (a .typed)
 
   -- demand 2: g gives the true run's answer
-  posing-2 : Demand2 (posing g) → (l : ℕ) → IsLimit l → g b l .answer ≡ told (ending b l) .answer
+  posing-2 : Demand2 (posing g) → (l : ℕ) → IsLimit l → g b l .answer ≡ endResult (ending b l) .answer
   unfolding run
   posing-2 d l h =
       let w = zeros workLength in
-      let true-run = outcome b w (λ A. told (ending b l)) A work-at-hand (a .formed) (a .typed) in
+      let true-run = outcome b w (λ A. endResult (ending b l)) A work-at-hand (a .formed) (a .typed) in
       ap (λ (r : Result). r .answer) (sym (posing-runs w l work-at-hand) ∙ demand2-determines a (posing g) d w l work-at-hand h ∙ true-run)
 
-  -- demand 3: g lays down the term reached after the steps that it reports;
+  -- demand 3: g encodes the term reached after the steps that it reports;
   posing-3 : Demand3 (posing g) → (l : ℕ) → IsLimit l →
-      (s : Stop) × (n : ℕ) × (f : Term) × Reaches n (opened b) f × (g b l ≡ result (stopped s n) (laid (termBook f)))
+      (s : Stop) × (n : ℕ) × (f : Term) × Reaches n (rootTerm b) f × (g b l ≡ result (stopped s n) (padded (termBook f)))
   posing-3 d l h =
       let w = zeros workLength in
-      let x = d b (a .bytes) posing-accepts .lays-down w l work-at-hand h in
+      let x = d b (a .bytes) posing-accepts .encodes w l work-at-hand h in
       (x .0, x .1, x .2, x .3, sym (posing-runs w l work-at-hand) ∙ x .4)
 
   -- which is the last term of the true run of as many
-  posing-lays : Demand3 (posing g) → (l m : ℕ) → IsLimit l → stepsOf (g b l .answer) ≡ ending b m .steps →
-      g b l .left ≡ laid (termBook (ending b m .term))
-  posing-lays d l m h q =
+  posing-encodes : Demand3 (posing g) → (l m : ℕ) → IsLimit l → stepsOf (g b l .answer) ≡ ending b m .steps →
+      g b l .left ≡ padded (termBook (ending b m .term))
+  posing-encodes d l m h q =
       let x = posing-3 d l h in
       let n : x .1 ≡ ending b m .steps = sym (ap (λ (r : Result). stepsOf (r .answer)) (x .4)) ∙ q in
-      let r : Reaches (ending b m .steps) (opened b) (x .2) = rw n at (x .3) in
-      ap (λ (r : Result). r .left) (x .4) ∙ ap (λ (f : Term). laid (termBook f)) (true-term a m r)
+      let r : Reaches (ending b m .steps) (rootTerm b) (x .2) = rw n at (x .3) in
+      ap (λ (r : Result). r .left) (x .4) ∙ ap (λ (f : Term). padded (termBook f)) (true-term a m r)
 
 -- ---- `room` or `spent` early
 
@@ -207,7 +207,7 @@ module _ (s : Stop) {b : List ℕ} {A : Ty} (a : Accepted b A) where
   abbrev behind : ℕ → Ended
   behind l = ending b (atMostOne l)
 
-  early-runs : (w : List ℕ) (l : ℕ) → IsWork w → early s .run b w l ≡ told (hurried s (behind l))
+  early-runs : (w : List ℕ) (l : ℕ) → IsWork w → early s .run b w l ≡ endResult (hurried s (behind l))
   unfolding early
   early-runs w l k = posing-runs _ a w l k
 
@@ -217,20 +217,20 @@ module _ (s : Stop) {b : List ℕ} {A : Ty} (a : Accepted b A) where
   early-lesser (suc l) zero h = absurd (omega arith)
   early-lesser (suc l) (suc m) h = omega (arith, true-ran a 1 .taken)
 
-  early-same : (l m : ℕ) → l ≤ m → ((n : ℕ) → told (hurried s (behind l)) .answer ≢ stopped spent n) →
-      told (hurried s (behind l)) ≡ told (hurried s (behind m))
-  unfolding atMostOne told hurried
-  early-same zero m h n = go (value? (opened b)) refl
+  early-same : (l m : ℕ) → l ≤ m → ((n : ℕ) → endResult (hurried s (behind l)) .answer ≢ stopped spent n) →
+      endResult (hurried s (behind l)) ≡ endResult (hurried s (behind m))
+  unfolding atMostOne endResult hurried
+  early-same zero m h n = go (value? (rootTerm b)) refl
     where
-      go : (v : Bool) → value? (opened b) ≡ v → told (hurried s (behind 0)) ≡ told (hurried s (behind m))
-      go true p = rw (evaluate-value sizeLimit 0 0 (opened b) p, evaluate-value sizeLimit (atMostOne m) 0 (opened b) p)
-      go false p = absurd (n 0 (rw (evaluate-spent sizeLimit 0 (opened b) p)))
+      go : (v : Bool) → value? (rootTerm b) ≡ v → endResult (hurried s (behind 0)) ≡ endResult (hurried s (behind m))
+      go true p = rw (evaluate-value sizeLimit 0 0 (rootTerm b) p, evaluate-value sizeLimit (atMostOne m) 0 (rootTerm b) p)
+      go false p = absurd (n 0 (rw (evaluate-spent sizeLimit 0 (rootTerm b) p)))
   early-same (suc l) zero h n = absurd (omega arith)
   early-same (suc l) (suc m) h n = refl
 
 -- whatever reason it gives early, it obeys demand 3
 early-obeys-3 : (s : Stop) → Demand3 (early s)
-unfolding early posing told hurried
+unfolding early posing endResult hurried
 early-obeys-3 s b bytes x =
     let y : Accepts definition b = record { work = x .work; is-work = x .is-work; size = x .size; answers = x .answers } in
     let d : Demand3For definition b = demand3 b bytes y in
@@ -241,7 +241,7 @@ early-obeys-3 s b bytes x =
       ends = d .ends;
       typed = d .typed;
       book = d .book;
-      lays-down = λ w l k h. (_, _, _, true-ran a (atMostOne l) .reached, early-runs s a w l k);
+      encodes = λ w l k h. (_, _, _, true-ran a (atMostOne l) .reached, early-runs s a w l k);
       agree = λ w v l m j k h i.
           let p = early-runs s a w l j in
           record {
@@ -264,7 +264,7 @@ invented-steps-break-3 k n d =
     let x = posing-3 _ annotated-accepted d 1 (lit< tt) in
     let m : k 1 1 ≡ x .1 = ap (λ (r : Result). stepsOf (r .answer)) (x .4) in
     let h : x .1 ≤ 1 = no-further annotated-accepted 1 (int, v-lit) (x .3) in
-    let p : _≡_ {A = ℕ} 240 1 = ap (λ (s : List ℕ). getD s 8 0) (posing-lays _ annotated-accepted d 1 0 (lit< tt) (omega arith)) in
+    let p : _≡_ {A = ℕ} 240 1 = ap (λ (s : List ℕ). getD s 8 0) (posing-encodes _ annotated-accepted d 1 0 (lit< tt) (omega arith)) in
     absurd (omega arith)
 
 -- ---- the first step, and then that term again
@@ -278,21 +278,21 @@ repeats-first-breaks-2 d = let p : stopped spent 2 ≡ stopped value 2 = posing-
 repeats-first-breaks-3 : ¬ Demand3 repeatsFirst
 unfolding repeatsFirst repeating atMostOne computing twiceRead
 repeats-first-breaks-3 d =
-    let p : _≡_ {A = ℕ} 17 240 = ap (λ (s : List ℕ). getD s 8 0) (posing-lays _ twice-read-accepted d 2 2 (lit< tt) refl) in
+    let p : _≡_ {A = ℕ} 17 240 = ap (λ (s : List ℕ). getD s 8 0) (posing-encodes _ twice-read-accepted d 2 2 (lit< tt) refl) in
     absurd (omega arith)
 
 -- ---- the book handed back untouched
 
 -- 1 annotated with Int takes a step
-hands-back-breaks-2 : ¬ Demand2 handsBack
-unfolding handsBack computing annotated
-hands-back-breaks-2 d = let p : stopped value 0 ≡ stopped value 1 = posing-2 _ annotated-accepted d 1 (lit< tt) in clash (cc p)
+returns-book-breaks-2 : ¬ Demand2 returnsBook
+unfolding returnsBook computing annotated
+returns-book-breaks-2 d = let p : stopped value 0 ≡ stopped value 1 = posing-2 _ annotated-accepted d 1 (lit< tt) in clash (cc p)
 
--- a book with a cell that the root does not reach is not the root laid down
-hands-back-breaks-3 : ¬ Demand3 handsBack
-unfolding handsBack computing unreached
-hands-back-breaks-3 d =
-    let p : _≡_ {A = ℕ} 18 17 = ap (λ (s : List ℕ). getD s 0 0) (posing-lays _ unreached-accepted d 0 0 (lit< tt) refl) in
+-- a book with a cell that the root does not reach is not the root encoded
+returns-book-breaks-3 : ¬ Demand3 returnsBook
+unfolding returnsBook computing unreached
+returns-book-breaks-3 d =
+    let p : _≡_ {A = ℕ} 18 17 = ap (λ (s : List ℕ). getD s 0 0) (posing-encodes _ unreached-accepted d 0 0 (lit< tt) refl) in
     absurd (omega arith)
 
 -- ---- a fixed reply
@@ -315,10 +315,10 @@ fixed-reply-breaks-3 : (c r : Result) (n : ℕ) → c .answer ≡ accepted n →
 unfolding fixedReply
 fixed-reply-breaks-3 c r n h d =
     let a : Accepts (fixedReply c r) unequalNumbers = record { work = zeros workLength; is-work = work-at-hand; size = n; answers = h } in
-    let t = d unequalNumbers unequal-bytes a .typed 0 (opened unequalNumbers) r-zero in
+    let t = d unequalNumbers unequal-bytes a .typed 0 (rootTerm unequalNumbers) r-zero in
     unequal-untyped (t .0) (t .2)
 
--- ---- every book turned away
+-- ---- every book refused
 
 -- 1 annotated with Int has a type, and demand 2 has it accepted
 refuses-all-breaks-2 : (E : Engine) → RefusesAll E → ¬ Demand2 E
@@ -332,7 +332,7 @@ refuses-all-obeys-3 E n b bytes a = absurd (n b a)
 
 -- such is the engine that has one refusal for every book
 one-refusal-refuses-all : (n i : ℕ) → RefusesAll (oneRefusal n i)
-unfolding fixedReply turnedBack
+unfolding fixedReply refusalResult
 one-refusal-refuses-all n i b a = refused-accepted n i (a .size) (a .answers)
 
 pub impostors : Impostors
@@ -344,11 +344,11 @@ impostors =
       invented-3 = invented-steps-break-3;
       repeats-2 = repeats-first-breaks-2;
       repeats-3 = repeats-first-breaks-3;
-      hands-back-2 = hands-back-breaks-2;
+      returns-book-2 = returns-book-breaks-2;
       fixed-2 = fixed-reply-breaks-2;
       refuses-2 = refuses-all-breaks-2;
       one-refusal = one-refusal-refuses-all;
-      hands-back-3 = hands-back-breaks-3;
+      returns-book-3 = returns-book-breaks-3;
       fixed-3 = fixed-reply-breaks-3;
       refuses-3 = refuses-all-obeys-3;
     }

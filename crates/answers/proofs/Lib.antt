@@ -5,3 +5,4 @@ pub mod Running
 pub mod Agreement
 pub mod Demands
 pub mod Impostors
+pub mod Cases

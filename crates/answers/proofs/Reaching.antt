@@ -1,4 +1,4 @@
--- The terms on the way to a term that is reached. Assumes nothing.
+-- The terms on the path to a term that is reached. Assumes nothing.
 use Prim.Native.Nat.{ℕ, suc, _≤_, _<_}
 use mathlib.Core.Path.{_≡_, subst⁻¹}
 use native.Mathlib.Decide.{decLe}
@@ -22,7 +22,7 @@ before {e = e} (r-suc {n = m} {g = g} r s) n h =
 pub last-step : {n : ℕ} {e g : Term} → Reaches (suc n) e g → (f : Term) × Reaches n e f × Step f g
 last-step (r-suc {f = f} r s) = (f, r, s)
 
--- one of the terms before the last has a successor on the way
+-- one of the terms before the last has a successor on the path
 pub onward : {m : ℕ} {e f : Term} → Reaches m e f → (n : ℕ) → n < m → (g : Term) × (h : Term) × Reaches n e g × Step g h × Reaches (suc n) e h
 onward r n l =
     let b = before r (suc n) l in

@@ -30,7 +30,7 @@ pub data Stop : Type 0 where
 
 -- What a check or a run answers.
 pub data Answer : Type 0 where
-  -- "Answer: number and cell (0 for 1 to 4)"
+  -- document 01's "turned back": "Answer: number and cell (0 for 1 to 4)"
   refused : ℕ → ℕ → Answer
   -- "A check lays down the type and gives its size"
   accepted : ℕ → Answer

@@ -11,23 +11,23 @@ use Rattle.calculus.specs.Infer.{Found, found, infer}
 use Rattle.calculus.specs.Infer as Infer
 use Rattle.calculus.specs.Decide.{value?}
 use Rattle.calculus.specs.Evaluate.{next}
-use Rattle.format.specs.Book.{Finding, sizeLimit, formFinding, rootOf, follow, opened, typeBook, termBook}
+use Rattle.format.specs.Book.{Finding, sizeLimit, formFinding, rootOf, follow, rootTerm, typeBook, termBook}
 use Rattle.answers.specs.Answer.{faultNumber, reasonNumber, Stop, value, spent, room, refused, accepted, stopped, Result, result}
-use Rattle.answers.specs.Engine.{Engine, workLength, zeros, laid}
+use Rattle.answers.specs.Engine.{Engine, workLength, zeros, padded}
 
 -- "all others zero the work buffer"
-unfoldable pub turnedBack : ℕ → ℕ → Result
-turnedBack n i = result (refused n i) (zeros workLength)
+unfoldable pub refusalResult : ℕ → ℕ → Result
+refusalResult n i = result (refused n i) (zeros workLength)
 
 -- What typing says of a book past row 10: g answers for the type found.
 unfoldable pub afterTyping : List ℕ → (Ty → Result) → Found → Result
 afterTyping b g (found A) = g A
-afterTyping b g (Infer.refused r p) = turnedBack (reasonNumber r) (follow b (rootOf b) p)
+afterTyping b g (Infer.refused r p) = refusalResult (reasonNumber r) (follow b (rootOf b) p)
 
 -- What rows 2 to 10 say of a book, and past them typing.
 unfoldable pub afterForm : List ℕ → (Ty → Result) → Option Finding → Result
-afterForm b g none = afterTyping b g (infer [] (opened b))
-afterForm b g (some f) = turnedBack (faultNumber (f .fault)) (f .cell)
+afterForm b g none = afterTyping b g (infer [] (rootTerm b))
+afterForm b g (some f) = refusalResult (faultNumber (f .fault)) (f .cell)
 
 -- Rows 1 to 15 in their order; g answers for a book that no row meets. "Refusal 1 touches nothing"
 unfoldable pub judge : List ℕ → List ℕ → (Ty → Result) → Result
@@ -35,7 +35,7 @@ judge b w g = elim (eqb (length w) workLength) [ true ↦ afterForm b g (formFin
 
 -- "A check lays down the type and gives its size"
 unfoldable pub shown : Ty → Result
-shown A = result (accepted (size-type A)) (laid (typeBook A))
+shown A = result (accepted (size-type A)) (padded (typeBook A))
 
 -- How a run ended: why, after how many steps, at which term.
 pub record Ended : Type 0 where
@@ -66,16 +66,16 @@ evaluate l (suc m) n e =
     ]
 
 -- "Each carries the steps taken and lays down the term reached."
-unfoldable pub told : Ended → Result
-told r = result (stopped (r .stop) (r .steps)) (laid (termBook (r .term)))
+unfoldable pub endResult : Ended → Result
+endResult r = result (stopped (r .stop) (r .steps)) (padded (termBook (r .term)))
 
 -- How the run of a book with the limit l ends.
 abbrev pub ending : List ℕ → ℕ → Ended
-ending b l = evaluate sizeLimit l 0 (opened b)
+ending b l = evaluate sizeLimit l 0 (rootTerm b)
 
 -- A run answers the same whatever type is found.
 abbrev pub reported : List ℕ → ℕ → Ty → Result
-reported b l A = told (ending b l)
+reported b l A = endResult (ending b l)
 
 -- "A library checks a book .. and shows its type."
 unfoldable pub check : List ℕ → List ℕ → Result

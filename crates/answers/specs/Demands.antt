@@ -8,9 +8,9 @@ use Rattle.calculus.specs.Subtyping.{Below}
 use Rattle.calculus.specs.Typing.{Typed}
 use Rattle.calculus.specs.Step.{Step, Reaches, Ends}
 use Rattle.format.specs.Cell.{IsBytes}
-use Rattle.format.specs.Book.{sizeLimit, WellFormed, opened, typeBook, termBook}
+use Rattle.format.specs.Book.{sizeLimit, WellFormed, rootTerm, typeBook, termBook}
 use Rattle.answers.specs.Answer.{Stop, value, spent, room, accepted, stopped, stepsOf, Result, result}
-use Rattle.answers.specs.Engine.{Engine, IsWork, IsLimit, laid}
+use Rattle.answers.specs.Engine.{Engine, IsWork, IsLimit, padded}
 
 -- "accepted: a check with a work buffer of 65,536 bytes accepts"
 pub record Accepts (E : Engine) (b : List ℕ) : Type 0 where
@@ -26,28 +26,28 @@ StopsBy value limit n f = IsValue f
 StopsBy spent limit n f = (¬ IsValue f) × (n ≡ limit)
 StopsBy room limit n f = (¬ IsValue f) × (n < limit) × ((g : Term) × Step f g × (sizeLimit < size g))
 
--- What a run of e answers: it takes the calculus's steps, one by one, through terms of at most 4,095 cells, and lays down the last.
-pub record Runs (e : Term) (limit : ℕ) (r : Result) : Type 0 where
+-- What a run of e answers: it takes the calculus's steps, one by one, through terms of at most 4,095 cells, and encodes the last.
+pub record TakesSteps (e : Term) (limit : ℕ) (r : Result) : Type 0 where
   pub stop : Stop
   pub steps : ℕ
   pub term : Term
-  pub says : r ≡ result (stopped stop steps) (laid (termBook term))
+  pub says : r ≡ result (stopped stop steps) (padded (termBook term))
   pub taken : steps ≤ limit
   pub reached : Reaches steps e term
   pub small : (n : ℕ) (f : Term) → n ≤ steps → Reaches n e f → size f ≤ sizeLimit
   pub why : StopsBy stop limit steps term
 
--- Demand 2, of one book: "A well-formed book of at most 4,095 cells, sharing opened,
+-- Demand 2, of one book: "A well-formed book of at most 4,095 cells, unshared,
 pub record Demand2For (E : Engine) (b : List ℕ) : Type 0 where
   -- is accepted precisely if the typing rules .. derive a type for it;
-  pub accepts : Accepts E b ↔ (WellFormed b × ((A : Ty) × Typed [] (opened b) A))
+  pub accepts : Accepts E b ↔ (WellFormed b × ((A : Ty) × Typed [] (rootTerm b) A))
   -- that type is the one shown,
-  pub shows : (A : Ty) → WellFormed b → Typed [] (opened b) A → (w : List ℕ) → IsWork w →
-      E .check b w ≡ result (accepted (size-type A)) (laid (typeBook A))
+  pub shows : (A : Ty) → WellFormed b → Typed [] (rootTerm b) A → (w : List ℕ) → IsWork w →
+      E .check b w ≡ result (accepted (size-type A)) (padded (typeBook A))
   -- and a run takes that calculus's steps, one by one, up to its value or to the limit that stopped it."
-  pub runs : Accepts E b → (w : List ℕ) (limit : ℕ) → IsWork w → IsLimit limit → Runs (opened b) limit (E .run b w limit)
-  -- A book that is not accepted is not run: it is turned back as the check turns it back.
-  pub turns-back : ¬ Accepts E b → (w : List ℕ) (limit : ℕ) → IsLimit limit → E .run b w limit ≡ E .check b w
+  pub runs : Accepts E b → (w : List ℕ) (limit : ℕ) → IsWork w → IsLimit limit → TakesSteps (rootTerm b) limit (E .run b w limit)
+  -- A book that is not accepted is not run: it is refused as the check refuses it.
+  pub refuses : ¬ Accepts E b → (w : List ℕ) (limit : ℕ) → IsLimit limit → E .run b w limit ≡ E .check b w
 
 -- Demand 2, of every book.
 abbrev pub Demand2 : Engine → Type 0
@@ -60,20 +60,20 @@ pub record Agree (limit other : ℕ) (x y : Result) : Type 0 where
   -- and unless that one was stopped for steps, both give the same answer and the same bytes."
   pub same : limit ≤ other → ((n : ℕ) → x .answer ≢ stopped spent n) → x ≡ y
 
--- Demand 3, of one accepted book, whole: "whichever half each merge on the way is read from,
+-- Demand 3, of one accepted book, whole: "whichever half each merge on the path is read from,
 pub record Demand3For (E : Engine) (b : List ℕ) : Type 0 where
   -- every term it reaches after any number of steps, with room for it or without, is the only one reached after that many;
-  pub only : (n : ℕ) (f g : Term) → Reaches n (opened b) f → Reaches n (opened b) g → f ≡ g
+  pub only : (n : ℕ) (f g : Term) → Reaches n (rootTerm b) f → Reaches n (rootTerm b) g → f ≡ g
   -- it is a value and has no successor under the calculus, or is no value and has exactly one;
-  pub ends : (n : ℕ) (f : Term) → Reaches n (opened b) f → Ends f
+  pub ends : (n : ℕ) (f : Term) → Reaches n (rootTerm b) f → Ends f
   -- it has a type below the first;
-  pub typed : (n : ℕ) (f : Term) → Reaches n (opened b) f → (A : Ty) × (B : Ty) × Typed [] (opened b) A × Typed [] f B × Below B A
-  -- and if its size is within the limit, it is, laid down, an accepted book itself" (by every check with 65,536 bytes).
-  pub book : (n : ℕ) (f : Term) → Reaches n (opened b) f → size f ≤ sizeLimit → (w : List ℕ) → IsWork w →
+  pub typed : (n : ℕ) (f : Term) → Reaches n (rootTerm b) f → (A : Ty) × (B : Ty) × Typed [] (rootTerm b) A × Typed [] f B × Below B A
+  -- and if its size is within the limit, it is, encoded, an accepted book itself" (by every check with 65,536 bytes).
+  pub book : (n : ℕ) (f : Term) → Reaches n (rootTerm b) f → size f ≤ sizeLimit → (w : List ℕ) → IsWork w →
       (m : ℕ) × (E .check (termBook f) w .answer ≡ accepted m)
-  -- "And for every two step limits, two laptops running that book agree: each lays down the term reached after the steps it reports;
-  pub lays-down : (w : List ℕ) (limit : ℕ) → IsWork w → IsLimit limit →
-      (s : Stop) × (n : ℕ) × (f : Term) × Reaches n (opened b) f × (E .run b w limit ≡ result (stopped s n) (laid (termBook f)))
+  -- "And for every two step limits, two laptops running that book agree: each encodes the term reached after the steps it reports;
+  pub encodes : (w : List ℕ) (limit : ℕ) → IsWork w → IsLimit limit →
+      (s : Stop) × (n : ℕ) × (f : Term) × Reaches n (rootTerm b) f × (E .run b w limit ≡ result (stopped s n) (padded (termBook f)))
   -- one whose limit is no higher .., and unless that one was stopped for steps, both give the same answer and the same bytes."
   pub agree : (w v : List ℕ) (limit other : ℕ) → IsWork w → IsWork v → IsLimit limit → IsLimit other →
       Agree limit other (E .run b w limit) (E .run b v other)

@@ -26,6 +26,6 @@ IsLimit n = n < 2 ^ 32
 unfoldable pub zeros : ℕ → List ℕ
 zeros n = replicate n 0
 
--- A book laid down from byte 0: "bytes past the laid-down book are zero"
-unfoldable pub laid : List ℕ → List ℕ
-laid b = b ++ zeros (workLength - length b)
+-- A book encoded from byte 0: "bytes past the laid-down book are zero"
+unfoldable pub padded : List ℕ → List ℕ
+padded b = b ++ zeros (workLength - length b)

@@ -4,11 +4,11 @@ use mathlib.Core.Path.{_≡_}
 use mathlib.Core.Logic.{_≢_}
 use mathlib.Core.List.{List}
 use Rattle.answers.specs.Answer.{Stop, value, spent, room, accepted, stopped, Result, result}
-use Rattle.answers.specs.Engine.{Engine, laid}
-use Rattle.answers.specs.Definition.{check, judge, turnedBack, told, Ended, ending}
+use Rattle.answers.specs.Engine.{Engine, padded}
+use Rattle.answers.specs.Definition.{check, judge, refusalResult, endResult, Ended, ending}
 use Rattle.answers.specs.Demands.{Accepts, Demand2, Demand3}
 
--- The engine that checks and turns back truly, and answers g to the run of an accepted book: the most convincing impostors are such.
+-- The engine that checks and refuses truly, and answers g to the run of an accepted book: the most convincing impostors are such.
 unfoldable pub posing : (List ℕ → ℕ → Result) → Engine
 posing g = record { check = check; run = λ b w l. judge b w (λ A. g b l) }
 
@@ -23,7 +23,7 @@ hurried s r = record { stop = elim (r .steps) [ zero ↦ r .stop | suc n ↦ s ]
 
 -- "An engine that reports `room` or `spent` early, at one step wherever the book has one with room and the limit allows it"
 unfoldable pub early : Stop → Engine
-early s = posing (λ b l. told (hurried s (ending b (atMostOne l))))
+early s = posing (λ b l. endResult (hurried s (ending b (atMostOne l))))
 
 -- The true run, but for its step figure: k makes one from the limit and the steps taken.
 unfoldable pub figured : (ℕ → ℕ → ℕ) → ℕ → Ended → Ended
@@ -31,7 +31,7 @@ figured k l r = record { stop = r .stop; steps = k l (r .steps); term = r .term 
 
 -- "one whose step figure is invented"
 unfoldable pub inventedSteps : (ℕ → ℕ → ℕ) → Engine
-inventedSteps k = posing (λ b l. told (figured k l (ending b l)))
+inventedSteps k = posing (λ b l. endResult (figured k l (ending b l)))
 
 -- Where the limit of one step is spent, the figure counts on to the whole limit l.
 unfoldable pub repeating : ℕ → Ended → Ended
@@ -39,11 +39,11 @@ repeating l r = record { stop = r .stop; steps = elim (r .stop) [ value ↦ r .s
 
 -- one "that takes the first step truly and then repeats that term"
 unfoldable pub repeatsFirst : Engine
-repeatsFirst = posing (λ b l. told (repeating l (ending b (atMostOne l))))
+repeatsFirst = posing (λ b l. endResult (repeating l (ending b (atMostOne l))))
 
 -- "one that hands the book back untouched"
-unfoldable pub handsBack : Engine
-handsBack = posing (λ b l. result (stopped value 0) (laid b))
+unfoldable pub returnsBook : Engine
+returnsBook = posing (λ b l. result (stopped value 0) (padded b))
 
 -- "one with a fixed reply": c to every check and r to every run
 unfoldable pub fixedReply : Result → Result → Engine
@@ -55,7 +55,7 @@ RefusesAll E = (b : List ℕ) → ¬ Accepts E b
 
 -- Such is the engine that has one refusal for every book.
 abbrev pub oneRefusal : ℕ → ℕ → Engine
-oneRefusal n i = fixedReply (turnedBack n i) (turnedBack n i)
+oneRefusal n i = fixedReply (refusalResult n i) (refusalResult n i)
 
 -- Which demand stops each. A figure k is invented if it is not 1 where the limit is 1 and one step is taken.
 pub record Impostors : Type 0 where
@@ -68,11 +68,11 @@ pub record Impostors : Type 0 where
   pub repeats-2 : ¬ Demand2 repeatsFirst
   pub repeats-3 : ¬ Demand3 repeatsFirst
   -- "Demand 2 also shuts out one that hands the book back untouched, one with a fixed reply and one that turns every book away."
-  pub hands-back-2 : ¬ Demand2 handsBack
+  pub returns-book-2 : ¬ Demand2 returnsBook
   pub fixed-2 : (c r : Result) → ¬ Demand2 (fixedReply c r)
   pub refuses-2 : (E : Engine) → RefusesAll E → ¬ Demand2 E
   pub one-refusal : (n i : ℕ) → RefusesAll (oneRefusal n i)
   -- Demand 3 stops the first of these, and a fixed reply that accepts; one that turns every book away obeys it.
-  pub hands-back-3 : ¬ Demand3 handsBack
+  pub returns-book-3 : ¬ Demand3 returnsBook
   pub fixed-3 : (c r : Result) (n : ℕ) → c .answer ≡ accepted n → ¬ Demand3 (fixedReply c r)
   pub refuses-3 : (E : Engine) → RefusesAll E → Demand3 E

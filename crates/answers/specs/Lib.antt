@@ -4,3 +4,5 @@ pub mod Definition
 pub mod Demands
 pub mod Impostors
 pub mod Samples
+pub mod Cases
+pub mod Exported

@@ -1,28 +1,28 @@
 -- Document 01, "Sample books": those marked M, as one list; and a small book for each row from 2 to 15 of "Where a book is turned back".
--- Bytes, answers and laid-down bytes are literals. Assumes nothing.
+-- Bytes, answers and encoded bytes are literals. Assumes nothing.
 use Prim.Native.Nat.{ℕ}
 use Prim.Native.String.{String}
 use mathlib.Core.Path.{_≡_}
 use mathlib.Core.List.{List, [], _∷_, _++_}
 use Rattle.answers.specs.Answer.{value, spent, Answer, refused, accepted, stopped, Result, result}
-use Rattle.answers.specs.Engine.{Engine, IsWork, laid}
+use Rattle.answers.specs.Engine.{Engine, IsWork, padded}
 
 -- A check, or a run with its limit.
 pub data Call : Type 0 where
   check : Call
   run : ℕ → Call
 
--- A book, a call of it, and what is expected: the answer, and the bytes laid down (none after a refusal).
+-- A book, a call of it, and what is expected: the answer, and the bytes encoded (none after a refusal).
 pub record Sample : Type 0 where
   pub name : String
   pub book : List ℕ
   pub call : Call
   pub answer : Answer
-  pub lays : List ℕ
+  pub encoded : List ℕ
 
 -- A sample on one line.
 abbrev sample : String → List ℕ → Call → Answer → List ℕ → Sample
-sample n b c a l = record { name = n; book = b; call = c; answer = a; lays = l }
+sample n b c a l = record { name = n; book = b; call = c; answer = a; encoded = l }
 
 -- What an engine answers to a call.
 abbrev pub called : Engine → Call → List ℕ → List ℕ → Result
@@ -31,11 +31,11 @@ called E (run l) b w = E .run b w l
 
 -- The whole answer and every byte left: "bytes past the laid-down book are zero".
 abbrev pub expected : Sample → Result
-expected s = result (s .answer) (laid (s .lays))
+expected s = result (s .answer) (padded (s .encoded))
 
 -- The engine answers as expected, with any work buffer of 65,536 bytes.
-abbrev pub Holds : Engine → Sample → Type 0
-Holds E s = (w : List ℕ) → IsWork w → called E (s .call) (s .book) w ≡ expected s
+abbrev pub Meets : Engine → Sample → Type 0
+Meets E s = (w : List ℕ) → IsWork w → called E (s .call) (s .book) w ≡ expected s
 
 -- The eight bytes of a cell or of the trailer.
 abbrev pub line : (k l a₀ a₁ b₀ b₁ c₀ c₁ : ℕ) → List ℕ
@@ -198,7 +198,7 @@ samples =
     ∷ sample "the fixpoint of its own variable" ownFixpoint (run 1) (stopped spent 1) (line 16 0 0 0 0 0 0 0 ++ line 1 0 0 0 0 0 0 0 ++ line 23 0 0 0 1 0 0 0 ++ line 1 0 0 0 0 0 0 0 ++ line 19 0 2 0 3 0 0 0 ++ line 240 1 5 0 4 0 0 0)
     ∷ []
 
--- A small book for each row from 2 to 15, with the number and the cell that it is turned back with. docs/FORMAT.md has the same books.
+-- A small book for each row from 2 to 15, with the number and the cell that it is refused with. docs/FORMAT.md has the same books.
 unfoldable pub refusals : List Sample
 refusals =
     sample "a number and a trailer cut short" (line 17 0 0 0 1 0 0 0 ++ 240 ∷ 1 ∷ 1 ∷ 0 ∷ 0 ∷ 0 ∷ 0 ∷ []) check (refused 2 0) []

@@ -19,12 +19,12 @@ use Rattle.cells.specs.declared.Cell.{Cell}
 use Rattle.cells.specs.declared.Entry.{Entry}
 use Rattle.cells.specs.Coded.{asCell, rowFrom}
 use Rattle.answers.specs.Answer.{refused, faultNumber}
-use Rattle.outcome.specs.Numbers.{refusalAnswer}
-use Rattle.outcome.specs.declared.Refusal.{Refusal}
-use Rattle.outcome.specs.declared.Refusal.the-variants.{Kind, Unnamed, Reference, Sort}
+use Rattle.answers.specs.Cases.{refusalAnswer}
+use Rattle.answers.specs.declared.Refusal.{Refusal}
+use Rattle.answers.specs.declared.Refusal.the-variants.{Kind, Unnamed, Reference, Sort}
 use Rattle.book.specs.declared.Check.{Check}
 use Rattle.book.specs.declared.Check.the-variants.{Clear, Bad}
-use Rattle.book.specs.Form.{Within, EveryField, ChecksAs, atCell, CellCheck, CellsCheck}
+use Rattle.book.specs.Form.{FieldsWithin, EveryField, ChecksAs, atCell, CellCheck, CellsCheck}
 use Rattle.book.proofs.Fields.{Read, lower, uses-of}
 
 -- ---- one cell
@@ -114,7 +114,7 @@ module _ {s : List ℕ} {i : ℕ} {e : Entry} {t : Cell} (read : Read s i e t) w
       ∙ rw (← p .says (w .row) (w .found), not-false a m, ← q .says (w .row) (w .found), not-false b n, ← r .says (w .row) (w .found), not-false c o))
 
   -- cells that are lower than one within the bytes are within them
-  pub within : 2 ≤ e .sort → 8 * i + 8 ≤ length s → {b : Bool} → EveryField (referenceOk i) t b → not b ≡ false → Within s e t
+  pub within : 2 ≤ e .sort → 8 * i + 8 ≤ length s → {b : Bool} → EveryField (referenceOk i) t b → not b ≡ false → FieldsWithin s e t
   within h l {b} q n =
       let w = row-known h in
       let r = uses-of (t .kind) e (w .row) (read .named .row ∙ w .found) in

@@ -14,16 +14,16 @@ use Rattle.format.specs.Cell.{byte, pair, cellAt}
 use Rattle.format.specs.Tree.{cells, treeAt}
 use Rattle.format.specs.Book.{Fault, bad-length, bad-trailer, bad-count, Finding, count, trailerAt, rootOf, hasSort, sizeLimit}
 use Rattle.format.specs.Book.{lengthOk, trailerOk, countOk, cellsFinding, cellsForm, rootFinding, formFinding}
-use Rattle.format.proofs.Opening.{treeAt-same}
+use Rattle.format.proofs.Unsharing.{treeAt-same}
 use Rattle.format.proofs.Tests.{cellsForm-says}
 use Rattle.answers.specs.Answer.{refused, faultNumber}
-use Rattle.outcome.specs.Numbers.{refusalAnswer}
-use Rattle.outcome.specs.declared.Refusal.{Refusal}
-use Rattle.outcome.specs.declared.Refusal.the-variants.{Length, Trailer, Count}
+use Rattle.answers.specs.Cases.{refusalAnswer}
+use Rattle.answers.specs.declared.Refusal.{Refusal}
+use Rattle.answers.specs.declared.Refusal.the-variants.{Length, Trailer, Count}
 use Rattle.book.specs.declared.Check.{Check}
 use Rattle.book.specs.declared.Check.the-variants.{Clear, Bad}
 use Rattle.book.specs.declared.Form.the-variants.{Malformed, WellFormed}
-use Rattle.book.specs.Form.{markOk, countedOk, ChecksAs, atCell, CellsCheck, Ready, rootFault, RootCheck, FormCheck}
+use Rattle.book.specs.Form.{markOk, countedOk, ChecksAs, atCell, CellsCheck, RootReady, rootFault, RootCheck, FormCheck}
 use Rattle.book.proofs.Cells.{cell-part, fault-same, findings-same}
 
 abbrev pub cellsPart : List ℕ → List ℕ
@@ -135,10 +135,10 @@ bad-clear : (q : Refusal) → Bad q ≡ Clear → ⊥
 bad-clear q e = let z : _≡_ {A = ℕ} 0 1 = cc in omega arith
 
 -- a check that found something, where nothing was found before it
-turned : (b : List ℕ) (o : Option Finding) (r : Check) (q : Refusal) → ((f : Finding) → o ≡ some f → formFinding b ≡ some f)
+form-refused : (b : List ℕ) (o : Option Finding) (r : Check) (q : Refusal) → ((f : Finding) → o ≡ some f → formFinding b ≡ some f)
     → ChecksAs r o → r ≡ Bad q → FormCheck b (Malformed q)
-turned b none r q g h p = absurd (bad-clear q (sym p ∙ h))
-turned b (some f) r q g h p =
+form-refused b none r q g h p = absurd (bad-clear q (sym p ∙ h))
+form-refused b (some f) r q g h p =
     let e : h .0 ≡ q = let i : Bad (h .0) ≡ Bad q = sym (h .1) ∙ p in cc in
     found b f q (rw e at (h .2)) (g f refl)
 
@@ -151,7 +151,7 @@ module _ {b : List ℕ} (k : Counted b) where
   pub cells-bad : {r : Check} {q : Refusal} → CellsCheck (cellsPart b) (count b) r → r ≡ Bad q → FormCheck b (Malformed q)
   unfolding formFinding
   cells-bad {r} {q} h p =
-      turned b (cellsFinding (cellsPart b) (count b) 0) r q (λ f e. rw (k .rest ∙ e, formFinding)) (h .says) p
+      form-refused b (cellsFinding (cellsPart b) (count b) 0) r q (λ f e. rw (k .rest ∙ e, formFinding)) (h .says) p
 
   pub cells-clear : {r : Check} → CellsCheck (cellsPart b) (count b) r → r ≡ Clear → cellsForm b ≡ none
   cells-clear {r} h p = k .rest ∙ nothing (cellsFinding (cellsPart b) (count b) 0) r (h .says) p
@@ -159,7 +159,7 @@ module _ {b : List ℕ} (k : Counted b) where
   same : (x : ℕ) → x < count b → cellAt (cellsPart b) x ≡ cellAt b x
   same x h = cell-part b (count b) x h
 
-  pub ready : cellsForm b ≡ none → {i : ℕ} → i ≡ pair (trailerPart b) 4 → Ready (cellsPart b) i
+  pub ready : cellsForm b ≡ none → {i : ℕ} → i ≡ pair (trailerPart b) 4 → RootReady (cellsPart b) i
   ready e {i} j =
       let r : i < count b = rw (j ∙ root-at (k .long)) (k .rooted) in
       record {
@@ -189,7 +189,7 @@ module _ {b : List ℕ} (k : Counted b) where
 
   pub root-bad : cellsForm b ≡ none → {i : ℕ} → i ≡ pair (trailerPart b) 4 → {r : Check} {q : Refusal} → RootCheck (cellsPart b) i r → r ≡ Bad q
       → FormCheck b (Malformed q)
-  root-bad e {i} j {r} {q} h p = turned b _ r q (λ f g. root-rest e ∙ g) (rw (j ∙ root-at (k .long)) at (h .says)) p
+  root-bad e {i} j {r} {q} h p = form-refused b _ r q (λ f g. root-rest e ∙ g) (rw (j ∙ root-at (k .long)) at (h .says)) p
 
   pub root-clear : cellsForm b ≡ none → {i : ℕ} → i ≡ pair (trailerPart b) 4 → {r : Check} → RootCheck (cellsPart b) i r → r ≡ Clear
       → FormCheck b (WellFormed i)

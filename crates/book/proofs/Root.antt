@@ -8,7 +8,7 @@ use borrow.Author.Tests.{not-true, not-false, lt-ltb, le-ltb}
 use Rattle.format.specs.Table.{term-sort}
 use Rattle.format.specs.Tree.{cells, treeAt}
 use Rattle.format.specs.Book.{hasSort, sizeLimit}
-use Rattle.outcome.specs.declared.Refusal.the-variants.{Root, Size}
+use Rattle.answers.specs.declared.Refusal.the-variants.{Root, Size}
 use Rattle.book.specs.declared.Check.the-variants.{Clear, Bad}
 use Rattle.book.specs.Form.{RootCheck}
 

@@ -1,4 +1,4 @@
--- Opened sizes, capped at 4,096: a cell's from those of the lower cells, one more in a list of them. Assumes nothing.
+-- Unshared sizes, capped at 4,096: a cell's from those of the lower cells, one more in a list of them. Assumes nothing.
 use Prim.Native.Nat.{ℕ, _+_, _≤_, _<_, min}
 use mathlib.Core.Path.{_≡_, refl, ap, _∙_}
 use mathlib.Core.Bool.{true}
@@ -10,9 +10,9 @@ use native.Mathlib.Decide.{ℕ-discrete}
 use lib.ListN.{length, getD, set}
 use lib.Seq.{getD-set-same, getD-set-other}
 use Rattle.format.specs.Table.{Use, unused, plain, refers, rowOf}
-use Rattle.format.specs.Tree.{cells, branch, grow, treeAt}
+use Rattle.format.specs.Tree.{cells, fieldTree, cellTree, treeAt}
 use Rattle.format.specs.Book.{referenceOk, cellFault}
-use Rattle.format.proofs.Opening.{treeAt-grow}
+use Rattle.format.proofs.Unsharing.{treeAt-cell}
 use Rattle.format.proofs.Tests.{FieldOk, Each, cellFault-says}
 use Rattle.cells.specs.declared.Cell.{Cell}
 use Rattle.cells.specs.declared.Entry.{Entry}
@@ -27,11 +27,11 @@ reference-passed s i plain x h = refl
 reference-passed s i (refers o) x h = lt-ltb x i (h .0)
 
 -- what the list has for it is the capped size of its tree
-field-size : (s z : List ℕ) (i : ℕ) → SizesUpTo s z i → (u : Use) (x : ℕ) → FieldOk s i u x → fieldSize z u x ≡ min 4096 (cells (branch (treeAt s) i u x))
-unfolding branch cells
+field-size : (s z : List ℕ) (i : ℕ) → SizesUpTo s z i → (u : Use) (x : ℕ) → FieldOk s i u x → fieldSize z u x ≡ min 4096 (cells (fieldTree (treeAt s) i u x))
+unfolding fieldTree cells
 field-size s z i h unused x k = refl
 field-size s z i h plain x k = refl
-field-size s z i h (refers o) x k = rw (lt-ltb x i (k .0), branch) (h .sizes x (k .0))
+field-size s z i h (refers o) x k = rw (lt-ltb x i (k .0), fieldTree) (h .sizes x (k .0))
 
 -- a cell that passed tests 5 to 8, with its entry
 pub record Sized (s z : List ℕ) (i : ℕ) (e : Entry) (t : Cell) : Type 0 where
@@ -47,7 +47,7 @@ pub record Sized (s z : List ℕ) (i : ℕ) (e : Entry) (t : Cell) : Type 0 wher
   pub c-lower : 2 ≤ e .c → t .c < i
 
 pub sized : {s : List ℕ} {z : List ℕ} {i : ℕ} {e : Entry} {t : Cell} → Read s i e t → cellFault s i ≡ none → SizesUpTo s z i → Sized s z i e t
-unfolding grow cells
+unfolding cellTree cells
 sized {s} {z} {i} {e} {t} read ok h =
     let k = cellFault-says s i .0 ok in
     let w = k .row in
@@ -58,13 +58,13 @@ sized {s} {z} {i} {e} {t} read ok h =
     let y : FieldOk s i (useOf (e .b)) (t .b) = rw (u .b) at (f .b) in
     let v : FieldOk s i (useOf (e .c)) (t .c) = rw (u .c) at (f .c) in
     record {
-      a = cells (branch (treeAt s) i (useOf (e .a)) (t .a));
-      b = cells (branch (treeAt s) i (useOf (e .b)) (t .b));
-      c = cells (branch (treeAt s) i (useOf (e .c)) (t .c));
+      a = cells (fieldTree (treeAt s) i (useOf (e .a)) (t .a));
+      b = cells (fieldTree (treeAt s) i (useOf (e .b)) (t .b));
+      c = cells (fieldTree (treeAt s) i (useOf (e .c)) (t .c));
       a-size = field-size s z i h (useOf (e .a)) (t .a) x;
       b-size = field-size s z i h (useOf (e .b)) (t .b) y;
       c-size = field-size s z i h (useOf (e .c)) (t .c) v;
-      whole = ap cells (treeAt-grow s i) ∙ rw (← read .is, r, u .a, u .b, u .c);
+      whole = ap cells (treeAt-cell s i) ∙ rw (← read .is, r, u .a, u .b, u .c);
       a-lower = lower i (e .a) (t .a) (reference-passed s i (useOf (e .a)) (t .a) x);
       b-lower = lower i (e .b) (t .b) (reference-passed s i (useOf (e .b)) (t .b) y);
       c-lower = lower i (e .c) (t .c) (reference-passed s i (useOf (e .c)) (t .c) v);

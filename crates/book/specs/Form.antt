@@ -14,8 +14,8 @@ use Rattle.cells.specs.declared.Cell.{Cell}
 use Rattle.cells.specs.declared.Entry.{Entry}
 use Rattle.cells.specs.Coded.{asCell, rowFrom}
 use Rattle.answers.specs.Answer.{refused, faultNumber}
-use Rattle.outcome.specs.Numbers.{refusalAnswer}
-use Rattle.outcome.specs.declared.Refusal.{Refusal}
+use Rattle.answers.specs.Cases.{refusalAnswer}
+use Rattle.answers.specs.declared.Refusal.{Refusal}
 use Rattle.book.specs.declared.Check.{Check}
 use Rattle.book.specs.declared.Check.the-variants.{Clear, Bad}
 use Rattle.book.specs.declared.Form.{Form}
@@ -34,7 +34,7 @@ pub record Named (e : Entry) (t : Cell) : Type 0 where
   pub row : rowFrom (t .kind) e ≡ rowOf (t .kind)
 
 -- the cells that it refers to have a kind byte.
-pub record Within (s : List ℕ) (e : Entry) (t : Cell) : Type 0 where
+pub record FieldsWithin (s : List ℕ) (e : Entry) (t : Cell) : Type 0 where
   pub a : 2 ≤ e .a → 8 * t .a < length s
   pub b : 2 ≤ e .b → 8 * t .b < length s
   pub c : 2 ≤ e .c → 8 * t .c < length s
@@ -62,12 +62,12 @@ pub record CellsCheck (s : List ℕ) (n : ℕ) (r : Check) : Type 0 where
   pub says : ChecksAs r (cellsFinding s n 0)
 
 -- a root among few cells, of which it and the lower ones pass rows 5 to 8
-pub record Ready (s : List ℕ) (root : ℕ) : Type 0 where
+pub record RootReady (s : List ℕ) (root : ℕ) : Type 0 where
   pub within : 8 * root + 8 ≤ length s
   pub few : root < 4096
   pub sound : (i : ℕ) → i ≤ root → cellFault s i ≡ none
 
--- the opened size of each of the first n cells, capped one above the limit
+-- the unshared size of each of the first n cells, capped one above the limit
 pub record SizesUpTo (s z : List ℕ) (n : ℕ) : Type 0 where
   pub sizes : (i : ℕ) → i < n → getD z i 0 ≡ min 4096 (cells (treeAt s i))
 
@@ -92,6 +92,6 @@ abbrev pub FormsAs : List ℕ → Form → Option Finding → Type 0
 FormsAs s r none = r ≡ WellFormed (rootOf s)
 FormsAs s r (some f) = (q : Refusal) × (r ≡ Malformed q) × (refusalAnswer q ≡ refused (faultNumber (f .fault)) (f .cell))
 
--- rows 2 to 10: the root, or why the book is turned back
+-- rows 2 to 10: the root, or why the book is refused
 pub record FormCheck (s : List ℕ) (r : Form) : Type 0 where
   pub says : FormsAs s r (formFinding s)

@@ -1,12 +1,12 @@
 // Rows 2 to 10: the length, the trailer, each cell, the root. The trailer, and the part of cells before it, are handed on as parts of the
 // book to their readers.
+use answers::Refusal;
 use cells::Cell;
 use cells::Entry;
 use cells::entry_of;
 use cells::read_cell;
 use cells::read_pair;
 use cells::wide;
-use outcome::Refusal;
 ghost use mathlib.Core.Path.{_≡_};
 ghost use Prim.Native.Nat.{_+_, _*_, _≤_, _<_, min};
 ghost use mathlib.Core.Option.{none};
@@ -14,8 +14,8 @@ ghost use lib.ListN.{length};
 ghost use Rattle.format.specs.Tree.{cells, treeAt};
 ghost use Rattle.format.specs.Book.{lengthOk, unnamedOk, referenceOk, sortOk, cellFault};
 ghost use Rattle.cells.specs.Coded.{useOf};
-ghost use Rattle.book.specs.Form.{markOk, countedOk, Named, Within, EveryField, CellCheck, CellsCheck};
-ghost use Rattle.book.specs.Form.{fieldSize, SizesUpTo, Ready, RootCheck, FormCheck};
+ghost use Rattle.book.specs.Form.{markOk, countedOk, Named, FieldsWithin, EveryField, CellCheck, CellsCheck};
+ghost use Rattle.book.specs.Form.{fieldSize, SizesUpTo, RootReady, RootCheck, FormCheck};
 
 // A type, as a use of a field or as a sort; a lower number is no reference.
 const TYPE: u8 = 2;
@@ -23,7 +23,7 @@ const TYPE: u8 = 2;
 // A term.
 const TERM: u8 = 3;
 
-// The limit of opened sizes; they are counted up to one more.
+// The limit of unshared sizes; they are counted up to one more.
 const LIMIT: usize = 4095;
 
 const CAP: usize = LIMIT + 1;
@@ -143,7 +143,7 @@ fn reference_all(i: usize, e: Entry, t: Cell) -> bool
 // 8, of every field.
 fn sort_all(s: &[u8], e: Entry, t: Cell) -> bool
     requires { ⌜ Named e t ⌝ }
-    requires { ⌜ Within (now s) e t ⌝ }
+    requires { ⌜ FieldsWithin (now s) e t ⌝ }
     ensures { λ r. ⌜ EveryField (sortOk (now (s .entry))) t r ⌝ }
 {
     if !sort_ok(s, e.a, t.a) {
@@ -211,7 +211,7 @@ fn field_size(z: &[u16; CAP], u: u8, x: usize) -> usize
     count(z[x])
 }
 
-// The opened size of cell i, capped.
+// The unshared size of cell i, capped.
 fn cell_size(s: &[u8], z: &[u16; CAP], i: usize) -> usize
     requires { ⌜ (8 * i + 8 ≤ length (now s)) × (i < 4096) ⌝ }
     requires { ⌜ cellFault (now s) i ≡ none ⌝ }
@@ -224,9 +224,9 @@ fn cell_size(s: &[u8], z: &[u16; CAP], i: usize) -> usize
     if size < CAP { size } else { CAP }
 }
 
-// The opened size of the root, capped, from those of the cells up to it.
+// The unshared size of the root, capped, from those of the cells up to it.
 fn root_size(s: &[u8], root: usize) -> usize
-    requires { ⌜ Ready (now s) root ⌝ }
+    requires { ⌜ RootReady (now s) root ⌝ }
     ensures { λ r. ⌜ r ≡ min 4096 (cells (treeAt (now (s .entry)) root)) ⌝ }
 {
     let mut z = [0u16; CAP];
@@ -240,7 +240,7 @@ fn root_size(s: &[u8], root: usize) -> usize
 
 // Rows 9 and 10.
 fn check_root(s: &[u8], root: usize) -> Check
-    requires { ⌜ Ready (now s) root ⌝ }
+    requires { ⌜ RootReady (now s) root ⌝ }
     ensures { λ r. ⌜ RootCheck (now (s .entry)) root r ⌝ }
 {
     if !sort_ok(s, TERM, root) {

@@ -25,6 +25,6 @@ decides =
       value = value?-says;
       consistent = λ v w A B. consistent?-says;
       finds = infer-says;
-      reads = λ v x A B. cast-says x;
+      casts = λ v x A B. cast-says x;
       steps = λ e f A. next-says f;
     }

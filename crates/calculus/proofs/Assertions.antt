@@ -10,7 +10,7 @@ use lib.IntN.{pos}
 use native.Mathlib.Omega.{arith}
 use native.Mathlib.Decide.{ℕ-discrete}
 use Rattle.calculus.specs.Syntax.{Ty, int, top, arrow, inter, field}
-use Rattle.calculus.specs.Syntax.{Term, var, lit, unit, anno, app, lam, merge, fix, rcd, proj, put, size-type}
+use Rattle.calculus.specs.Syntax.{Term, var, lit, unit, anno, app, lam, merge, fix, rcd, proj, substitute, size-type}
 use Rattle.calculus.specs.Syntax.{Value, v-lit, v-lam, v-merge, v-rcd}
 use Rattle.calculus.specs.Subtyping.{Below, b-int, b-top, b-left, b-right, b-arrow, b-field}
 use Rattle.calculus.specs.Disjointness.{Disjoint, h-int, h-arrow, DisjointByList}
@@ -110,28 +110,28 @@ disjoint?-functions = refl
 
 -- ---- 1 under Top&Top reads as ⊤,,⊤, and as nothing else.
 
-reads-tops : Cast (number 1) (inter top top) (merge unit unit)
-reads-tops = c-both (c-top v-lit tt tt) (c-top v-lit tt tt)
+casts-tops : Cast (number 1) (inter top top) (merge unit unit)
+casts-tops = c-both (c-top v-lit tt tt) (c-top v-lit tt tt)
 
-reads-tops-only : (x : Term) → Cast (number 1) (inter top top) x → x ≡ merge unit unit
-reads-tops-only x (c-top v o t) = absurd o
-reads-tops-only x (c-both (c-top v o t) (c-top w o′ t′)) = refl
+casts-tops-only : (x : Term) → Cast (number 1) (inter top top) x → x ≡ merge unit unit
+casts-tops-only x (c-top v o t) = absurd o
+casts-tops-only x (c-both (c-top v o t) (c-top w o′ t′)) = refl
 
 cast-tops : cast (inter top top) (number 1) ≡ some (merge unit unit)
 unfolding cast mergeBoth
 cast-tops = refl
 
--- ---- An argument is put in read: (λ.#0 : Int→Int) (1,,{7=5}) becomes 1 : Int, and nothing else.
+-- ---- An argument is substituted read: (λ.#0 : Int→Int) (1,,{7=5}) becomes 1 : Int, and nothing else.
 
 abbrev on-merge : Term
 on-merge = app (lam (var 0) int int) (merge (number 1) (rcd 7 (number 5)))
 
 on-merge-reads : Step on-merge (anno (number 1) int)
-unfolding put
+unfolding substitute
 on-merge-reads = s-beta (c-left (v-rcd v-lit) tt c-lit)
 
 on-merge-only : (f : Term) → Step on-merge f → f ≡ anno (number 1) int
-unfolding put
+unfolding substitute
 on-merge-only f (s-app-left s) = absurd (stays v-lam s)
 on-merge-only f (s-app-right v s) = absurd (stays (v-merge v-lit (v-rcd v-lit)) s)
 on-merge-only f (s-beta (c-top v o t)) = absurd t
@@ -140,7 +140,7 @@ on-merge-only f (s-beta (c-left v o (c-top w o′ t))) = absurd t
 on-merge-only f (s-beta (c-right v o (c-top w o′ t))) = absurd t
 
 on-merge-next : next on-merge ≡ some (anno (number 1) int)
-unfolding next value? apply cast firstPart orElse castInt put
+unfolding next value? apply cast firstPart orElse castInt substitute
 on-merge-next = refl
 
 -- ---- A top-like function type is not answered with a function: λ.#0 : Int→Int, annotated Int→Top, becomes ⊤, and nothing else.
@@ -187,7 +187,7 @@ consistent?-identity : consistent? (lam (var 0) int int) (constant 1) ≡ false
 unfolding consistent? eachPart consistentLam disjoint? disjointArrow disjointInt sameTerm sameType decide ℕ-discrete
 consistent?-identity = refl
 
--- ---- Rows 11 to 15: the part that a refusal names, as the way to it from the term (0 for field a, 1 for field b).
+-- ---- Rows 11 to 15: the part that a refusal names, as the path to it from the term (0 for field a, 1 for field b).
 
 -- a function that is given the top value under its input type Int
 abbrev misapplied : Term

@@ -11,6 +11,6 @@ pub mod Typing
 pub mod Soundness
 pub mod Chain
 pub mod Inference
-pub mod Places
+pub mod RefusalPaths
 pub mod Evaluation
 pub mod Agreement

@@ -9,7 +9,7 @@ use mathlib.Core.List.{List, [], _∷_, _++_}
 use lib.Dec.{eqb}
 use lib.ListN.{length, length-append}
 use Rattle.calculus.specs.Syntax.{Ty, int, top, inter, field}
-use Rattle.calculus.specs.Syntax.{Term, var, unit, anno, app, merge, rcd, proj, put}
+use Rattle.calculus.specs.Syntax.{Term, var, unit, anno, app, merge, rcd, proj, substitute}
 use Rattle.calculus.specs.Syntax.{Value, v-lit, v-unit, v-lam, v-merge, v-rcd, IsValue}
 use Rattle.calculus.specs.Subtyping.{Below, b-top}
 use Rattle.calculus.specs.Disjointness.{Disjoint, d-top-left}
@@ -25,7 +25,7 @@ use Rattle.calculus.proofs.Disjointness.{disjoint→list}
 use Rattle.calculus.proofs.Runtime.{Runtime, r-refl, r-top, r-arrow, r-inter, r-field, runtime-below, runtime-disjoint}
 use Rattle.calculus.proofs.TypedReduction.{cast-from, cast-to, below-cast, cast-trans}
 use Rattle.calculus.proofs.Consistency.{list→consistent, consistent→list, consistent-sym}
-use Rattle.calculus.proofs.Typing.{typed-value, typed-closed, typed-weaken, put-closed, lookup-within, lookup-strengthen}
+use Rattle.calculus.proofs.Typing.{typed-value, typed-closed, typed-weaken, substitute-closed, lookup-within, lookup-strengthen}
 
 -- a typed value has the type that it shows
 pub value-typed : {Γ : List Ty} {v : Term} {A B : Ty} → Typed Γ v A → Value v B → Value v A
@@ -133,31 +133,31 @@ lookup-last (C ∷ Δ) here e = absurd (omega arith)
 lookup-last (C ∷ Δ) (there l) e = lookup-last Δ l (omega arith)
 
 -- the variable case: the variable that goes, or another
-put-var : (Δ : List Ty) {n : ℕ} {s : Term} {A B B′ : Ty} → Lookup (Δ ++ (B ∷ [])) n A → Typed [] s B′ → Runtime B′ B
+substitute-var : (Δ : List Ty) {n : ℕ} {s : Term} {A B B′ : Ty} → Lookup (Δ ++ (B ∷ [])) n A → Typed [] s B′ → Runtime B′ B
     → Refines Δ (cond (eqb n (length Δ)) s (var n)) A
-put-var Δ {n} {A} {B} {B′} l s r =
+substitute-var Δ {n} {A} {B} {B′} l s r =
     by-test (λ e. Refines Δ e A) (eqb n (length Δ)) (λ t. (B′, typed-weaken s Δ, rw (lookup-last Δ l (eqb-says n (length Δ) .0 t)) r)) λ f.
     let other : n ≢ length Δ = λ p. f (eqb-says n (length Δ) .1 p) in
     let within : n < length Δ + 1 = rw (length-append Δ (B ∷ [])) at (lookup-within l) in
     (A, t-var (lookup-strengthen Δ (B ∷ []) n l (omega arith)), r-refl)
 
 -- 5.10
-pub put-typed : (Δ : List Ty) {e s : Term} {A B B′ : Ty} → Typed (Δ ++ (B ∷ [])) e A → Typed [] s B′ → Runtime B′ B
-    → (A′ : Ty) × Typed Δ (put (length Δ) s e) A′ × Runtime A′ A
-unfolding put
-put-typed Δ t-unit s r = exact t-unit
-put-typed Δ t-lit s r = exact t-lit
-put-typed Δ (t-var l) s r = put-var Δ l s r
-put-typed Δ (t-anno t b) s r = refine-anno (put-typed Δ t s r) b
-put-typed Δ (t-app t a u b) s r = refine-app (put-typed Δ t s r) a (put-typed Δ u s r) b
-put-typed Δ (t-lam {A} t b) s r = let h = put-typed (A ∷ Δ) t s r in exact (t-lam (h .1) (refine-below (h .2) b))
-put-typed Δ (t-merge t u d) s r = refine-merge (put-typed Δ t s r) (put-typed Δ u s r) d
-put-typed Δ {s = e} (t-mergev {v = x} {w = y} {A} {B} v w t u k) s r =
+pub substitute-typed : (Δ : List Ty) {e s : Term} {A B B′ : Ty} → Typed (Δ ++ (B ∷ [])) e A → Typed [] s B′ → Runtime B′ B
+    → (A′ : Ty) × Typed Δ (substitute (length Δ) s e) A′ × Runtime A′ A
+unfolding substitute
+substitute-typed Δ t-unit s r = exact t-unit
+substitute-typed Δ t-lit s r = exact t-lit
+substitute-typed Δ (t-var l) s r = substitute-var Δ l s r
+substitute-typed Δ (t-anno t b) s r = refine-anno (substitute-typed Δ t s r) b
+substitute-typed Δ (t-app t a u b) s r = refine-app (substitute-typed Δ t s r) a (substitute-typed Δ u s r) b
+substitute-typed Δ (t-lam {A} t b) s r = let h = substitute-typed (A ∷ Δ) t s r in exact (t-lam (h .1) (refine-below (h .2) b))
+substitute-typed Δ (t-merge t u d) s r = refine-merge (substitute-typed Δ t s r) (substitute-typed Δ u s r) d
+substitute-typed Δ {s = e} (t-mergev {v = x} {w = y} {A} {B} v w t u k) s r =
     let m : Typed Δ (merge x y) (inter A B) = t-mergev v w t u k in
-    exact (subst (λ z. Typed Δ z (inter A B)) (sym (put-closed (length Δ) e (merge x y) (typed-closed m))) m)
-put-typed Δ (t-fix {A} t b) s r = let h = put-typed (A ∷ Δ) t s r in exact (t-fix (h .1) (refine-below (h .2) b))
-put-typed Δ (t-rcd t) s r = refine-rcd (put-typed Δ t s r)
-put-typed Δ (t-proj t p) s r = refine-proj (put-typed Δ t s r) p
+    exact (subst (λ z. Typed Δ z (inter A B)) (sym (substitute-closed (length Δ) e (merge x y) (typed-closed m))) m)
+substitute-typed Δ (t-fix {A} t b) s r = let h = substitute-typed (A ∷ Δ) t s r in exact (t-fix (h .1) (refine-below (h .2) b))
+substitute-typed Δ (t-rcd t) s r = refine-rcd (substitute-typed Δ t s r)
+substitute-typed Δ (t-proj t p) s r = refine-proj (substitute-typed Δ t s r) p
 
 pub value-no-step : {v f : Term} {A : Ty} → Value v A → ¬ Step v f
 value-no-step (v-merge v w) (s-merge-left s) = value-no-step v s
@@ -176,11 +176,11 @@ step-typed (t-anno t b) (s-anno s) = refine-anno (step-typed t s) b
 step-typed (t-rcd t) (s-rcd s) = refine-rcd (step-typed t s)
 step-typed (t-proj t p) (s-proj s) = refine-proj (step-typed t s) p
 step-typed (t-anno t b) (s-cast c) = cast-typed t c
-step-typed (t-app (t-lam t b) a-arrow u d) (s-beta c) = let h = cast-typed u c in refine-anno (put-typed [] t (h .1) (h .2)) b
+step-typed (t-app (t-lam t b) a-arrow u d) (s-beta c) = let h = cast-typed u c in refine-anno (substitute-typed [] t (h .1) (h .2)) b
 step-typed (t-app t-unit a-top u b) (s-app-unit v) = exact t-unit
 step-typed (t-proj t-unit p-top) s-proj-unit = exact t-unit
 step-typed (t-proj (t-rcd t) p-field) (s-proj-rcd v) = exact t
-step-typed (t-fix t b) s-fix = refine-anno (put-typed [] t (t-fix t b) r-refl) b
+step-typed (t-fix t b) s-fix = refine-anno (substitute-typed [] t (t-fix t b) r-refl) b
 
 -- e has a successor
 abbrev Steps : Term → Type 0
@@ -234,7 +234,7 @@ step-unique (t-app t a u b) (s-app-right v s) (s-beta c) = absurd (value-no-step
 step-unique (t-app t a u b) (s-app-right v s) (s-app-unit w) = absurd (value-no-step w s)
 step-unique (t-app t a u b) (s-beta c) (s-app-left s) = absurd (value-no-step v-lam s)
 step-unique (t-app t a u b) (s-beta c) (s-app-right v s) = absurd (value-no-step (cast-from c .1) s)
-step-unique (t-app t a u b) (s-beta {e} {B} c) (s-beta d) = ap (λ x. anno (put 0 x e) B) (cast-unique u c d)
+step-unique (t-app t a u b) (s-beta {e} {B} c) (s-beta d) = ap (λ x. anno (substitute 0 x e) B) (cast-unique u c d)
 step-unique (t-app t a u b) (s-app-unit w) (s-app-left s) = absurd (value-no-step v-unit s)
 step-unique (t-app t a u b) (s-app-unit w) (s-app-right v s) = absurd (value-no-step w s)
 step-unique (t-app t a u b) (s-app-unit w) (s-app-unit w′) = refl

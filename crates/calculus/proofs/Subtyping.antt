@@ -142,10 +142,10 @@ pub arrows-say : {A B C D : Ty} (x y : Bool) → ¬ TopLike D →
 arrows-say x y n f g = Iff·trans (and-says x y f g) (λ p. b-arrow (p .0) (p .1), below-arrow n)
 
 pub fields-say : {l k : ℕ} {A B : Ty} (x : Bool) → ¬ TopLike B → T x ↔ Below A B → T (eqb l k && x) ↔ Below (field l A) (field k B)
-fields-say {l} {k} {A} {B} x n f = Iff·trans (and-says (eqb l k) x (eqb-says l k) f) (put-label, below-field n)
+fields-say {l} {k} {A} {B} x n f = Iff·trans (and-says (eqb l k) x (eqb-says l k) f) (substitute-label, below-field n)
   where
-    put-label : (l ≡ k) × Below A B → Below (field l A) (field k B)
-    put-label p = subst (λ (j : ℕ). Below (field l A) (field j B)) (p .0) (b-field (p .1))
+    substitute-label : (l ≡ k) × Below A B → Below (field l A) (field k B)
+    substitute-label p = subst (λ (j : ℕ). Below (field l A) (field j B)) (p .0) (b-field (p .1))
 
 -- The test for subtyping: where the two types' forms leave only top-like ones, and where these are asked for first.
 only-topLike : {A B : Ty} → (Below A B → TopLike B) → T (topLike? B) ↔ Below A B

@@ -8,10 +8,10 @@ use mathlib.Core.List.{List, [], _∷_, _++_}
 use lib.Dec.{T, eqb, ltb→lt, lt→ltb, eqb→eq}
 use lib.ListN.{length}
 use Rattle.calculus.specs.Syntax.{Ty, inter, field, size-type}
-use Rattle.calculus.specs.Syntax.{Term, var, lit, unit, anno, app, lam, merge, fix, rcd, proj, put, size}
+use Rattle.calculus.specs.Syntax.{Term, var, lit, unit, anno, app, lam, merge, fix, rcd, proj, substitute, size}
 use Rattle.calculus.specs.Syntax.{Value, v-lit, v-unit, v-lam, v-merge, v-rcd}
 use Rattle.calculus.specs.Decide.{closed?}
-use Rattle.calculus.specs.Typing.{Lookup, here, there, Applies, a-arrow, a-top, Projects, p-field, p-top, Finds, Typed, TypedByList}
+use Rattle.calculus.specs.Typing.{Lookup, here, there, Applies, a-arrow, a-top, Projects, p-field, p-top, TypedWith, Typed, TypedByList}
 use Rattle.calculus.specs.Typing.{t-unit, t-lit, t-var, t-anno, t-app, t-lam, t-merge, t-mergev, t-fix, t-rcd, t-proj}
 use Rattle.calculus.proofs.Bools.{T-and, by-test}
 use Rattle.calculus.proofs.Disjointness.{list→disjoint, disjoint→list}
@@ -21,7 +21,7 @@ use Rattle.calculus.proofs.Consistency.{list→consistent, consistent�
 -- typing over other notions of disjoint and consistent, if the first imply them
 pub finds-map : {D D′ : Ty → Ty → Type 0} {K K′ : Term → Term → Type 0} → ((A B : Ty) → D A B → D′ A B)
     → ((v w : Term) (A B : Ty) → Value v A → Value w B → K v w → K′ v w)
-    → {Γ : List Ty} {e : Term} {A : Ty} → Finds D K Γ e A → Finds D′ K′ Γ e A
+    → {Γ : List Ty} {e : Term} {A : Ty} → TypedWith D K Γ e A → TypedWith D′ K′ Γ e A
 finds-map d k t-unit = t-unit
 finds-map d k t-lit = t-lit
 finds-map d k (t-var l) = t-var l
@@ -157,20 +157,20 @@ typed-strengthen Δ Γ (t-fix {A} t b) c = t-fix (typed-strengthen (A ∷ Δ) Γ
 typed-strengthen Δ Γ (t-rcd t) c = t-rcd (typed-strengthen Δ Γ t c)
 typed-strengthen Δ Γ (t-proj t p) c = t-proj (typed-strengthen Δ Γ t c) p
 
--- nothing is put into a closed term
-pub put-closed : (k : ℕ) (s e : Term) → T (closed? k e) → put k s e ≡ e
-unfolding put closed?
-put-closed k s (var n) c =
+-- nothing is substituted into a closed term
+pub substitute-closed : (k : ℕ) (s e : Term) → T (closed? k e) → substitute k s e ≡ e
+unfolding substitute closed?
+substitute-closed k s (var n) c =
     by-test (λ e. e ≡ var n) (eqb n k) (λ t. absurd (omega (arith, eqb→eq n k t, ltb→lt n k c))) (λ f. refl)
-put-closed k s (lit i) c = refl
-put-closed k s unit c = refl
-put-closed k s (anno e A) c = rw (put-closed k s e c)
-put-closed k s (app e f) c = let p = closed-both k e f .0 c in ap₂ app (put-closed k s e (p .0)) (put-closed k s f (p .1))
-put-closed k s (lam e A B) c = rw (put-closed (suc k) s e c)
-put-closed k s (merge e f) c = let p = closed-both k e f .0 c in ap₂ merge (put-closed k s e (p .0)) (put-closed k s f (p .1))
-put-closed k s (fix e A) c = rw (put-closed (suc k) s e c)
-put-closed k s (rcd l e) c = rw (put-closed k s e c)
-put-closed k s (proj l e) c = rw (put-closed k s e c)
+substitute-closed k s (lit i) c = refl
+substitute-closed k s unit c = refl
+substitute-closed k s (anno e A) c = rw (substitute-closed k s e c)
+substitute-closed k s (app e f) c = let p = closed-both k e f .0 c in ap₂ app (substitute-closed k s e (p .0)) (substitute-closed k s f (p .1))
+substitute-closed k s (lam e A B) c = rw (substitute-closed (suc k) s e c)
+substitute-closed k s (merge e f) c = let p = closed-both k e f .0 c in ap₂ merge (substitute-closed k s e (p .0)) (substitute-closed k s f (p .1))
+substitute-closed k s (fix e A) c = rw (substitute-closed (suc k) s e c)
+substitute-closed k s (rcd l e) c = rw (substitute-closed k s e c)
+substitute-closed k s (proj l e) c = rw (substitute-closed k s e c)
 
 applies-size : {A B C : Ty} → Applies C A B → size-type B ≤ size-type C
 unfolding size-type

@@ -31,5 +31,5 @@ pub record Decides : Type 0 where
   pub value : (e : Term) → T (value? e) ↔ IsValue e
   pub consistent : (v w : Term) (A B : Ty) → Value v A → Value w B → T (consistent? v w) ↔ ConsistentByList v w
   pub finds : (Γ : List Ty) (e : Term) (A : Ty) → (infer Γ e ≡ found A) ↔ Typed Γ e A
-  pub reads : (v x : Term) (A B : Ty) → Typed [] v B → IsValue v → (cast A v ≡ some x) ↔ Cast v A x
+  pub casts : (v x : Term) (A B : Ty) → Typed [] v B → IsValue v → (cast A v ≡ some x) ↔ Cast v A x
   pub steps : (e f : Term) (A : Ty) → Typed [] e A → (next e ≡ some f) ↔ Step e f

@@ -5,7 +5,7 @@ use mathlib.Core.Bool.{true, false, _&&_, cond}
 use mathlib.Core.Option.{Option, none, some, Option·map, orElse}
 use lib.Dec.{eqb}
 use Rattle.calculus.specs.Syntax.{Ty, int, top, arrow, inter, field}
-use Rattle.calculus.specs.Syntax.{Term, var, lit, unit, anno, app, lam, merge, fix, rcd, proj, put, byForm, foldParts}
+use Rattle.calculus.specs.Syntax.{Term, var, lit, unit, anno, app, lam, merge, fix, rcd, proj, substitute, byForm, foldParts}
 use Rattle.calculus.specs.Decide.{topLike?, below?, value?}
 
 -- "under an intersection, merge both readings"
@@ -40,7 +40,7 @@ cast (field l A) v = elim (topLike? A) [ true ↦ some unit | false ↦ firstPar
 -- "A function on a value becomes its body with the argument's reading put in, annotated with the output. The top value applied to a value ..
 -- becomes the top value."
 unfoldable pub apply : Term → Term → Option Term
-apply e v = byForm (λ i. none) (some unit) (λ b A B. Option·map (λ x. anno (put 0 x b) B) (cast A v)) (λ l f. none) none e
+apply e v = byForm (λ i. none) (some unit) (λ b A B. Option·map (λ x. anno (substitute 0 x b) B) (cast A v)) (λ l f. none) none e
 
 -- "The top value .. with a field read, becomes the top value. A field read of a record value becomes the content."
 unfoldable pub project : ℕ → Term → Option Term
@@ -59,6 +59,6 @@ next (app e f) =
     ]
 next (lam e A B) = none
 next (merge e f) = elim (value? e) [ true ↦ Option·map (merge e) (next f) | false ↦ Option·map (λ x. merge x f) (next e) ]
-next (fix e A) = some (anno (put 0 (fix e A) e) A)
+next (fix e A) = some (anno (substitute 0 (fix e A) e) A)
 next (rcd l e) = Option·map (rcd l) (next e)
 next (proj l e) = elim (value? e) [ true ↦ project l e | false ↦ Option·map (proj l) (next e) ]

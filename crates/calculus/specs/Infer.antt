@@ -1,4 +1,4 @@
--- Finding a type, as a function. What it finds is a theorem of proofs/: exactly what the rules derive. A refusal carries the way from
+-- Finding a type, as a function. What it finds is a theorem of proofs/: exactly what the rules derive. A refusal carries the path from
 -- the term to the part that it names, field by field: 0 for a, 1 for b of document 01's table. Assumes nothing.
 use Prim.Native.Nat.{ℕ}
 use mathlib.Core.Bool.{Bool, _&&_, _||_, cond}
@@ -15,7 +15,7 @@ use Rattle.calculus.specs.Decide.{below?, disjoint?, value?, closed?, co
 pub data Reason : Type 0 where
   unbound not-function no-field conflict mismatch : Reason
 
--- A type; or the reason why there is none, with the way to the part that it names.
+-- A type; or the reason why there is none, with the path to the part that it names.
 pub data Found : Type 0 where
   found : Ty → Found
   refused : Reason → List ℕ → Found

@@ -8,6 +8,6 @@ pub mod Step
 pub mod Soundness
 pub mod Decide
 pub mod Infer
-pub mod Places
+pub mod RefusalPaths
 pub mod Evaluate
 pub mod Agreement

@@ -2,7 +2,7 @@
 use Prim.Native.Nat.{ℕ, zero, suc}
 use mathlib.Core.Path.{_≡_}
 use mathlib.Core.Logic.{_⊎_}
-use Rattle.calculus.specs.Syntax.{Ty, Term, unit, anno, app, lam, merge, fix, rcd, proj, Value, IsValue, put}
+use Rattle.calculus.specs.Syntax.{Ty, Term, unit, anno, app, lam, merge, fix, rcd, proj, Value, IsValue, substitute}
 use Rattle.calculus.specs.TypedReduction.{Cast}
 
 -- Step e f: f is a successor of e.
@@ -19,14 +19,14 @@ pub data Step : Term → Term → Type 0 where
   -- STEP-ANNOV: "an annotated value becomes its reading"
   s-cast : {v x : Term} {A : Ty} → Cast v A x → Step (anno v A) x
   -- STEP-BETA: "A function on a value becomes its body with the argument's reading put in, annotated with the output."
-  s-beta : {e v x : Term} {A B : Ty} → Cast v A x → Step (app (lam e A B) v) (anno (put 0 x e) B)
+  s-beta : {e v x : Term} {A B : Ty} → Cast v A x → Step (app (lam e A B) v) (anno (substitute 0 x e) B)
   -- STEP-TOP: "The top value applied to a value, or with a field read, becomes the top value."
   s-app-unit : {v : Term} {A : Ty} → Value v A → Step (app unit v) unit
   s-proj-unit : {l : ℕ} → Step (proj l unit) unit
   -- "A field read of a record value becomes the content."
   s-proj-rcd : {l : ℕ} {v : Term} {A : Ty} → Value v A → Step (proj l (rcd l v)) v
   -- STEP-FIX: "A fixpoint becomes its body with itself put in, annotated with its type."
-  s-fix : {e : Term} {A : Ty} → Step (fix e A) (anno (put 0 (fix e A) e) A)
+  s-fix : {e : Term} {A : Ty} → Step (fix e A) (anno (substitute 0 (fix e A) e) A)
 
 -- "A term that is no value and has no successor is stuck."
 abbrev pub Stuck : Term → Type 0

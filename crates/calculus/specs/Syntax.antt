@@ -62,19 +62,19 @@ pub data Value : Term → Ty → Type 0 where
 abbrev pub IsValue : Term → Type 0
 IsValue e = (A : Ty) × Value e A
 
--- e with s put in for the variable that skips k binders. Steps never go under a binder, so what is put in is closed and needs no
+-- Document 01's "put in": e with s substituted for the variable that skips k binders. Steps never go under a binder, so what is substituted is closed and needs no
 -- shifting, and the variable that goes is the outermost.
-unfoldable pub put : ℕ → Term → Term → Term
-put k s (var n) = cond (eqb n k) s (var n)
-put k s (lit i) = lit i
-put k s unit = unit
-put k s (anno e A) = anno (put k s e) A
-put k s (app e f) = app (put k s e) (put k s f)
-put k s (lam e A B) = lam (put (suc k) s e) A B
-put k s (merge e f) = merge (put k s e) (put k s f)
-put k s (fix e A) = fix (put (suc k) s e) A
-put k s (rcd l e) = rcd l (put k s e)
-put k s (proj l e) = proj l (put k s e)
+unfoldable pub substitute : ℕ → Term → Term → Term
+substitute k s (var n) = cond (eqb n k) s (var n)
+substitute k s (lit i) = lit i
+substitute k s unit = unit
+substitute k s (anno e A) = anno (substitute k s e) A
+substitute k s (app e f) = app (substitute k s e) (substitute k s f)
+substitute k s (lam e A B) = lam (substitute (suc k) s e) A B
+substitute k s (merge e f) = merge (substitute k s e) (substitute k s f)
+substitute k s (fix e A) = fix (substitute (suc k) s e) A
+substitute k s (rcd l e) = rcd l (substitute k s e)
+substitute k s (proj l e) = proj l (substitute k s e)
 
 -- ---- what evaluation asks of a term goes by five forms: a number, the top value, a function, a merge, a record; all else is other
 

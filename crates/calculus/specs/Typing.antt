@@ -25,32 +25,32 @@ pub data Projects : ℕ → Ty → Ty → Type 0 where
   p-top : {l : ℕ} → Projects l top top
 
 -- "Finding a type", with D for disjoint and K for consistent: Γ finds A for e.
-pub data Finds (D : Ty → Ty → Type 0) (K : Term → Term → Type 0) : List Ty → Term → Ty → Type 0 where
+pub data TypedWith (D : Ty → Ty → Type 0) (K : Term → Term → Type 0) : List Ty → Term → Ty → Type 0 where
   -- TYP-TOP, TYP-LIT, TYP-VAR: "top value Top; number Int; variable its binder's type"
-  t-unit : {Γ : List Ty} → Finds D K Γ unit top
-  t-lit : {Γ : List Ty} {i : ℤ} → Finds D K Γ (lit i) int
-  t-var : {Γ : List Ty} {n : ℕ} {A : Ty} → Lookup Γ n A → Finds D K Γ (var n) A
+  t-unit : {Γ : List Ty} → TypedWith D K Γ unit top
+  t-lit : {Γ : List Ty} {i : ℤ} → TypedWith D K Γ (lit i) int
+  t-var : {Γ : List Ty} {n : ℕ} {A : Ty} → Lookup Γ n A → TypedWith D K Γ (var n) A
   -- TYP-ANNO: "annotation its type, after checking"
-  t-anno : {Γ : List Ty} {e : Term} {A B : Ty} → Finds D K Γ e A → Below A B → Finds D K Γ (anno e B) B
+  t-anno : {Γ : List Ty} {e : Term} {A B : Ty} → TypedWith D K Γ e A → Below A B → TypedWith D K Γ (anno e B) B
   -- TYP-APP: "the left's type must be a function type, or Top ..; the right is checked against the input"
-  t-app : {Γ : List Ty} {e f : Term} {A B C E : Ty} → Finds D K Γ e C → Applies C A B → Finds D K Γ f E → Below E A → Finds D K Γ (app e f) B
+  t-app : {Γ : List Ty} {e f : Term} {A B C E : Ty} → TypedWith D K Γ e C → Applies C A B → TypedWith D K Γ f E → Below E A → TypedWith D K Γ (app e f) B
   -- TYP-ABS: "function its annotated type, the body checked against the output"
-  t-lam : {Γ : List Ty} {e : Term} {A B C : Ty} → Finds D K (A ∷ Γ) e C → Below C B → Finds D K Γ (lam e A B) (arrow A B)
+  t-lam : {Γ : List Ty} {e : Term} {A B C : Ty} → TypedWith D K (A ∷ Γ) e C → Below C B → TypedWith D K Γ (lam e A B) (arrow A B)
   -- TYP-MERGE: "the intersection, if the two types are disjoint"
-  t-merge : {Γ : List Ty} {e f : Term} {A B : Ty} → Finds D K Γ e A → Finds D K Γ f B → D A B → Finds D K Γ (merge e f) (inter A B)
+  t-merge : {Γ : List Ty} {e f : Term} {A B : Ty} → TypedWith D K Γ e A → TypedWith D K Γ f B → D A B → TypedWith D K Γ (merge e f) (inter A B)
   -- TYP-MERGEV: "or both halves are closed values and consistent"
-  t-mergev : {Γ : List Ty} {v w : Term} {A B : Ty} → Value v A → Value w B → Finds D K [] v A → Finds D K [] w B → K v w → Finds D K Γ (merge v w) (inter A B)
+  t-mergev : {Γ : List Ty} {v w : Term} {A B : Ty} → Value v A → Value w B → TypedWith D K [] v A → TypedWith D K [] w B → K v w → TypedWith D K Γ (merge v w) (inter A B)
   -- TYP-FIX: "fixpoint its type, the body checked against it"
-  t-fix : {Γ : List Ty} {e : Term} {A B : Ty} → Finds D K (A ∷ Γ) e B → Below B A → Finds D K Γ (fix e A) A
+  t-fix : {Γ : List Ty} {e : Term} {A B : Ty} → TypedWith D K (A ∷ Γ) e B → Below B A → TypedWith D K Γ (fix e A) A
   -- "record a record type"
-  t-rcd : {Γ : List Ty} {l : ℕ} {e : Term} {A : Ty} → Finds D K Γ e A → Finds D K Γ (rcd l e) (field l A)
+  t-rcd : {Γ : List Ty} {l : ℕ} {e : Term} {A : Ty} → TypedWith D K Γ e A → TypedWith D K Γ (rcd l e) (field l A)
   -- "Field read: the term's type must be a record type of exactly that label, or Top"
-  t-proj : {Γ : List Ty} {l : ℕ} {e : Term} {A B : Ty} → Finds D K Γ e A → Projects l A B → Finds D K Γ (proj l e) B
+  t-proj : {Γ : List Ty} {l : ℕ} {e : Term} {A B : Ty} → TypedWith D K Γ e A → Projects l A B → TypedWith D K Γ (proj l e) B
 
 -- Γ finds A for e, with the source's definitions 3.1 and 3.2.
 abbrev pub Typed : List Ty → Term → Ty → Type 0
-Typed = Finds Disjoint Consistent
+Typed = TypedWith Disjoint Consistent
 
 -- The same with document 01's lists.
 abbrev pub TypedByList : List Ty → Term → Ty → Type 0
-TypedByList = Finds DisjointByList ConsistentByList
+TypedByList = TypedWith DisjointByList ConsistentByList

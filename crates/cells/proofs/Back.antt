@@ -11,7 +11,7 @@ use Rattle.format.specs.Tree.{Tree, raw, node}
 use Rattle.format.specs.Terms.{fromType, fromTerm, toType, toTerm}
 use Rattle.format.proofs.Trees.{type-back, term-back}
 use Rattle.format.proofs.Tests as Format
-use Rattle.format.proofs.Tests.{Named, Opens, Reads, rows, All, _also_, view, cell-fits}
+use Rattle.format.proofs.Tests.{Named, Decodes, Reads, rows, All, _also_, view, cell-fits}
 use Rattle.cells.specs.Held.{labelBy, Thing, thing, HeldField, f-unused, f-plain, f-refers, Holds, HoldsType}
 
 pub named : (u : Use) (l : ℕ) → l < 256 → Named u (labelBy u l)
@@ -19,29 +19,29 @@ named unused l h = refl
 named plain l h = h
 named (refers o) l h = tt
 
-opens : {s : List ℕ} {n x : ℕ} {u : Use} {t : Tree} → IsBytes s → (u ≡ plain → x < 65536) → HeldField true s n u x t → Format.Holds u t
+decodes : {s : List ℕ} {n x : ℕ} {u : Use} {t : Tree} → IsBytes s → (u ≡ plain → x < 65536) → HeldField true s n u x t → Format.Holds u t
 unfolding rowOf
-opens y b f-unused = refl
-opens {x = x} y b f-plain = (x, refl, b refl)
-opens {s} {x = x} y b (f-refers {k = k} {r = r} l p e m mk u v w) =
+decodes y b f-unused = refl
+decodes {x = x} y b f-plain = (x, refl, b refl)
+decodes {s} {x = x} y b (f-refers {k = k} {r = r} l p e m mk u v w) =
     let f = rw (p .is) at (cell-fits s y x) in
     let z = view Reads table rows k r e in
     rw (z .0, ← mk .0, m)
-    (z .1 record { label = _; ta = _; tb = _; tc = _; name = named (r .label) _ (f .0); a = opens y (λ _. f .1) u; b = opens y (λ _. f .2) v; c = opens y (λ _. f .3) w })
+    (z .1 record { label = _; ta = _; tb = _; tc = _; name = named (r .label) _ (f .0); a = decodes y (λ _. f .1) u; b = decodes y (λ _. f .2) v; c = decodes y (λ _. f .3) w })
 
-pub reference-opens : {s : List ℕ} {n x : ℕ} {o : Sort} {t : Tree} → IsBytes s → HeldField true s n (refers o) x t → Opens o t
-reference-opens y h = opens y (λ e. let z : _≡_ {A = ℕ} 0 1 = cc in absurd (omega arith)) h
+pub reference-decodes : {s : List ℕ} {n x : ℕ} {o : Sort} {t : Tree} → IsBytes s → HeldField true s n (refers o) x t → Decodes o t
+reference-decodes y h = decodes y (λ e. let z : _≡_ {A = ℕ} 0 1 = cc in absurd (omega arith)) h
 
 abbrev pub from : (o : Sort) → Thing o → Tree
 from type-sort A = fromType A
 from term-sort e = fromTerm e
 
-pub back : (o : Sort) (t : Tree) → Opens o t → from o (thing o t) ≡ t
+pub back : (o : Sort) (t : Tree) → Decodes o t → from o (thing o t) ≡ t
 back type-sort t h = ap fromType (ap toType (sym (h .1)) ∙ type-back (h .0)) ∙ h .1
 back term-sort t h = ap fromTerm (ap toTerm (sym (h .1)) ∙ term-back (h .0) (h .2)) ∙ h .1
 
 pub held-back : {s : List ℕ} {i : ℕ} {o : Sort} {x : Thing o} → IsBytes s → (h : Holds s o i x) → from o x ≡ h .tree
-held-back {o = o} y h = ap (from o) (h .is) ∙ back o (h .tree) (reference-opens y (h .held))
+held-back {o = o} y h = ap (from o) (h .is) ∙ back o (h .tree) (reference-decodes y (h .held))
 
 -- a type's tree, whatever the bytes are: no type has a plain field
 abbrev Own : Use → Tree → Type 0

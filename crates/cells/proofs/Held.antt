@@ -15,7 +15,7 @@ use Rattle.format.specs.Table.{Sort, type-sort, term-sort, Use, plain, refers, 
 use Rattle.format.specs.Cell.{byte, pair, Cell, cellAt, cellBytes, half, signed}
 use Rattle.format.specs.Tree.{Tree, node, kindIn}
 use Rattle.format.specs.Terms.{fromType, fromTerm, plainOf, toType, toTerm}
-use Rattle.format.proofs.Laying.{Part, cell-back}
+use Rattle.format.proofs.Encoding.{Part, cell-back}
 use Rattle.format.proofs.Tests.{All, _also_, view}
 use Rattle.cells.specs.Held.{IsCell, mark, Same, Thing, thing, Marked, Fields, HeldField, f-unused, f-plain, f-refers, Holds, HoldsType, HoldsTerm}
 use Rattle.cells.specs.Held.{HoldsContext, h-empty, h-bind}
@@ -27,9 +27,9 @@ kind-of p = rw (p .is)
 
 -- ---- inversion, for all kinds at once
 
-pub opened : {q : Bool} {s : List ℕ} {n i : ℕ} {o : Sort} {t : Tree} (k : ℕ) (r : Row) → HeldField q s n (refers o) i t → cellAt s i .kind ≡ k
+pub fields-of : {q : Bool} {s : List ℕ} {n i : ℕ} {o : Sort} {t : Tree} (k : ℕ) (r : Row) → HeldField q s n (refers o) i t → cellAt s i .kind ≡ k
     → rowOf k ≡ some r → Fields q s i k r (cellAt s i) t
-opened k r (f-refers {r = q} {f = x} {g = y} {h = z} l p e m mk u v w) h g =
+fields-of k r (f-refers {r = q} {f = x} {g = y} {h = z} l p e m mk u v w) h g =
     let d = sym h ∙ kind-of p in
     let same : r ≡ q = Option·some-injective r q (sym g ∙ rw d e) in
     rw (same, d)
@@ -68,7 +68,7 @@ plain-at f-plain = refl
 
 module _ {s : List ℕ} {i : ℕ} {o : Sort} {x : Thing o} (h : Holds s o i x) where
   pub whole : Fields true s i (cellAt s i .kind) (row-at (h .held) .row) (cellAt s i) (h .tree)
-  whole = opened _ _ (h .held) refl (row-at (h .held) .found)
+  whole = fields-of _ _ (h .held) refl (row-at (h .held) .found)
 
   -- every held cell lies within the buffer
   pub held-within : 8 * i + 8 ≤ length s
@@ -76,14 +76,14 @@ module _ {s : List ℕ} {i : ℕ} {o : Sort} {x : Thing o} (h : Holds s o i x) w
 
   -- the inversion, by the kind
   pub by-row : {k : ℕ} {r : Row} → cellAt s i .kind ≡ k → rowOf k ≡ some r → Fields true s i k r (cellAt s i) (h .tree)
-  by-row k e = opened _ _ (h .held) k e
+  by-row k e = fields-of _ _ (h .held) k e
 
 -- one cell holds one tree
 pub field-one : {q : Bool} {s : List ℕ} {n m x : ℕ} {u : Use} {f g : Tree} → HeldField q s n u x f → HeldField q s m u x g → f ≡ g
 field-one f-unused f-unused = refl
 field-one f-plain f-plain = refl
 field-one (f-refers {k = k} {r = r} l p e m mk u v w) h =
-    let z = opened k r h (kind-of p) e in
+    let z = fields-of k r h (kind-of p) e in
     cc (
       m,
       field-one u (rw (p .is) at (z .held-a)),

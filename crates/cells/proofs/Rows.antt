@@ -11,7 +11,7 @@ use Rattle.format.specs.Tree.{Tree, raw, node}
 use Rattle.cells.specs.Held.{labelBy, HeldField, f-unused, f-plain}
 use Rattle.cells.specs.Coded.{useOf, rowFrom}
 use Rattle.cells.specs.declared.Entry.{Entry}
-use Rattle.cells.proofs.Held.{opened, row-at, lower}
+use Rattle.cells.proofs.Held.{fields-of, row-at, lower}
 
 pub record Uses (y : Entry) (r : Row) : Type 0 where
   pub label : r .label ≡ useOf (y .label)
@@ -41,7 +41,7 @@ uses k y r e = go (y .sort) refl
     go (suc (suc (suc n))) q = by-sort term-sort (rw q at e)
 
 -- t as cell i, of row y: the tree that it stands for, its fields held below i
-pub record Opened (q : Bool) (s : List ℕ) (i : ℕ) (t : Cell) (y : Entry) (x : Tree) : Type 0 where
+pub record FieldsOf (q : Bool) (s : List ℕ) (i : ℕ) (t : Cell) (y : Entry) (x : Tree) : Type 0 where
   pub a : Tree
   pub b : Tree
   pub c : Tree
@@ -51,13 +51,13 @@ pub record Opened (q : Bool) (s : List ℕ) (i : ℕ) (t : Cell) (y : Entry) (x 
   pub holds-c : HeldField q s i (useOf (y .c)) (t .c) c
 
 pub by-entry : {q : Bool} {s : List ℕ} {n i : ℕ} {t : Cell} {y : Entry} {o : Sort} {x : Tree} → t ≡ cellAt s i → rowFrom (t .kind) y ≡ rowOf (t .kind)
-    → HeldField q s n (refers o) i x → Opened q s i t y x
+    → HeldField q s n (refers o) i x → FieldsOf q s i t y x
 by-entry {q} {s} {i = i} {y = y} {x = x} e w h = rw e own
   where
-    own : Opened q s i (cellAt s i) y x
+    own : FieldsOf q s i (cellAt s i) y x
     own =
         let v = row-at h in
-        let f = opened _ (v .row) h refl (v .found) in
+        let f = fields-of _ (v .row) h refl (v .found) in
         let z = uses (cellAt s i .kind) y (v .row) (rw e at w ∙ v .found) in
         record {
           a = f .a;

@@ -48,7 +48,7 @@ abbrev pub Marked : Bool → Sort → Row → ℕ → Tree → Type 0
 Marked true o r c t = (r .sort ≡ o) × MarkIs o c t
 Marked false o r c t = Unit {0}
 
--- A field of this use and number, in a cell n of s, holds the tree: by the row of the kind, sharing opened, unused fields as 0. References go
+-- A field of this use and number, in a cell n of s, holds the tree: by the row of the kind, unshared, unused fields as 0. References go
 -- down.
 pub data HeldField (q : Bool) (s : List ℕ) : ℕ → Use → ℕ → Tree → Type 0 where
   f-unused : {n x : ℕ} → HeldField q s n unused x (raw 0)

@@ -4,7 +4,7 @@ use mathlib.Core.Path.{_≡_, ap, subst, _∙_}
 use mathlib.Core.List.{List}
 use native.Mathlib.Omega.{arith}
 use Rattle.answers.specs.Answer.{Answer, Result}
-use Rattle.report.specs.Numbers.{tagOf, valueOf, tagPlace, packed}
+use Rattle.answers.specs.Exported.{tagOf, valueOf, tagPlace, packed}
 use Rattle.cerealbank.specs.Packed.{Packs}
 
 pub packs : {v : List ℕ} {r : ℕ} {a : Answer} (x : Result) → valueOf (x .answer) < tagPlace → a ≡ x .answer → v ≡ x .left

@@ -15,15 +15,15 @@ use Rattle.calculus.proofs.Inference.{infer-says}
 use Rattle.calculus.proofs.Typing.{typed-size}
 use Rattle.format.specs.Cell.{IsBytes}
 use Rattle.format.specs.Book.{Finding, formFinding, lengthOk}
-use Rattle.format.specs.Book.{rootOf, trailerAt, follow, opened, WellFormed}
+use Rattle.format.specs.Book.{rootOf, trailerAt, follow, rootTerm, WellFormed}
 use Rattle.format.proofs.Findings.{by-rows}
-use Rattle.format.proofs.Tests.{formFinding-says, opened-small}
-use Rattle.format.proofs.Ways.{follow-down}
+use Rattle.format.proofs.Tests.{formFinding-says, rootTerm-small}
+use Rattle.format.proofs.Paths.{follow-down}
 use Rattle.answers.specs.Answer.{Result, result, refused}
 use Rattle.answers.specs.Engine.{IsLimit, workLength, zeros}
-use Rattle.answers.specs.Definition.{check, run, judge, afterForm, afterTyping, turnedBack, shown, reported}
+use Rattle.answers.specs.Definition.{check, run, judge, afterForm, afterTyping, refusalResult, shown, reported}
 use Rattle.answers.proofs.Demands.{outcome, work-at-hand, typed-accepts, definition-runs}
-use Rattle.report.specs.Numbers.{valueOf, tagPlace}
+use Rattle.answers.specs.Exported.{valueOf, tagPlace}
 
 abbrev Fits : Result → Type 0
 Fits x = valueOf (x .answer) < tagPlace
@@ -50,15 +50,15 @@ names s y =
 
 -- ---- both calls
 
-module _ (b w : List ℕ) (y : IsBytes b) (g : Ty → Result) (h : (A : Ty) → WellFormed b → infer [] (opened b) ≡ Infer.found A → Fits (g A)) where
-  typing-fits : (x : Infer.Found) → WellFormed b → infer [] (opened b) ≡ x → Fits (afterTyping b g x)
-  unfolding afterTyping turnedBack
+module _ (b w : List ℕ) (y : IsBytes b) (g : Ty → Result) (h : (A : Ty) → WellFormed b → infer [] (rootTerm b) ≡ Infer.found A → Fits (g A)) where
+  typing-fits : (x : Infer.Found) → WellFormed b → infer [] (rootTerm b) ≡ x → Fits (afterTyping b g x)
+  unfolding afterTyping refusalResult
   typing-fits (Infer.found A) f e = h A f e
   typing-fits (Infer.refused r p) f e = omega (arith, follow-down b (rootOf b) p, root-low b y)
 
   form-fits : (x : Option Finding) → formFinding b ≡ x → Fits (afterForm b g x)
-  unfolding afterForm turnedBack
-  form-fits none e = typing-fits (infer [] (opened b)) (formFinding-says b .0 e) refl
+  unfolding afterForm refusalResult
+  form-fits none e = typing-fits (infer [] (rootTerm b)) (formFinding-says b .0 e) refl
   form-fits (some f) e = omega (arith, names b y f e)
 
   judge-fits : Fits (judge b w g)
@@ -72,15 +72,15 @@ module _ (b w : List ℕ) (y : IsBytes b) (g : Ty → Result) (h : (A : Ty) → 
 pub check-fits : (b w : List ℕ) → IsBytes b → valueOf (check b w .answer) < tagPlace
 unfolding check shown
 check-fits b w y =
-    judge-fits b w y shown (λ A f e. omega (arith, typed-size (infer-says [] (opened b) A .0 e), opened-small b y f))
+    judge-fits b w y shown (λ A f e. omega (arith, typed-size (infer-says [] (rootTerm b) A .0 e), rootTerm-small b y f))
 
 pub run-fits : (b w : List ℕ) (l : ℕ) → IsBytes b → IsLimit l → valueOf (run b w l .answer) < tagPlace
 unfolding run
 run-fits b w l y i = judge-fits b w y (reported b l) steps
   where
-    steps : (A : Ty) → WellFormed b → infer [] (opened b) ≡ Infer.found A → Fits (reported b l A)
+    steps : (A : Ty) → WellFormed b → infer [] (rootTerm b) ≡ Infer.found A → Fits (reported b l A)
     steps A f e =
-        let t = infer-says [] (opened b) A .0 e in
+        let t = infer-says [] (rootTerm b) A .0 e in
         let r = definition-runs b (zeros workLength) l y work-at-hand (typed-accepts b (f, (A, t))) in
         let z = sym (outcome b (zeros workLength) (reported b l) A work-at-hand f t) ∙ r .says in
         let n : valueOf (reported b l A .answer) ≡ r .steps = ap (λ (x : Result). valueOf (x .answer)) z in

@@ -3,7 +3,7 @@ use Prim.Native.Nat.{ℕ, _/_, _%_}
 use mathlib.Core.Path.{_≡_}
 use mathlib.Core.List.{List}
 use Rattle.answers.specs.Answer.{Result}
-use Rattle.report.specs.Numbers.{tagOf, valueOf, secondOf, tagPlace, secondPlace, packed}
+use Rattle.answers.specs.Exported.{tagOf, valueOf, secondOf, tagPlace, secondPlace, packed}
 
 -- The number r and the bytes v are those of the result x.
 pub record Packs (v : List ℕ) (r : ℕ) (x : Result) : Type 0 where

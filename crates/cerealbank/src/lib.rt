@@ -1,14 +1,14 @@
 // The engine for C and Rust: numbers and byte slices only. A slice is a pointer and then a length.
+use answers::Outcome;
+use answers::tag;
+use answers::value;
 use engine::check;
 use engine::run;
-use outcome::Outcome;
-use report::tag;
-use report::value;
 ghost use mathlib.Core.Path.{_≡_};
 ghost use Prim.Native.Nat.{_<_};
-ghost use Rattle.outcome.specs.Numbers.{answerOf};
+ghost use Rattle.answers.specs.Cases.{answerOf};
 ghost use Rattle.answers.specs.Definition.{definition};
-ghost use Rattle.report.specs.Numbers.{tagOf, valueOf, tagPlace, packed};
+ghost use Rattle.answers.specs.Exported.{tagOf, valueOf, tagPlace, packed};
 ghost use Rattle.cerealbank.specs.Packed.{Packs};
 
 // The tag in bits 32 to 39, its value in bits 0 to 31.

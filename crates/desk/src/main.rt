@@ -1,14 +1,14 @@
 // The desk program: a book on standard input, checked and run for at most 10,000 steps; the answers and the term reached on standard output.
-// Input past 65,536 bytes is not read: a book of that length is turned back as too long.
+// Input past 65,536 bytes is not read: a book of that length is refused as too long.
+use answers::Outcome;
+use answers::Refusal;
+use answers::Stop;
 use cells::Cell;
 use cells::read_cell;
 use engine::check;
 use engine::run;
 use libc::STDIN_FILENO;
 use libc::STDOUT_FILENO;
-use outcome::Outcome;
-use outcome::Refusal;
-use outcome::Stop;
 ghost use mathlib.Core.Path.{_≡_};
 ghost use lib.ListN.{length};
 
@@ -19,8 +19,8 @@ fn print_number(n: usize) {
 
 fn print_refusal(r: Refusal) {
     io::write_all(STDOUT_FILENO, b"refused");
-    print_number(report::row(r));
-    print_number(report::cell(r));
+    print_number(answers::row(r));
+    print_number(answers::cell(r));
     io::write_all(STDOUT_FILENO, b"\n");
 }
 

@@ -15,8 +15,8 @@ use Rattle.cells.specs.declared.Cell.{Cell as Struct}
 use Rattle.cells.specs.declared.Entry.{Entry}
 use Rattle.cells.specs.Held.{labelBy}
 use Rattle.emission.specs.Emits.{Space, Emits, LastReady, Finishes, referBy, RowReady}
-use Rattle.emission.specs.declared.Laid.{Laid}
-use Rattle.emission.specs.declared.Laid.the-variants.{Next, Full}
+use Rattle.emission.specs.declared.Emitted.{Emitted}
+use Rattle.emission.specs.declared.Emitted.the-variants.{Next, Full}
 use Rattle.emission.proofs.Compose.{Placed, placed, no-room, placed-raw, placed-space}
 use Rattle.emission.proofs.Compose.{Stands, s-unused, s-plain, s-refers, refer-stands, refer-ready, refer-fits}
 use Rattle.emission.proofs.Compose.{emits-node, too-big}
@@ -43,7 +43,7 @@ module _ {W : Type 0} where
 
 -- ---- the tree, to be emitted from cell m on
 
-abbrev pub Each : {W : Type 0} → (W → Tree) → List ℕ → List ℕ → ℕ → Laid → Type 0
+abbrev pub Each : {W : Type 0} → (W → Tree) → List ℕ → List ℕ → ℕ → Emitted → Type 0
 Each {W} t d e m r = (w : W) → Emits d e m r (t w)
 
 pub record Chain (W : Type 0) (N : W → Tree) (d : List ℕ) (m : ℕ) : Type 0 where
@@ -69,10 +69,10 @@ module _ {W : Type 0} {N : W → Tree} {d : List ℕ} {m : ℕ} (z : Chain W N d
     pub so-far : Second f x g y
     pub third : (w : W) → Placed g h y v (z .c .tree w)
 
-  pub first : {f : List ℕ} {x : ℕ} {r : Laid} → Each (z .a .tree) d f m r → r ≡ Next x → First f x
+  pub first : {f : List ℕ} {x : ℕ} {r : Emitted} → Each (z .a .tree) d f m r → r ≡ Next x → First f x
   first p q = record { first = λ w. placed (p w) q }
 
-  pub none-first : {e : List ℕ} {r : Laid} → Each (z .a .tree) d e m r → r ≡ Full → Each N d e m Full
+  pub none-first : {e : List ℕ} {r : Emitted} → Each (z .a .tree) d e m r → r ≡ Full → Each N d e m Full
   unfolding cells
   none-first p q w = rw (z .is w) (too-big (omega (arith, no-room (p w) q)))
 
@@ -103,13 +103,13 @@ module _ {W : Type 0} {N : W → Tree} {d : List ℕ} {m : ℕ} {z : Chain W N d
     pub second-space : Space f x
     second-space = placed-space (z .space) (k .first (z .own))
 
-    pub second : {g : List ℕ} {y : ℕ} {r : Laid} → Each (z .b .tree) f g x r → r ≡ Next y → Second z f x g y
+    pub second : {g : List ℕ} {y : ℕ} {r : Emitted} → Each (z .b .tree) f g x r → r ≡ Next y → Second z f x g y
     second p q = record { so-far = k; second = λ w. placed (p w) q }
 
     pub second-none : z .b ≡ of-none → Second z f x f x
     second-none e = record { so-far = k; second = λ w. rw e (placed-raw f x 0 (second-space .used)) }
 
-    pub none-second : {e : List ℕ} {r : Laid} → Each (z .b .tree) f e x r → r ≡ Full → Each N d e m Full
+    pub none-second : {e : List ℕ} {r : Emitted} → Each (z .b .tree) f e x r → r ≡ Full → Each N d e m Full
     unfolding cells
     none-second p q w = rw (z .is w) (too-big (omega (arith, k .first w .next, no-room (p w) q)))
 
@@ -117,13 +117,13 @@ module _ {W : Type 0} {N : W → Tree} {d : List ℕ} {m : ℕ} {z : Chain W N d
     pub third-space : Space g y
     third-space = placed-space (second-space (k .so-far)) (k .second (z .own))
 
-    pub third : {h : List ℕ} {v : ℕ} {r : Laid} → Each (z .c .tree) g h y r → r ≡ Next v → Third z f x g y h v
+    pub third : {h : List ℕ} {v : ℕ} {r : Emitted} → Each (z .c .tree) g h y r → r ≡ Next v → Third z f x g y h v
     third p q = record { so-far = k; third = λ w. placed (p w) q }
 
     pub third-none : z .c ≡ of-none → Third z f x g y g y
     third-none e = record { so-far = k; third = λ w. rw e (placed-raw g y 0 (third-space .used)) }
 
-    pub none-third : {e : List ℕ} {r : Laid} → Each (z .c .tree) g e y r → r ≡ Full → Each N d e m Full
+    pub none-third : {e : List ℕ} {r : Emitted} → Each (z .c .tree) g e y r → r ≡ Full → Each N d e m Full
     unfolding cells
     none-third p q w = rw (z .is w) (too-big (omega (arith, k .so-far .first w .next, k .second w .next, no-room (p w) q)))
 
@@ -147,7 +147,7 @@ module _ {W : Type 0} {N : W → Tree} {d : List ℕ} {m : ℕ} {z : Chain W N d
           };
         }
 
-    pub emitted : {e : List ℕ} {r : Laid} → Finishes h e v (asCell (lastOf z x y v)) r → Each N d e m r
+    pub emitted : {e : List ℕ} {r : Emitted} → Finishes h e v (asCell (lastOf z x y v)) r → Each N d e m r
     emitted l w =
         let p = k .so-far .so-far .first w in
         let q = k .so-far .second w in
@@ -156,7 +156,7 @@ module _ {W : Type 0} {N : W → Tree} {d : List ℕ} {m : ℕ} {z : Chain W N d
 
 -- ---- the same by the row y of the cell t; F says which trees a field stands for
 
-pub record Opened {I : Type 0} (F : I → Use → ℕ → Tree → Type 0) (t : Cell) (y : Entry) (p q : I) (x : Tree) : Type 0 where
+pub record FieldsOf {I : Type 0} (F : I → Use → ℕ → Tree → Type 0) (t : Cell) (y : Entry) (p q : I) (x : Tree) : Type 0 where
   pub a : Tree
   pub b : Tree
   pub c : Tree
@@ -167,7 +167,7 @@ pub record Opened {I : Type 0} (F : I → Use → ℕ → Tree → Type 0) (t : 
 
 module _ {I : Type 0} {F : I → Use → ℕ → Tree → Type 0} (stands : (i : I) (u : Use) (n : ℕ) (x : Tree) → F i u n x → Stands u n x)
     {t : Cell} {y : Entry} {W : Type 0} {p q : W → I} {N : W → Tree} {d : List ℕ} {m : ℕ} (l : (t .a < 65536) × (t .b < 65536) × (t .c < 65536))
-    (s : Space d m) (own : W) (o : (w : W) → Opened F t y (p w) (q w) (N w)) where
+    (s : Space d m) (own : W) (o : (w : W) → FieldsOf F t y (p w) (q w) (N w)) where
   abbrev pub row-chain : Chain W N d m
   row-chain =
       record {

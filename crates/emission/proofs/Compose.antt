@@ -10,17 +10,17 @@ use lib.Seq.{sets, length-sets}
 use Rattle.calculus.specs.Syntax.{unit}
 use Rattle.format.specs.Table.{Sort, Use, unused, plain, refers}
 use Rattle.format.specs.Cell.{Cell, cellBytes}
-use Rattle.format.specs.Tree.{Tree, raw, node, cells, refer, lay}
+use Rattle.format.specs.Tree.{Tree, raw, node, cells, refer, encode}
 use Rattle.format.specs.Terms.{fromTerm}
 use Rattle.format.specs.Book.{sizeLimit}
-use Rattle.format.proofs.Laying.{sets-append, length-lay}
+use Rattle.format.proofs.Encoding.{sets-append, length-encode}
 use Rattle.cells.specs.Coded.{useOf}
 use Rattle.cells.specs.declared.Cell.{Cell as Struct}
 use Rattle.cells.specs.declared.Entry.{Entry}
 use Rattle.cells.specs.Held.{labelBy}
 use Rattle.emission.specs.Emits.{Space, Emits, LastReady, Finishes, referBy, ReferReady, rowCell, RowReady}
-use Rattle.emission.specs.declared.Laid.{Laid}
-use Rattle.emission.specs.declared.Laid.the-variants.{Next, Full}
+use Rattle.emission.specs.declared.Emitted.{Emitted}
+use Rattle.emission.specs.declared.Emitted.the-variants.{Next, Full}
 
 pub behind : (x y l : List ℕ) {k : List ℕ} (i : ℕ) {j : ℕ} → k ≡ sets l i x → j ≡ i + length x → sets k j y ≡ sets l i (x ++ y)
 behind x y l i e f = rw (e, f) (sym (sets-append x y l i))
@@ -29,14 +29,14 @@ behind x y l i e f = rw (e, f) (sym (sets-append x y l i))
 pub record Placed (d e : List ℕ) (m x : ℕ) (t : Tree) : Type 0 where
   pub fits : x ≤ sizeLimit
   pub next : x ≡ m + cells t
-  pub bytes : e ≡ sets d (8 * m) (lay m t)
+  pub bytes : e ≡ sets d (8 * m) (encode m t)
 
 -- ---- what an answer says of the tree
 
-pub next-full : {r : Laid} {x : ℕ} → r ≡ Next x → r ≡ Full → ⊥
+pub next-full : {r : Emitted} {x : ℕ} → r ≡ Next x → r ≡ Full → ⊥
 next-full p q = let z : _≡_ {A = ℕ} 0 1 = cc in absurd (omega arith)
 
-pub placed : {d e : List ℕ} {m x : ℕ} {r : Laid} {t : Tree} → Emits d e m r t → r ≡ Next x → Placed d e m x t
+pub placed : {d e : List ℕ} {m x : ℕ} {r : Emitted} {t : Tree} → Emits d e m r t → r ≡ Next x → Placed d e m x t
 placed {m = m} {x} {r} {t} p q =
     elim (decLt sizeLimit (m + cells t)) [
       | yes h ↦ absurd (next-full q (p .full h))
@@ -46,13 +46,13 @@ placed {m = m} {x} {r} {t} p q =
           record { fits = omega (arith, h); next = n; bytes = f .1 }
     ]
 
-pub no-room : {d e : List ℕ} {m : ℕ} {r : Laid} {t : Tree} → Emits d e m r t → r ≡ Full → sizeLimit < m + cells t
+pub no-room : {d e : List ℕ} {m : ℕ} {r : Emitted} {t : Tree} → Emits d e m r t → r ≡ Full → sizeLimit < m + cells t
 no-room {m = m} {t = t} p q =
     elim (decLt sizeLimit (m + cells t)) [ yes h ↦ h | no h ↦ absurd (next-full (p .fits (omega (arith, h)) .0) q) ]
 
 -- a field that refers to nothing takes no cell
 pub placed-raw : (d : List ℕ) (m v : ℕ) → m ≤ sizeLimit → Placed d d m m (raw v)
-unfolding cells lay
+unfolding cells encode
 placed-raw d m v h = record { fits = h; next = omega arith; bytes = refl }
 
 pub emits-placed : {d e : List ℕ} {m x : ℕ} {t : Tree} → Placed d e m x t → Emits d e m (Next x) t
@@ -62,7 +62,7 @@ pub emits-raw : (d : List ℕ) (m v : ℕ) → m ≤ sizeLimit → Emits d d m (
 emits-raw d m v h = emits-placed (placed-raw d m v h)
 
 pub placed-length : {d e : List ℕ} {m x : ℕ} {t : Tree} → Placed d e m x t → length e ≡ length d
-placed-length {d} {m = m} {t = t} p = ap length (p .bytes) ∙ length-sets d (8 * m) (lay m t)
+placed-length {d} {m = m} {t = t} p = ap length (p .bytes) ∙ length-sets d (8 * m) (encode m t)
 
 pub placed-space : {d e : List ℕ} {m x : ℕ} {t : Tree} → Space d m → Placed d e m x t → Space e x
 placed-space s p = record { long = omega (arith, placed-length p, s .long); used = p .fits }
@@ -115,7 +115,7 @@ label-kept (suc (suc zero)) l n = refl
 label-kept (suc (suc (suc u))) l n = refl
 
 -- the last cell by its row, from the parts that are computed for it
-pub row-finished : (t : Cell) (y : Entry) (x v w : ℕ) {d e : List ℕ} {l a b c : ℕ} {r : Laid} → l ≡ labelBy (useOf (y .label)) (t .label)
+pub row-finished : (t : Cell) (y : Entry) (x v w : ℕ) {d e : List ℕ} {l a b c : ℕ} {r : Emitted} → l ≡ labelBy (useOf (y .label)) (t .label)
     → a ≡ referBy (useOf (y .a)) (t .a) x → b ≡ referBy (useOf (y .b)) (t .b) v → c ≡ referBy (useOf (y .c)) (t .c) w
     → Finishes d e w (record { kind = t .kind; label = l; a = a; b = b; c = c }) r → Finishes d e w (rowCell t y x v w) r
 row-finished t y x v w el ea eb ec z = rw (el, ea, eb, ec) at z
@@ -135,10 +135,10 @@ row-last t y x v w p ea eb ec =
 -- ---- composition
 
 -- Three trees one after the other, and the cell that refers to them.
-pub emits-node : {d f g h e : List ℕ} {m x y z k l i j n : ℕ} {r : Laid} {a b c : Tree}
+pub emits-node : {d f g h e : List ℕ} {m x y z k l i j n : ℕ} {r : Emitted} {a b c : Tree}
     → Placed d f m x a → Placed f g x y b → Placed g h y z c → i ≡ refer m a → j ≡ refer x b → n ≡ refer y c
     → Finishes h e z (record { kind = k; label = l; a = i; b = j; c = n }) r → Emits d e m r (node k l a b c)
-unfolding cells refer lay
+unfolding cells refer encode
 emits-node {d} {f} {g} {h} {e} {m} {x} {y} {z} {k} {l} {i} {j} {n} {r} {a} {b} {c} p q o u v w s =
     record {
       fits = λ t. let s′ = s .fits (omega (arith, p .next, q .next, o .next)) in
@@ -149,12 +149,12 @@ emits-node {d} {f} {g} {h} {e} {m} {x} {y} {z} {k} {l} {i} {j} {n} {r} {a} {b} {
     last : List ℕ
     last = cellBytes (record { kind = k; label = l; a = i; b = j; c = n })
 
-    bytes : e ≡ sets h (8 * z) last → e ≡ sets d (8 * m) (lay m (node k l a b c))
+    bytes : e ≡ sets h (8 * z) last → e ≡ sets d (8 * m) (encode m (node k l a b c))
     bytes t =
         t
-        ∙ behind (lay y c) last g (8 * y) (o .bytes) (omega (arith, o .next, length-lay y c))
-        ∙ behind (lay x b) (lay y c ++ last) f (8 * x) (q .bytes) (omega (arith, q .next, length-lay x b))
-        ∙ behind (lay m a) (lay x b ++ (lay y c ++ last)) d (8 * m) (p .bytes) (omega (arith, p .next, length-lay m a))
+        ∙ behind (encode y c) last g (8 * y) (o .bytes) (omega (arith, o .next, length-encode y c))
+        ∙ behind (encode x b) (encode y c ++ last) f (8 * x) (q .bytes) (omega (arith, q .next, length-encode x b))
+        ∙ behind (encode m a) (encode x b ++ (encode y c ++ last)) d (8 * m) (p .bytes) (omega (arith, p .next, length-encode m a))
         ∙ rw (u, v, w, q .next, p .next)
 
 -- A tree that does not fit.
@@ -162,12 +162,12 @@ pub too-big : {d e : List ℕ} {m : ℕ} {t : Tree} → sizeLimit < m + cells t 
 too-big h = record { fits = λ f. absurd (omega arith); full = λ f. refl }
 
 -- a tree of one cell; the top value
-pub emits-leaf : {d e : List ℕ} {m k l i j n : ℕ} {r : Laid} → m ≤ sizeLimit
+pub emits-leaf : {d e : List ℕ} {m k l i j n : ℕ} {r : Emitted} → m ≤ sizeLimit
     → Finishes d e m (record { kind = k; label = l; a = i; b = j; c = n }) r → Emits d e m r (node k l (raw i) (raw j) (raw n))
 unfolding refer
 emits-leaf h f = emits-node (placed-raw _ _ _ h) (placed-raw _ _ _ h) (placed-raw _ _ _ h) refl refl refl f
 
-pub emits-top : {d e : List ℕ} {m : ℕ} {r : Laid} → m ≤ sizeLimit → Finishes d e m (record { kind = 18; label = 0; a = 0; b = 0; c = 0 }) r
+pub emits-top : {d e : List ℕ} {m : ℕ} {r : Emitted} → m ≤ sizeLimit → Finishes d e m (record { kind = 18; label = 0; a = 0; b = 0; c = 0 }) r
     → Emits d e m r (fromTerm unit)
 unfolding fromTerm
 emits-top h f = emits-leaf h f

@@ -1,4 +1,4 @@
--- A run copied cell by cell is its tree laid down anew; down by field a a run begins. Over kind and field. Assumes nothing.
+-- A run copied cell by cell is its tree encoded anew; down by field a a run begins. Over kind and field. Assumes nothing.
 use Prim.Native.Nat.{ℕ, zero, suc, _+_, _*_, _-_, _≤_, _<_}
 use native.Mathlib.Decide.{decLt}
 use native.Mathlib.Nat.{add-zero}
@@ -12,7 +12,7 @@ use lib.ListN.{length, length-append}
 use lib.Seq.{sets, length-sets}
 use Rattle.format.specs.Table.{Sort, Use, unused, plain, refers, Row, rowOf, table}
 use Rattle.format.specs.Cell.{Cell, cellAt, cellBytes}
-use Rattle.format.specs.Tree.{Tree, cells, refer, lay}
+use Rattle.format.specs.Tree.{Tree, cells, refer, encode}
 use Rattle.format.specs.Book.{sizeLimit}
 use Rattle.format.proofs.Tests.{All, _also_, view}
 use Rattle.cells.specs.Coded.{CellFits, useOf}
@@ -21,9 +21,9 @@ use Rattle.cells.specs.declared.Entry.{Entry}
 use Rattle.cells.specs.Held.{labelBy}
 use Rattle.emission.specs.Emits.{Space, Emits}
 use Rattle.emission.specs.Runs.{Run, r-unused, r-plain, r-refers}
-use Rattle.emission.specs.Copies.{renumber, Inside, RenumberReady, movedCell, OfRun, MoveReady, MovesCell, RunReady, EmitsRun, EndsAt, BeginReady, Begins, EndReady, EmitsEnd}
-use Rattle.emission.specs.declared.Laid.{Laid}
-use Rattle.emission.specs.declared.Laid.the-variants.{Next, Full}
+use Rattle.emission.specs.Copies.{renumber, Inside, RenumberReady, movedCell, CellOfRun, MoveReady, MovesCell, RunReady, EmitsRun, EndsAt, StartReady, StartsAt, EndReady, EmitsEnd}
+use Rattle.emission.specs.declared.Emitted.{Emitted}
+use Rattle.emission.specs.declared.Emitted.the-variants.{Next, Full}
 use Rattle.emission.proofs.Compose.{behind}
 use Rattle.cells.proofs.Rows.{Uses, uses}
 use Rattle.emission.proofs.Emitting.{Read, read-fits}
@@ -142,8 +142,8 @@ module _ (s : List ℕ) (v w : ℕ) where
   renumbered j k l (r-refers p o m f g h z _) = omega (arith, counts f, counts g, counts h)
 
   -- a run from x on, copied from g on
-  copies : (g : ℕ) {q : Bool} {x n e : ℕ} {u : Use} {t : Tree} → x + w ≡ g + v → v ≤ x → Run q s x u n t e → copied s v w x (cells t) ≡ lay g t
-  unfolding copied one movedBy cells lay
+  copies : (g : ℕ) {q : Bool} {x n e : ℕ} {u : Use} {t : Tree} → x + w ≡ g + v → v ≤ x → Run q s x u n t e → copied s v w x (cells t) ≡ encode g t
+  unfolding copied one movedBy cells encode
   copies n k l r-unused = refl
   copies n k l r-plain = refl
   copies n {x = x} k l (r-refers {y = y} {z = z} {f = f} {g = g} {h = h} p o m ra rb rc _ _) =
@@ -168,7 +168,7 @@ inside a b r-unused = Prim.tt
 inside a b r-plain = Prim.tt
 inside a b (r-refers p k m f g h z _) = (omega (arith, a, grows f, grows g, grows h), omega (arith, b, z))
 
-of-run : {q : Bool} {s : List ℕ} {x n e v : ℕ} {u : Use} {t : Tree} → v ≤ x → Run q s x u n t e → (i : ℕ) → x ≤ i → i < e → OfRun s v i
+of-run : {q : Bool} {s : List ℕ} {x n e v : ℕ} {u : Use} {t : Tree} → v ≤ x → Run q s x u n t e → (i : ℕ) → x ≤ i → i < e → CellOfRun s v i
 of-run a r-unused i j l = absurd (omega (arith, j, l))
 of-run a r-plain i j l = absurd (omega (arith, j, l))
 of-run {s = s} {v = v} a (r-refers {y = y} {z = z} {i = w} {r = r} p k m f g h e d) i j l =
@@ -185,7 +185,7 @@ of-run {s = s} {v = v} a (r-refers {y = y} {z = z} {i = w} {r = r} p k m f g h e
           ]
     ]
   where
-    root : OfRun s v w
+    root : CellOfRun s v w
     root =
         record {
           within = p .within;
@@ -323,8 +323,8 @@ module _ {q : Bool} {s : List ℕ} {x i : ℕ} (r : EndsAt q s x i) where
       go (r-refers p k m f g h z _) = p .within
 
   module _ {t : Cell} {y : Entry} (j : Read s i t y) where
-    pub begins-here : y .a < 2 → i ≡ x
-    begins-here l = go (r .run)
+    pub starts-here : y .a < 2 → i ≡ x
+    starts-here l = go (r .run)
       where
         go : {e : ℕ} {o : Sort} {f : Tree} → Run q s x (refers o) i f e → i ≡ x
         go (r-refers {k = k} {r = v} p o m f g h z _) =
@@ -344,7 +344,7 @@ module _ {q : Bool} {s : List ℕ} {x i : ℕ} (r : EndsAt q s x i) where
             let n = referred (y .a) l (rw (u .a) at f) in
             rw is (n .0, omega (arith, n .1, grows g, grows h))
 
--- ---- the loop of `begin_of`
+-- ---- the loop of `start_of`
 
 -- Where a run ends at at, one that begins there too ends at i.
 pub record Follows (s : List ℕ) (at i : ℕ) : Type 0 where
@@ -355,33 +355,33 @@ follows-none s at = record { says = λ q x r. r }
 
 -- t is cell i as it was read, y its row
 pub record Following (s : List ℕ) (at i : ℕ) (t : Cell) (y : Entry) : Type 0 where
-  pub ready : BeginReady s at
+  pub ready : StartReady s at
   pub follows : Follows s at i
   pub read : Read s i t y
 
-own-end : {s : List ℕ} {at i : ℕ} (p : BeginReady s at) → Follows s at i → EndsAt (p .marked) s (p .begin) i
-own-end p f = f .says (p .marked) (p .begin) (p .ends)
+own-end : {s : List ℕ} {at i : ℕ} (p : StartReady s at) → Follows s at i → EndsAt (p .marked) s (p .start) i
+own-end p f = f .says (p .marked) (p .start) (p .ends)
 
-pub follows-within : {s : List ℕ} {at i : ℕ} → BeginReady s at → Follows s at i → 8 * i + 8 ≤ length s
+pub follows-within : {s : List ℕ} {at i : ℕ} → StartReady s at → Follows s at i → 8 * i + 8 ≤ length s
 follows-within p f = ends-within (own-end p f)
 
 module _ {s : List ℕ} {at i : ℕ} {t : Cell} {y : Entry} (j : Following s at i t y) where
-  pub begun : y .a < 2 → Begins s at i
-  begun l = record { says = λ q x r. begins-here (j .follows .says q x r) (j .read) l }
+  pub started : y .a < 2 → StartsAt s at i
+  started l = record { says = λ q x r. starts-here (j .follows .says q x r) (j .read) l }
 
   pub goes-down : 2 ≤ y .a → Follows s at (t .a) × (t .a < i)
   goes-down l = (record { says = λ q x r. down (j .follows .says q x r) (j .read) l .0 }, down (own-end (j .ready) (j .follows)) (j .read) l .1)
 
 -- ---- `emit_run_to`: the run begins at b
 
-module _ {s d : List ℕ} {at m b : ℕ} (p : EndReady s d at m) (q : Begins s at b) where
+module _ {s d : List ℕ} {at m b : ℕ} (p : EndReady s d at m) (q : StartsAt s at b) where
   pub last-within : 8 * at + 8 ≤ length s
   last-within = ends-within (p .from .ends)
 
   pub end-ready : RunReady s d b (at + 1) m
   end-ready =
       let r = p .from .ends in
-      let e : b ≡ p .from .begin = q .says (p .from .marked) (p .from .begin) r in
+      let e : b ≡ p .from .start = q .says (p .from .marked) (p .from .start) r in
       record {
         space = p .space;
         marked = p .from .marked;
@@ -391,7 +391,7 @@ module _ {s d : List ℕ} {at m b : ℕ} (p : EndReady s d at m) (q : Begins s a
         run = rw (e, add-one) (r .run);
       }
 
-  pub end-emits : {e : List ℕ} {l : Laid} → EmitsRun s d e b (at + 1) m l → EmitsEnd s d e at m l
+  pub end-emits : {e : List ℕ} {l : Emitted} → EmitsRun s d e b (at + 1) m l → EmitsEnd s d e at m l
   end-emits w =
       record {
         says = λ k o x t r.
@@ -404,17 +404,17 @@ module _ {s : List ℕ} {x i : ℕ} {o : Sort} {t : Tree} (r : Run true s x (ref
   ends-run : EndsAt true s x i
   ends-run = record { sort = o; tree = t; run = r }
 
-  pub begin-ready : BeginReady s i
-  begin-ready = record { marked = true; begin = x; ends = ends-run }
+  pub start-ready : StartReady s i
+  start-ready = record { marked = true; start = x; ends = ends-run }
 
-  pub begin-is : {b : ℕ} → Begins s i b → b ≡ x
-  begin-is n = n .says true x ends-run
+  pub start-is : {b : ℕ} → StartsAt s i b → b ≡ x
+  start-is n = n .says true x ends-run
 
   pub end-within : 8 * i + 8 ≤ length s
   end-within = ends-within ends-run
 
   pub run-ready : {d : List ℕ} {m : ℕ} → Space d m → EndReady s d i m
-  run-ready p = record { space = p; from = begin-ready }
+  run-ready p = record { space = p; from = start-ready }
 
-  pub run-emits : {d e : List ℕ} {m : ℕ} {l : Laid} → EmitsEnd s d e i m l → Emits d e m l t
+  pub run-emits : {d e : List ℕ} {m : ℕ} {l : Emitted} → EmitsEnd s d e i m l → Emits d e m l t
   run-emits w = w .says true o x t r

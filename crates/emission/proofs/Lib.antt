@@ -4,6 +4,6 @@ pub mod Fields
 pub mod Ends
 pub mod Emitting
 pub mod Runs
-pub mod LaidRuns
+pub mod EncodedRuns
 pub mod RunParts
 pub mod Copies

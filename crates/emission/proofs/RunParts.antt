@@ -26,10 +26,10 @@ pub whole : {q : Bool} {s : List ℕ} {x n e : ℕ} {o : Sort} {t : Tree} → Ru
 whole r = rw (ends r) at r
 
 pub runs-type : {s : List ℕ} {x n e : ℕ} {A : Ty} → Run true s x (refers type-sort) n (fromType A) e → RunsType s n A
-runs-type {x = x} r = record { begin = x; run = whole r }
+runs-type {x = x} r = record { start = x; run = whole r }
 
 pub runs-term : {s : List ℕ} {x n e : ℕ} {t : Term} → TermFits t → Run true s x (refers term-sort) n (fromTerm t) e → RunsTerm s n t
-runs-term {x = x} f r = record { begin = x; run = whole r; fits = f }
+runs-term {x = x} f r = record { start = x; run = whole r; fits = f }
 
 -- the fields of the cell i
 record Fields (s : List ℕ) (x i : ℕ) (f g h : Tree) (r : Row) : Type 0 where

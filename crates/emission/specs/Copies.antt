@@ -13,7 +13,7 @@ use Rattle.format.specs.Book.{sizeLimit}
 use Rattle.cells.specs.Held.{labelBy}
 use Rattle.emission.specs.Emits.{Space, Emits}
 use Rattle.emission.specs.Runs.{Run}
-use Rattle.emission.specs.declared.Laid.{Laid}
+use Rattle.emission.specs.declared.Emitted.{Emitted}
 
 -- A field of number n, of a run that goes from cell x to cell m: 0 if unused, its number if plain, else a reference that goes with the run.
 abbrev pub renumber : Use → ℕ → ℕ → ℕ → ℕ
@@ -44,7 +44,7 @@ movedCell t r x m =
     }
 
 -- A cell i of a run that begins at x.
-pub record OfRun (s : List ℕ) (x i : ℕ) : Type 0 where
+pub record CellOfRun (s : List ℕ) (x i : ℕ) : Type 0 where
   pub within : 8 * i + 8 ≤ length s
   pub after : x ≤ i
   pub row : Row
@@ -57,7 +57,7 @@ pub record OfRun (s : List ℕ) (x i : ℕ) : Type 0 where
 pub record MoveReady (s d : List ℕ) (i x m : ℕ) : Type 0 where
   pub long : 32768 ≤ length d
   pub room : i - x + m < sizeLimit
-  pub cell : OfRun s x i
+  pub cell : CellOfRun s x i
 
 -- The cell stands where the run goes; all other bytes are as they were.
 pub record MovesCell (s d e : List ℕ) (i x m : ℕ) : Type 0 where
@@ -73,7 +73,7 @@ pub record RunReady (s d : List ℕ) (x end m : ℕ) : Type 0 where
   pub run : Run marked s x (refers sort) last tree end
 
 -- The tree of the run is emitted.
-pub record EmitsRun (s d e : List ℕ) (x end m : ℕ) (r : Laid) : Type 0 where
+pub record EmitsRun (s d e : List ℕ) (x end m : ℕ) (r : Emitted) : Type 0 where
   pub says : (q : Bool) (o : Sort) (n : ℕ) (t : Tree) → Run q s x (refers o) n t end → Emits d e m r t
 
 -- A run that begins at x and ends with the cell i.
@@ -83,20 +83,20 @@ pub record EndsAt (q : Bool) (s : List ℕ) (x i : ℕ) : Type 0 where
   pub run : Run q s x (refers sort) i tree (suc i)
 
 -- Some run ends with the cell i;
-pub record BeginReady (s : List ℕ) (i : ℕ) : Type 0 where
+pub record StartReady (s : List ℕ) (i : ℕ) : Type 0 where
   pub marked : Bool
-  pub begin : ℕ
-  pub ends : EndsAt marked s begin i
+  pub start : ℕ
+  pub ends : EndsAt marked s start i
 
 -- r is the cell that it begins at.
-pub record Begins (s : List ℕ) (i r : ℕ) : Type 0 where
+pub record StartsAt (s : List ℕ) (i r : ℕ) : Type 0 where
   pub says : (q : Bool) (x : ℕ) → EndsAt q s x i → r ≡ x
 
 -- A run that ends with the cell i, and a buffer to emit it into.
 pub record EndReady (s d : List ℕ) (i m : ℕ) : Type 0 where
   pub space : Space d m
-  pub from : BeginReady s i
+  pub from : StartReady s i
 
 -- The tree of that run is emitted.
-pub record EmitsEnd (s d e : List ℕ) (i m : ℕ) (r : Laid) : Type 0 where
+pub record EmitsEnd (s d e : List ℕ) (i m : ℕ) (r : Emitted) : Type 0 where
   pub says : (q : Bool) (o : Sort) (x : ℕ) (t : Tree) → Run q s x (refers o) i t (suc i) → Emits d e m r t

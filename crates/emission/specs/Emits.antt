@@ -9,14 +9,14 @@ use lib.Seq.{sets}
 use Rattle.format.specs.Table.{Use, unused, plain, refers}
 use Rattle.format.specs.Cell as Format
 use Rattle.format.specs.Cell.{cellBytes}
-use Rattle.format.specs.Tree.{Tree, cells, lay}
+use Rattle.format.specs.Tree.{Tree, cells, encode}
 use Rattle.format.specs.Book.{sizeLimit}
 use Rattle.cells.specs.Held.{labelBy, HeldField}
 use Rattle.cells.specs.Coded.{CellFits, useOf}
 use Rattle.cells.specs.declared.Cell.{Cell}
 use Rattle.cells.specs.declared.Entry.{Entry}
-use Rattle.emission.specs.declared.Laid.{Laid}
-use Rattle.emission.specs.declared.Laid.the-variants.{Next, Full}
+use Rattle.emission.specs.declared.Emitted.{Emitted}
+use Rattle.emission.specs.declared.Emitted.the-variants.{Next, Full}
 
 -- A buffer to emit into, of which m cells are used.
 pub record Space (d : List ℕ) (m : ℕ) : Type 0 where
@@ -25,21 +25,21 @@ pub record Space (d : List ℕ) (m : ℕ) : Type 0 where
 
 -- The tree stands in the buffer from cell m on, and the answer is the next free cell; or it would pass 4,095 cells. In that case nothing
 -- is decided of the bytes left.
-pub record Emits (d e : List ℕ) (m : ℕ) (r : Laid) (t : Tree) : Type 0 where
-  pub fits : m + cells t ≤ sizeLimit → (r ≡ Next (m + cells t)) × (e ≡ sets d (8 * m) (lay m t))
+pub record Emits (d e : List ℕ) (m : ℕ) (r : Emitted) (t : Tree) : Type 0 where
+  pub fits : m + cells t ≤ sizeLimit → (r ≡ Next (m + cells t)) × (e ≡ sets d (8 * m) (encode m t))
   pub full : sizeLimit < m + cells t → r ≡ Full
 
 -- No room, or the next free cell.
-abbrev pickLaid : Bool → ℕ → Laid
-pickLaid true n = Full
-pickLaid false n = Next n
+abbrev pickEmitted : Bool → ℕ → Emitted
+pickEmitted true n = Full
+pickEmitted false n = Next n
 
 -- An answer as a number: 4,096 for no room, else the next free cell.
-abbrev pub laidOf : ℕ → Laid
-laidOf n = pickLaid (eqb n 4096) n
+abbrev pub emittedOf : ℕ → Emitted
+emittedOf n = pickEmitted (eqb n 4096) n
 
 -- The next free cell is within the limit.
-pub record Within (r : Laid) : Type 0 where
+pub record EndsWithin (r : Emitted) : Type 0 where
   pub says : (x : ℕ) → r ≡ Next x → x ≤ sizeLimit
 
 -- A cell to be written, and a buffer for it.
@@ -48,7 +48,7 @@ pub record LastReady (d : List ℕ) (t : Cell) : Type 0 where
   pub fits : CellFits t
 
 -- The cell stands at m, and the answer is the next free cell; or 4,095 cells stand already. In that case nothing is decided of the bytes.
-pub record Finishes (d e : List ℕ) (m : ℕ) (t : Format.Cell) (r : Laid) : Type 0 where
+pub record Finishes (d e : List ℕ) (m : ℕ) (t : Format.Cell) (r : Emitted) : Type 0 where
   pub fits : m < sizeLimit → (r ≡ Next (m + 1)) × (e ≡ sets d (8 * m) (cellBytes t))
   pub full : sizeLimit ≤ m → r ≡ Full
 
@@ -90,5 +90,5 @@ pub record FieldReady (s d : List ℕ) (u x m : ℕ) : Type 0 where
   pub holds : HeldField false s cell (useOf u) x tree
 
 -- The tree that the field holds, emitted.
-pub record EmitsField (s d e : List ℕ) (u x m : ℕ) (r : Laid) : Type 0 where
+pub record EmitsField (s d e : List ℕ) (u x m : ℕ) (r : Emitted) : Type 0 where
   pub says : (n : ℕ) (t : Tree) → HeldField false s n (useOf u) x t → Emits d e m r t

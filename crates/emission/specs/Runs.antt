@@ -1,4 +1,4 @@
--- Runs of cells: a tree that stands in a buffer as it is laid down, children first and root last. Assumes nothing.
+-- Runs of cells: a tree that stands in a buffer as it is encoded, children first and root last. Assumes nothing.
 use Prim.Native.Nat.{ℕ, suc}
 use mathlib.Core.Path.{_≡_}
 use mathlib.Core.Bool.{Bool, true}
@@ -21,11 +21,11 @@ pub data Run (q : Bool) (s : List ℕ) : ℕ → Use → ℕ → Tree → ℕ �
 
 -- Cell i ends a run of the type, its types marked.
 pub record RunsType (s : List ℕ) (i : ℕ) (A : Ty) : Type 0 where
-  pub begin : ℕ
-  pub run : Run true s begin (refers type-sort) i (fromType A) (suc i)
+  pub start : ℕ
+  pub run : Run true s start (refers type-sort) i (fromType A) (suc i)
 
 -- Cell i ends a run of the term, its types marked.
 pub record RunsTerm (s : List ℕ) (i : ℕ) (e : Term) : Type 0 where
-  pub begin : ℕ
-  pub run : Run true s begin (refers term-sort) i (fromTerm e) (suc i)
+  pub start : ℕ
+  pub run : Run true s start (refers term-sort) i (fromTerm e) (suc i)
   pub fits : TermFits e

@@ -9,52 +9,52 @@ ghost use mathlib.Core.Path.{_≡_};
 ghost use Rattle.calculus.specs.Syntax.{unit};
 ghost use Rattle.format.specs.Terms.{fromTerm};
 ghost use Rattle.cells.specs.Coded.{asCell, useOf};
-ghost use Rattle.emission.specs.Copies.{RenumberReady, renumber as renumberBy, MoveReady, MovesCell, RunReady, EmitsRun, BeginReady, Begins, EndReady, EmitsEnd};
+ghost use Rattle.emission.specs.Copies.{RenumberReady, renumber as renumberBy, MoveReady, MovesCell, RunReady, EmitsRun, StartReady, StartsAt, EndReady, EmitsEnd};
 ghost use Rattle.cells.specs.Held.{labelBy};
-ghost use Rattle.emission.specs.Emits.{Space, Emits, laidOf, Within, LastReady, Finishes, ReferReady, referBy, RowReady, rowCell, FieldReady, EmitsField};
+ghost use Rattle.emission.specs.Emits.{Space, Emits, emittedOf, EndsWithin, LastReady, Finishes, ReferReady, referBy, RowReady, rowCell, FieldReady, EmitsField};
 
 // The next free cell, or no room.
-pub enum Laid {
+pub enum Emitted {
     Next(usize),
     Full,
 }
 
 // An answer as a number: 4,096 for no room.
-pub fn end_of(r: Laid) -> usize
-    requires { ⌜ Within r ⌝ }
-    ensures { λ n. ⌜ laidOf n ≡ r ⌝ }
+pub fn end_of(r: Emitted) -> usize
+    requires { ⌜ EndsWithin r ⌝ }
+    ensures { λ n. ⌜ emittedOf n ≡ r ⌝ }
 {
     match r {
-        Laid::Next(x) => x,
-        Laid::Full => 4096,
+        Emitted::Next(x) => x,
+        Emitted::Full => 4096,
     }
 }
 
 // And back.
-pub fn answer_at(n: usize) -> Laid
-    ensures { λ r. ⌜ r ≡ laidOf n ⌝ }
+pub fn answer_at(n: usize) -> Emitted
+    ensures { λ r. ⌜ r ≡ emittedOf n ⌝ }
 {
     if n == 4096 {
-        return Laid::Full;
+        return Emitted::Full;
     }
-    Laid::Next(n)
+    Emitted::Next(n)
 }
 
 // The last cell of a tree, where there is room for it.
-pub fn finish(d: &mut [u8], m: usize, t: Cell) -> Laid
+pub fn finish(d: &mut [u8], m: usize, t: Cell) -> Emitted
     requires { ⌜ LastReady (now d) t ⌝ }
     ensures { λ r. ⌜ Finishes (now (d .entry)) (now (d .exit)) m (asCell t) r ⌝ }
 {
     if m < 4095 {
         write_cell(d, m, t);
-        Laid::Next(m + 1)
+        Emitted::Next(m + 1)
     } else {
-        Laid::Full
+        Emitted::Full
     }
 }
 
 // The top value, where there is room for it.
-pub fn finish_top(d: &mut [u8], m: usize) -> Laid
+pub fn finish_top(d: &mut [u8], m: usize) -> Emitted
     requires { ⌜ Space (now d) m ⌝ }
     ensures { λ r. ⌜ Emits (now (d .entry)) (now (d .exit)) m r (fromTerm unit) ⌝ }
 {
@@ -93,7 +93,7 @@ fn label_by(u: u8, label: u8) -> u8
 }
 
 // The last cell of a tree, by the row e of its kind: its fields' trees end before the cells x, y and z.
-pub fn finish_row(d: &mut [u8], t: Cell, e: Entry, x: usize, y: usize, z: usize) -> Laid
+pub fn finish_row(d: &mut [u8], t: Cell, e: Entry, x: usize, y: usize, z: usize) -> Emitted
     requires { ⌜ RowReady (now d) (asCell t) e x y z ⌝ }
     ensures { λ r. ⌜ Finishes (now (d .entry)) (now (d .exit)) z (rowCell (asCell t) e x y z) r ⌝ }
 {
@@ -112,7 +112,7 @@ pub fn finish_row(d: &mut [u8], t: Cell, e: Entry, x: usize, y: usize, z: usize)
 }
 
 // The tree of a field: no cell for an unused or a plain one.
-pub fn emit_field(s: &[u8], d: &mut [u8], u: u8, x: usize, m: usize) -> Laid
+pub fn emit_field(s: &[u8], d: &mut [u8], u: u8, x: usize, m: usize) -> Emitted
     requires { ⌜ FieldReady (now s) (now d) u x m ⌝ }
     ensures { λ r. ⌜ EmitsField (now (s .entry)) (now (d .entry)) (now (d .exit)) u x m r ⌝ }
 {
@@ -123,7 +123,7 @@ pub fn emit_field(s: &[u8], d: &mut [u8], u: u8, x: usize, m: usize) -> Laid
 // The same; the answer is a number, which takes less stack at each level.
 fn emit_child(s: &[u8], d: &mut [u8], u: u8, x: usize, m: usize) -> usize
     requires { ⌜ FieldReady (now s) (now d) u x m ⌝ }
-    ensures { λ r. ⌜ EmitsField (now (s .entry)) (now (d .entry)) (now (d .exit)) u x m (laidOf r) ⌝ }
+    ensures { λ r. ⌜ EmitsField (now (s .entry)) (now (d .entry)) (now (d .exit)) u x m (emittedOf r) ⌝ }
 {
     if u < 2 {
         return m;
@@ -133,7 +133,7 @@ fn emit_child(s: &[u8], d: &mut [u8], u: u8, x: usize, m: usize) -> usize
 
 fn emit_tree(s: &[u8], d: &mut [u8], i: usize, m: usize) -> usize
     requires { ⌜ FieldReady (now s) (now d) 3 i m ⌝ }
-    ensures { λ r. ⌜ EmitsField (now (s .entry)) (now (d .entry)) (now (d .exit)) 3 i m (laidOf r) ⌝ }
+    ensures { λ r. ⌜ EmitsField (now (s .entry)) (now (d .entry)) (now (d .exit)) 3 i m (emittedOf r) ⌝ }
 {
     let t = read_cell(s, i);
     let e = entry_of(t.kind);
@@ -189,25 +189,25 @@ fn move_cell(s: &[u8], d: &mut [u8], i: usize, x: usize, m: usize)
 }
 
 // The cells of a run from x on, before end, emitted from m on.
-pub fn emit_run(s: &[u8], d: &mut [u8], x: usize, end: usize, m: usize) -> Laid
+pub fn emit_run(s: &[u8], d: &mut [u8], x: usize, end: usize, m: usize) -> Emitted
     requires { ⌜ RunReady (now s) (now d) x end m ⌝ }
     ensures { λ r. ⌜ EmitsRun (now (s .entry)) (now (d .entry)) (now (d .exit)) x end m r ⌝ }
 {
     if 4095 - m < end - x {
-        return Laid::Full;
+        return Emitted::Full;
     }
     let mut i = x;
     while i < end {
         move_cell(s, d, i, x, m);
         i += 1;
     }
-    Laid::Next(m + (end - x))
+    Emitted::Next(m + (end - x))
 }
 
 // Where the run begins that ends with the cell at: down by field a, as long as that is a reference.
-pub fn begin_of(s: &[u8], at: usize) -> usize
-    requires { ⌜ BeginReady (now s) at ⌝ }
-    ensures { λ r. ⌜ Begins (now (s .entry)) at r ⌝ }
+pub fn start_of(s: &[u8], at: usize) -> usize
+    requires { ⌜ StartReady (now s) at ⌝ }
+    ensures { λ r. ⌜ StartsAt (now (s .entry)) at r ⌝ }
 {
     let mut i = at;
     loop {
@@ -221,10 +221,10 @@ pub fn begin_of(s: &[u8], at: usize) -> usize
 }
 
 // The run that ends with the cell at, emitted from m on.
-pub fn emit_run_to(s: &[u8], d: &mut [u8], at: usize, m: usize) -> Laid
+pub fn emit_run_to(s: &[u8], d: &mut [u8], at: usize, m: usize) -> Emitted
     requires { ⌜ EndReady (now s) (now d) at m ⌝ }
     ensures { λ r. ⌜ EmitsEnd (now (s .entry)) (now (d .entry)) (now (d .exit)) at m r ⌝ }
 {
-    let begin = begin_of(s, at);
-    emit_run(s, d, begin, at + 1, m)
+    let start = start_of(s, at);
+    emit_run(s, d, start, at + 1, m)
 }

@@ -10,10 +10,10 @@ use Rattle.format.specs.Cell.{IsBytes}
 use Rattle.answers.specs.Answer.{refused, Result}
 use Rattle.answers.specs.Definition.{check, judge, shown}
 use Rattle.answers.proofs.Demands.{demand2}
-use Rattle.outcome.specs.declared.Outcome.{Outcome}
+use Rattle.answers.specs.declared.Outcome.{Outcome}
 use Rattle.engine.specs.Rows.{Refuses}
 use Rattle.engine.specs.Check.{Checked}
-use Rattle.engine.specs.Inner.{Gives}
+use Rattle.engine.specs.Stages.{Gives}
 use Rattle.engine.proofs.Rows.{judge-refuses}
 
 shown-accepts : (A : Ty) (n i : ℕ) → shown A .answer ≢ refused n i

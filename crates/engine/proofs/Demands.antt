@@ -5,20 +5,20 @@ use mathlib.Core.List.{List, []}
 use Rattle.calculus.specs.Syntax.{Ty}
 use Rattle.calculus.specs.Typing.{Typed}
 use Rattle.format.specs.Cell.{IsBytes}
-use Rattle.format.specs.Book.{opened, WellFormed}
+use Rattle.format.specs.Book.{rootTerm, WellFormed}
 use Rattle.answers.specs.Answer.{Answer, accepted, Result, result}
 use Rattle.answers.specs.Engine.{Engine, IsWork, IsLimit}
 use Rattle.answers.specs.Definition.{definition, check, run}
-use Rattle.answers.specs.Demands.{Accepts, Runs, Agree, Demand2, Demand3}
+use Rattle.answers.specs.Demands.{Accepts, TakesSteps, Agree, Demand2, Demand3}
 use Rattle.answers.proofs.Demands.{demand2, demand3-from-2}
-use Rattle.outcome.specs.Numbers.{answerOf}
-use Rattle.outcome.specs.declared.Outcome.{Outcome}
+use Rattle.answers.specs.Cases.{answerOf}
+use Rattle.answers.specs.declared.Outcome.{Outcome}
 use Rattle.engine.specs.Run.{Ran}
 use Rattle.engine.specs.Demands.{MeetsContracts}
 
 -- Two laptops, by what the contracts of their two calls say and nothing else.
 pub calls-agree : {b w v w′ v′ : List ℕ} {l m : ℕ} {r q : Outcome} {A : Ty} → Ran b w v l r → Ran b w′ v′ m q → IsWork w → IsWork w′ → WellFormed b →
-    Typed [] (opened b) A → Agree l m (result (answerOf r) v) (result (answerOf q) v′)
+    Typed [] (rootTerm b) A → Agree l m (result (answerOf r) v) (result (answerOf q) v′)
 calls-agree {v′ = v′} {m = m} {q = q} {A = A} x y j k f t = x .agree j f A t m (result (answerOf q) v′) (y .runs k f A t) .0
 
 whole : {a : Answer} {v : List ℕ} {x : Result} → a ≡ x .answer → v ≡ x .left → result a v ≡ x
@@ -49,8 +49,8 @@ module _ (E : Engine) (c : MeetsContracts E) where
       record {
         accepts = ((λ a. d .accepts .0 (to a)), λ t. from (d .accepts .1 t));
         shows = λ A f t w k. check-fixed b w y ∙ d .shows A f t w k;
-        runs = λ a w l k i. subst (Runs (opened b) l) (sym (run-fixed b w l y i)) (d .runs (to a) w l k i);
-        turns-back = λ n w l i. run-fixed b w l y i ∙ d .turns-back (λ a. n (from a)) w l i ∙ sym (check-fixed b w y);
+        runs = λ a w l k i. subst (TakesSteps (rootTerm b) l) (sym (run-fixed b w l y i)) (d .runs (to a) w l k i);
+        refuses = λ n w l i. run-fixed b w l y i ∙ d .refuses (λ a. n (from a)) w l i ∙ sym (check-fixed b w y);
       }
 
   pub contracts-demand3 : Demand3 E

@@ -9,20 +9,20 @@ use borrow.Author.Tests.{ne-eqb}
 use lib.ListN.{length, replicate}
 use Rattle.calculus.specs.Syntax.{Ty}
 use Rattle.calculus.specs.Infer.{infer}
-use Rattle.format.specs.Book.{Finding, formFinding, opened}
+use Rattle.format.specs.Book.{Finding, formFinding, rootTerm}
 use Rattle.format.proofs.Tests.{formFinding-says}
 use Rattle.answers.specs.Answer.{Result}
 use Rattle.answers.specs.Engine.{IsWork, workLength, zeros}
-use Rattle.answers.specs.Definition.{judge, afterForm, afterTyping, turnedBack}
+use Rattle.answers.specs.Definition.{judge, afterForm, afterTyping, refusalResult}
 use Rattle.answers.proofs.AllSamples.{in-work}
-use Rattle.outcome.specs.Numbers.{refusalAnswer}
-use Rattle.outcome.specs.declared.Refusal.{Refusal}
-use Rattle.outcome.specs.declared.Refusal.the-variants.{Buffer}
-use Rattle.outcome.specs.declared.Outcome.{Outcome}
+use Rattle.answers.specs.Cases.{refusalAnswer}
+use Rattle.answers.specs.declared.Refusal.{Refusal}
+use Rattle.answers.specs.declared.Refusal.the-variants.{Buffer}
+use Rattle.answers.specs.declared.Outcome.{Outcome}
 use Rattle.book.specs.Form.{FormCheck, FormsAs}
 use Rattle.book.specs.declared.Form.{Form}
 use Rattle.book.specs.declared.Form.the-variants as Form
-use Rattle.engine.specs.Inner.{Begins, row-1, rows-2-to-10, TurnsBack, Formed, Gives, AfterTyping}
+use Rattle.engine.specs.Stages.{FirstRows, row-1, rows-2-to-10, RefusesBy, Formed, Gives, AfterTyping}
 
 pub cleared-work : {v : List ℕ} {n : ℕ} → v ≡ replicate n 0 → n ≡ workLength → v ≡ zeros workLength
 unfolding zeros
@@ -30,14 +30,14 @@ cleared-work e k = e ∙ ap (λ (m : ℕ). replicate m 0) k
 
 module _ (b w : List ℕ) (g : Ty → Result) where
   -- row 1: nothing is touched
-  at-row-1 : {v : List ℕ} {r : Outcome} → length w ≢ workLength → TurnsBack w v Buffer r → Gives v r (judge b w g)
+  at-row-1 : {v : List ℕ} {r : Outcome} → length w ≢ workLength → RefusesBy w v Buffer r → Gives v r (judge b w g)
   unfolding judge
   at-row-1 n t =
       rw (t .says, t .untouched n) (record { answer = rw (ne-eqb (length w) 65536 n, judge); left = rw (ne-eqb (length w) 65536 n, judge) })
 
-  at-rows-2-to-10 : {v : List ℕ} {q : Refusal} {x : Form} {r : Outcome} → IsWork w → FormCheck b x → x ≡ Form.Malformed q → TurnsBack w v q r →
+  at-rows-2-to-10 : {v : List ℕ} {q : Refusal} {x : Form} {r : Outcome} → IsWork w → FormCheck b x → x ≡ Form.Malformed q → RefusesBy w v q r →
       Gives v r (judge b w g)
-  unfolding afterForm turnedBack
+  unfolding afterForm refusalResult
   at-rows-2-to-10 {v} {q} {x} {r} k f e t = go (formFinding b) refl (f .says)
     where
       go : (y : Option Finding) → formFinding b ≡ y → FormsAs b x y → Gives v r (judge b w g)
@@ -46,24 +46,24 @@ module _ (b w : List ℕ) (g : Ty → Result) where
           let s : q ≡ h .0 = cc in
           rw (in-work b w g k, p, t .says) (record { answer = ap refusalAnswer s ∙ h .2; left = t .zeroed k })
 
-  pub turned-back : {v : List ℕ} {q : Refusal} {x : Form} {r : Outcome} → Begins b (length w) x → x ≡ Form.Malformed q → TurnsBack w v q r →
+  pub refused-result : {v : List ℕ} {q : Refusal} {x : Form} {r : Outcome} → FirstRows b (length w) x → x ≡ Form.Malformed q → RefusesBy w v q r →
       Gives v r (judge b w g)
-  turned-back {v} {q} {r = r} (row-1 n s) e t =
+  refused-result {v} {q} {r = r} (row-1 n s) e t =
       let p : q ≡ Buffer = cc in
-      at-row-1 n (subst (λ (o : Refusal). TurnsBack w v o r) p t)
-  turned-back (rows-2-to-10 k f) e t = at-rows-2-to-10 k f e t
+      at-row-1 n (subst (λ (o : Refusal). RefusesBy w v o r) p t)
+  refused-result (rows-2-to-10 k f) e t = at-rows-2-to-10 k f e t
 
   pub past-row-10 : {v : List ℕ} {i : ℕ} {r : Outcome} → Formed b w i → AfterTyping b g v r → Gives v r (judge b w g)
   unfolding afterForm
   past-row-10 {v} {r = r} k t =
-      let p : judge b w g ≡ afterTyping b g (infer [] (opened b)) =
+      let p : judge b w g ≡ afterTyping b g (infer [] (rootTerm b)) =
       in-work b w g (k .work) ∙ rw (formFinding-says b .1 (k .book .form)) in
       subst (Gives v r) (sym p) t
 
 -- no row met
-pub begun : {b w : List ℕ} {i : ℕ} {x : Form} → Begins b (length w) x → x ≡ Form.WellFormed i → Formed b w i
-begun {x = x} (row-1 n s) e = let z : _≡_ {A = ℕ} 0 1 = cc in absurd (omega arith)
-begun {b} {w} {i} {x} (rows-2-to-10 k f) e = go (formFinding b) refl (f .says)
+pub started : {b w : List ℕ} {i : ℕ} {x : Form} → FirstRows b (length w) x → x ≡ Form.WellFormed i → Formed b w i
+started {x = x} (row-1 n s) e = let z : _≡_ {A = ℕ} 0 1 = cc in absurd (omega arith)
+started {b} {w} {i} {x} (rows-2-to-10 k f) e = go (formFinding b) refl (f .says)
   where
     go : (y : Option Finding) → formFinding b ≡ y → FormsAs b x y → Formed b w i
     go none g h = record { book = record { form = formFinding-says b .0 g; root = cc }; work = k }

@@ -10,7 +10,7 @@ use Rattle.format.specs.Table.{Use, unused, plain, refers, Sort}
 use Rattle.format.specs.Cell.{byte, pair, cellAt}
 use Rattle.format.specs.Tree.{treeAt}
 use Rattle.format.specs.Book.{count, cellFault, hasSort, WellFormed}
-use Rattle.format.proofs.Opening.{treeAt-same}
+use Rattle.format.proofs.Unsharing.{treeAt-same}
 use Rattle.format.proofs.Tests.{Each, FieldOk, cellFault-says}
 use Rattle.loading.specs.Loaded.{Loadable}
 

@@ -1,4 +1,4 @@
--- The root laid down and run; what the definition answers to a run means what demands 2 and 3 say. Assumes nothing.
+-- The root encoded and run; what the definition answers to a run means what demands 2 and 3 say. Assumes nothing.
 use Prim.Native.Nat.{ℕ, suc, _≤_}
 use mathlib.Core.Path.{_≡_, sym, subst, _∙_}
 use mathlib.Core.Logic.{_≢_}
@@ -8,44 +8,44 @@ use native.Mathlib.Omega.{arith}
 use Rattle.calculus.specs.Syntax.{Ty, Term}
 use Rattle.calculus.specs.Typing.{Typed}
 use Rattle.format.specs.Cell.{IsBytes}
-use Rattle.format.specs.Book.{opened, sizeLimit, WellFormed}
+use Rattle.format.specs.Book.{rootTerm, sizeLimit, WellFormed}
 use Rattle.answers.specs.Answer.{refused, Result, result}
 use Rattle.answers.specs.Engine.{IsWork}
-use Rattle.answers.specs.Definition.{run, judge, told, reported}
+use Rattle.answers.specs.Definition.{run, judge, endResult, reported}
 use Rattle.answers.specs.Demands as Demands
 use Rattle.answers.proofs.Demands.{typed-accepts, definition-runs, runs-agree, demand3}
-use Rattle.outcome.specs.Numbers.{answerOf}
-use Rattle.outcome.specs.declared.Outcome.{Outcome}
-use Rattle.outcome.specs.declared.Outcome.the-variants.{Stopped}
+use Rattle.answers.specs.Cases.{answerOf}
+use Rattle.answers.specs.declared.Outcome.{Outcome}
+use Rattle.answers.specs.declared.Outcome.the-variants.{Stopped}
 use Rattle.format.specs.Terms.{fromTerm}
 use Rattle.format.proofs.Trees.{term-cells, term-positive}
 use Rattle.emission.proofs.Fields.{term-field}
-use Rattle.layout.specs.Lays.{HereReady, LaysDown, SomeTree, Closes}
-use Rattle.layout.proofs.Laid.{lay-ready}
+use Rattle.layout.specs.Encoding.{InPlaceReady, EncodesTree, SomeTree, Closes}
+use Rattle.layout.proofs.Encoded.{encode-ready}
 use Rattle.format.specs.Tree.{cells}
-use Rattle.running.specs.Turns.{Lies, StepReady, Runs}
+use Rattle.running.specs.Turns.{EncodedTerm, StepReady, Runs}
 use Rattle.running.specs.declared.End.{End}
-use Rattle.engine.specs.Inner.{Gives, RootAt, SomeRoot, RunsRoot}
+use Rattle.engine.specs.Stages.{Gives, RootAt, SomeRoot, RunsRoot}
 use Rattle.engine.specs.Rows.{Refuses}
 use Rattle.engine.specs.Run.{Ran}
 use Rattle.engine.proofs.Rows.{judge-refuses}
 
--- ---- the root, laid down and run
+-- ---- the root, encoded and run
 
 module _ {w : List ℕ} {i : ℕ} (bytes : IsBytes w) where
   root-small : (e : Term) → RootAt w i e → cells (fromTerm e) ≤ sizeLimit
   root-small e p = omega (arith, term-cells e, p .small)
 
-  pub root-ready : {s : List ℕ} → 32768 ≤ length s → SomeRoot w i → HereReady s w 3 i
+  pub root-ready : {s : List ℕ} → 32768 ≤ length s → SomeRoot w i → InPlaceReady s w 3 i
   root-ready l p =
       record {
         long = omega (arith, p .root .long);
-        ready = lay-ready l (term-field bytes (p .root .holds)) (term-positive (p .term)) (root-small (p .term) (p .root));
+        ready = encode-ready l (term-field bytes (p .root .holds)) (term-positive (p .term)) (root-small (p .term) (p .root));
       }
 
-  module _ {v : List ℕ} {n : ℕ} (f : LaysDown w v 3 i n) where
-    root-lies : (e : Term) → RootAt w i e → Lies v n e
-    root-lies e p =
+  module _ {v : List ℕ} {n : ℕ} (f : EncodesTree w v 3 i n) where
+    root-encoded : (e : Term) → RootAt w i e → EncodedTerm v n e
+    root-encoded e p =
         record { tree = f .says (suc i) (fromTerm e) (term-field bytes (p .holds)) (term-positive e) (root-small e p); fits = p .fits }
 
     pub root-typed : {s : List ℕ} → 32768 ≤ length s → length v ≡ length w → SomeRoot w i → StepReady s v n
@@ -53,28 +53,28 @@ module _ {w : List ℕ} {i : ℕ} (bytes : IsBytes w) where
         record {
           long = l;
           work = k ∙ p .root .long;
-          at = record { term = p .term; lies = root-lies (p .term) (p .root); type = p .root .type; typed = p .root .typed };
+          at = record { term = p .term; encoded = root-encoded (p .term) (p .root); type = p .root .type; typed = p .root .typed };
         }
 
     module _ {u : List ℕ} {l : ℕ} {z : End} (y : Runs v u n l z) where
-      pub end-lies : length u ≡ length w → SomeRoot w i → SomeTree u (z .cells)
-      end-lies h p =
-          let k = y .says (p .term) (p .root .type) (root-lies (p .term) (p .root)) (p .root .typed) in
-          record { work = h ∙ p .root .long; tree = fromTerm (k .term); lies = k .lies .tree }
+      pub end-encoded : length u ≡ length w → SomeRoot w i → SomeTree u (z .cells)
+      end-encoded h p =
+          let k = y .says (p .term) (p .root .type) (root-encoded (p .term) (p .root)) (p .root .typed) in
+          record { work = h ∙ p .root .long; tree = fromTerm (k .term); encoded = k .encoded .tree }
 
       pub root-runs : {t : List ℕ} → Closes u t (z .cells) → RunsRoot w t i l (Stopped (z .stop))
-      unfolding told
+      unfolding endResult
       root-runs x =
           record {
             says = λ e p.
-                let k = y .says e (p .type) (root-lies e p) (p .typed) in
-                rw (k .ends) (record { answer = k .answer; left = x .says (fromTerm (k .term)) (k .lies .tree) });
+                let k = y .says e (p .type) (root-encoded e p) (p .typed) in
+                rw (k .ends) (record { answer = k .answer; left = x .says (fromTerm (k .term)) (k .encoded .tree) });
           }
 
 -- ---- what the definition answers, and so its meaning
 
 run-stops : (b : List ℕ) (l : ℕ) (A : Ty) (n i : ℕ) → reported b l A .answer ≢ refused n i
-unfolding told
+unfolding endResult
 run-stops b l A n i e = let z : _≡_ {A = ℕ} 0 1 = cc in absurd (omega arith)
 
 module _ {b w v : List ℕ} {l : ℕ} {r : Outcome} (bytes : IsBytes b) where
@@ -94,9 +94,9 @@ module _ {b w v : List ℕ} {l : ℕ} {r : Outcome} (bytes : IsBytes b) where
       same : {x : Result} → Gives v r x → result (answerOf r) v ≡ x
       same h = rw (h .answer, h .left)
 
-      runs : IsWork w → WellFormed b → (A : Ty) → Typed [] (opened b) A → Demands.Runs (opened b) l (result (answerOf r) v)
+      runs : IsWork w → WellFormed b → (A : Ty) → Typed [] (rootTerm b) A → Demands.TakesSteps (rootTerm b) l (result (answerOf r) v)
       runs k f A t =
-          subst (λ (x : Result). Demands.Runs (opened b) l x) (sym (same g)) (definition-runs b w l bytes k (typed-accepts b (f, (A, t))))
+          subst (λ (x : Result). Demands.TakesSteps (rootTerm b) l x) (sym (same g)) (definition-runs b w l bytes k (typed-accepts b (f, (A, t))))
 
   pub ran-as : Gives v r (judge b w (reported b l)) → Ran b w v l r
   unfolding run

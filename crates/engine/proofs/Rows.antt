@@ -1,4 +1,4 @@
--- What the definition answers to a book that it turns back is the number and the cell of a row that meets the book, for both calls. Assumes
+-- What the definition answers to a book that it refuses is the number and the cell of a row that meets the book, for both calls. Assumes
 -- nothing.
 use Prim.Native.Nat.{ℕ, _<_}
 use mathlib.Core.Path.{_≡_, refl, sym, subst, _∙_}
@@ -17,15 +17,15 @@ use Rattle.format.specs.Table.{type-sort, term-sort}
 use Rattle.format.specs.Cell.{IsBytes, cellAt}
 use Rattle.format.specs.Book.{Fault, bad-length, bad-trailer, bad-count, bad-kind, bad-unnamed, bad-reference, bad-sort, bad-root, bad-size}
 use Rattle.format.specs.Book.{Finding, firstBad, rowFault, cellFault, cellsForm, formFinding, everyField, unnamedOk, referenceOk, sortOk}
-use Rattle.format.specs.Book.{sortIs, hasSort, rootOf, count, follow, opened, WellFormed}
+use Rattle.format.specs.Book.{sortIs, hasSort, rootOf, count, follow, rootTerm, WellFormed}
 use Rattle.format.proofs.Tests.{sortIs-says, cellFault-says, cellsForm-says, formFinding-says}
 use Rattle.format.proofs.Findings.{by-rows}
-use Rattle.format.specs.Places.{Names}
-use Rattle.format.proofs.Places.{refusal-names}
+use Rattle.format.specs.Checking.{Names}
+use Rattle.format.proofs.RefusalPaths.{refusal-names}
 use Rattle.answers.specs.Answer.{faultNumber, reasonNumber, refused, Result, result}
 use Rattle.answers.specs.Engine.{workLength}
-use Rattle.answers.specs.Definition.{judge, afterForm, afterTyping, turnedBack}
-use Rattle.engine.specs.Rows.{Row, buffer, length-row, trailer, count-row, kind, unnamed, reference, sort, root, size}
+use Rattle.answers.specs.Definition.{judge, afterForm, afterTyping, refusalResult}
+use Rattle.engine.specs.Rows.{RefusalRow, buffer, length-row, trailer, count-row, kind, unnamed, reference, sort, root, size}
 use Rattle.engine.specs.Rows.{variable, application, field-read, merge, checked, Mistyped, Refuses}
 
 -- ---- rows 5 to 8
@@ -55,7 +55,7 @@ cell-faults s i f e = go (Table.rowOf (cellAt s i .kind)) e
 module _ (b w : List ℕ) where
   -- a finding's row
   abbrev RowOf : Finding → Type 0
-  RowOf f = Row b w (faultNumber (f .fault)) (f .cell)
+  RowOf f = RefusalRow b w (faultNumber (f .fault)) (f .cell)
 
   cell-row : (i : ℕ) (f : Fault) → i < count b → cellFault b i ≡ some f → OfCell f → RowOf (record { fault = f; cell = i })
   cell-row i bad-kind h e o = kind h e
@@ -93,10 +93,10 @@ module _ (b w : List ℕ) where
 
   -- ---- rows 11 to 15
 
-  typing-row : IsBytes b → (r : Reason) (p : List ℕ) → WellFormed b → infer [] (opened b) ≡ Infer.refused r p → Row b w (reasonNumber r) (follow b (rootOf b) p)
-  typing-row y r p f e = by r (record { formed = f; way = p; reason = e; names = refl }) (refusal-names b y f r p e)
+  typing-row : IsBytes b → (r : Reason) (p : List ℕ) → WellFormed b → infer [] (rootTerm b) ≡ Infer.refused r p → RefusalRow b w (reasonNumber r) (follow b (rootOf b) p)
+  typing-row y r p f e = by r (record { formed = f; path = p; reason = e; names = refl }) (refusal-names b y f r p e)
     where
-      by : {i : ℕ} (r : Reason) → Mistyped b r i → Names b r i → Row b w (reasonNumber r) i
+      by : {i : ℕ} (r : Reason) → Mistyped b r i → Names b r i → RefusalRow b w (reasonNumber r) i
       by unbound m k = variable m k
       by not-function m k = application m k
       by no-field m k = field-read m k
@@ -105,30 +105,30 @@ module _ (b w : List ℕ) where
 
   -- ---- both calls
 
-  first : {i : ℕ} → Row b w 1 i → length w ≢ workLength
+  first : {i : ℕ} → RefusalRow b w 1 i → length w ≢ workLength
   first (buffer h) = h
 
-  turned : (m j n i : ℕ) → length w ≡ workLength → Row b w m j → turnedBack m j .answer ≡ refused n i → Refuses b w (turnedBack m j .left) n i
-  unfolding turnedBack
-  turned m j n i k r e =
+  refused-row : (m j n i : ℕ) → length w ≡ workLength → RefusalRow b w m j → refusalResult m j .answer ≡ refused n i → Refuses b w (refusalResult m j .left) n i
+  unfolding refusalResult
+  refused-row m j n i k r e =
       let p : m ≡ n = cc in
       let q : j ≡ i = cc in
       rw (sym p, sym q)
-      (record { row = r; untouched = λ h. absurd (first (subst (λ (l : ℕ). Row b w l j) h r) k); zeroed = λ h. refl })
+      (record { row = r; untouched = λ h. absurd (first (subst (λ (l : ℕ). RefusalRow b w l j) h r) k); zeroed = λ h. refl })
 
   -- g, which answers for the type found, refuses nothing
   module _ (y : IsBytes b) (g : Ty → Result) (never : (A : Ty) (n i : ℕ) → g A .answer ≢ refused n i) where
-    after-typing : (x : Found) → length w ≡ workLength → WellFormed b → infer [] (opened b) ≡ x → (n i : ℕ) → afterTyping b g x .answer ≡ refused n i →
+    after-typing : (x : Found) → length w ≡ workLength → WellFormed b → infer [] (rootTerm b) ≡ x → (n i : ℕ) → afterTyping b g x .answer ≡ refused n i →
         Refuses b w (afterTyping b g x .left) n i
     unfolding afterTyping
     after-typing (found A) k f e n i h = absurd (never A n i h)
-    after-typing (Infer.refused r p) k f e n i h = turned (reasonNumber r) (follow b (rootOf b) p) n i k (typing-row y r p f e) h
+    after-typing (Infer.refused r p) k f e n i h = refused-row (reasonNumber r) (follow b (rootOf b) p) n i k (typing-row y r p f e) h
 
     after-form : (x : Option Finding) → length w ≡ workLength → formFinding b ≡ x → (n i : ℕ) → afterForm b g x .answer ≡ refused n i →
         Refuses b w (afterForm b g x .left) n i
     unfolding afterForm
-    after-form none k e n i h = after-typing (infer [] (opened b)) k (formFinding-says b .0 e) refl n i h
-    after-form (some f) k e n i h = turned (faultNumber (f .fault)) (f .cell) n i k (form-row f e) h
+    after-form none k e n i h = after-typing (infer [] (rootTerm b)) k (formFinding-says b .0 e) refl n i h
+    after-form (some f) k e n i h = refused-row (faultNumber (f .fault)) (f .cell) n i k (form-row f e) h
 
     pub judge-refuses : (n i : ℕ) → judge b w g .answer ≡ refused n i → Refuses b w (judge b w g .left) n i
     unfolding judge

@@ -14,115 +14,115 @@ use Rattle.format.specs.Table.{term-sort}
 use Rattle.format.specs.Tree.{Tree, cells}
 use Rattle.format.specs.Terms.{toTerm, fromType}
 use Rattle.format.proofs.Trees.{type-cells, type-positive}
-use Rattle.format.specs.Book.{count, WellFormed, rootOf, leadsTo, follow, opened, book, sizeLimit}
-use Rattle.format.proofs.Ways.{follow-alike}
-use Rattle.format.proofs.Tests.{opened-small, opened-fits}
+use Rattle.format.specs.Book.{count, WellFormed, rootOf, leadsTo, follow, rootTerm, book, sizeLimit}
+use Rattle.format.proofs.Paths.{follow-alike}
+use Rattle.format.proofs.Tests.{rootTerm-small, rootTerm-fits}
 use Rattle.answers.specs.Answer.{Result, refused, accepted, reasonNumber}
-use Rattle.answers.specs.Definition.{afterTyping, turnedBack, shown, reported}
-use Rattle.outcome.specs.Numbers.{refusalAnswer}
-use Rattle.outcome.specs.declared.Refusal.{Refusal}
+use Rattle.answers.specs.Definition.{afterTyping, refusalResult, shown, reported}
+use Rattle.answers.specs.Cases.{refusalAnswer}
+use Rattle.answers.specs.declared.Refusal.{Refusal}
 use Rattle.cells.specs.Held.{HoldsType, HoldsTerm, h-empty}
 use Rattle.loading.specs.Loaded.{Loaded}
 use Rattle.emission.proofs.Fields.{type-field}
-use Rattle.layout.specs.Lays.{LiesTree, HereReady, LaysDown, SomeTree, Closes}
-use Rattle.layout.proofs.Laid.{lay-ready}
-use Rattle.typing.specs.Finding.{Ready, Finds, Answered}
+use Rattle.layout.specs.Encoding.{EncodedTree, InPlaceReady, EncodesTree, SomeTree, Closes}
+use Rattle.layout.proofs.Encoded.{encode-ready}
+use Rattle.typing.specs.Finding.{FindReady, Finds, Answered}
 use Rattle.typing.specs.declared.Found.{Found}
 use Rattle.typing.specs.declared.Found.the-variants.{Typed, Refused}
-use Rattle.outcome.specs.declared.Outcome.{Outcome}
-use Rattle.outcome.specs.declared.Outcome.the-variants as Out
+use Rattle.answers.specs.declared.Outcome.{Outcome}
+use Rattle.answers.specs.declared.Outcome.the-variants as Out
 use Rattle.cells.proofs.Held.{holds, same-held}
-use Rattle.engine.specs.Inner.{TurnsBack, FindsRoot, finds, refuses, Formed, AfterTyping, RootAt, RunsRoot}
+use Rattle.engine.specs.Stages.{RefusesBy, FindsRoot, finds, refuses, Formed, AfterTyping, RootAt, RunsRoot}
 use Rattle.engine.proofs.Parts.{cell-part, tree-part}
 
 module _ (b s : List ℕ) (bytes : IsBytes b) (f : WellFormed b) (l : Loaded (take (8 * count b) b) s (count b)) where
-  root-held : HoldsTerm s (rootOf b) (opened b)
-  unfolding opened
+  root-held : HoldsTerm s (rootOf b) (rootTerm b)
+  unfolding rootTerm
   root-held =
       let i = rootOf b in
       let low = f .formed .rooted in
       subst (λ (t : Tree). HoldsTerm s i (toTerm t)) (tree-part b (count b) i low) (holds (l .held i low term-sort (rw (cell-part b (count b) i low) (f .term))))
 
-  pub ready : Ready s (count b) 0 (rootOf b)
+  pub ready : FindReady s (count b) 0 (rootOf b)
   ready =
       record {
         long = l .long;
         context = [];
         holds-context = h-empty;
         context-below = omega (arith, f .formed .rooted);
-        term = opened b;
+        term = rootTerm b;
         holds-term = root-held;
         term-below = f .formed .rooted;
-        room = omega (arith, opened-small b bytes f, f .formed .short);
+        room = omega (arith, rootTerm-small b bytes f, f .formed .short);
       }
 
-  way-alike : (p : List ℕ) → follow s (rootOf b) p ≡ follow b (rootOf b) p
-  way-alike p =
+  path-alike : (p : List ℕ) → follow s (rootOf b) p ≡ follow b (rootOf b) p
+  path-alike p =
       follow-alike s b (count b) (λ i g h. l .leads i h g ∙ ap (λ (t : Cell). leadsTo i t g) (cell-part b (count b) i h)) p (rootOf b) (f .formed .rooted)
 
   -- what typing answers of the root: the book's cells are as they were
   pub root-found : {t : List ℕ} {r : Found} → Finds s t (count b) 0 (rootOf b) r → FindsRoot b t (rootOf b) r
-  root-found {t} {r} d = go (infer [] (opened b)) refl (d .says [] (opened b) h-empty root-held)
+  root-found {t} {r} d = go (infer [] (rootTerm b)) refl (d .says [] (rootTerm b) h-empty root-held)
     where
-      go : (x : Infer.Found) → infer [] (opened b) ≡ x → Answered s t (count b) (size (opened b)) (rootOf b) r x → FindsRoot b t (rootOf b) r
+      go : (x : Infer.Found) → infer [] (rootTerm b) ≡ x → Answered s t (count b) (size (rootTerm b)) (rootOf b) r x → FindsRoot b t (rootOf b) r
       go (Infer.found A) e a =
           let q : r ≡ Typed (a .0) (a .1) = cc in
           finds q e (a .7) (same-held (a .5) (f .formed .rooted) root-held)
       go (Infer.refused w p) e a =
           let q : r ≡ Refused (a .0) = cc in
-          refuses q e (a .2 ∙ ap (λ (i : ℕ). refused (reasonNumber w) i) (way-alike p))
+          refuses q e (a .2 ∙ ap (λ (i : ℕ). refused (reasonNumber w) i) (path-alike p))
 
 -- what follows from what was found
 module _ {b w t : List ℕ} {i : ℕ} {r : Found} (p : Formed b w i) (bytes : IsBytes b) (d : FindsRoot b t i r) where
-  found-of : {c k : ℕ} → r ≡ Typed c k → (A : Ty) × (infer [] (opened b) ≡ Infer.found A) × HoldsType t c A × HoldsTerm t i (opened b)
+  found-of : {c k : ℕ} → r ≡ Typed c k → (A : Ty) × (infer [] (rootTerm b) ≡ Infer.found A) × HoldsType t c A × HoldsTerm t i (rootTerm b)
   found-of {c} {k} e = go d
     where
-      go : FindsRoot b t i r → (A : Ty) × (infer [] (opened b) ≡ Infer.found A) × HoldsType t c A × HoldsTerm t i (opened b)
+      go : FindsRoot b t i r → (A : Ty) × (infer [] (rootTerm b) ≡ Infer.found A) × HoldsType t c A × HoldsTerm t i (rootTerm b)
       go (finds {A = A} {c = x} q f h g) =
           let z : x ≡ c = cc in
           (A, f, subst (λ (j : ℕ). HoldsType t j A) z h, g)
       go (refuses q f a) = let z : _≡_ {A = ℕ} 0 1 = cc in absurd (omega arith)
 
-  type-small : {A : Ty} → infer [] (opened b) ≡ Infer.found A → cells (fromType A) ≤ sizeLimit
-  type-small {A} e = omega (arith, type-cells A, typed-size (infer-says [] (opened b) A .0 e), opened-small b bytes (p .book .form))
+  type-small : {A : Ty} → infer [] (rootTerm b) ≡ Infer.found A → cells (fromType A) ≤ sizeLimit
+  type-small {A} e = omega (arith, type-cells A, typed-size (infer-says [] (rootTerm b) A .0 e), rootTerm-small b bytes (p .book .form))
 
-  pub type-ready : {s : List ℕ} {c k : ℕ} → 32768 ≤ length s → length t ≡ length w → r ≡ Typed c k → HereReady s t 2 c
+  pub type-ready : {s : List ℕ} {c k : ℕ} → 32768 ≤ length s → length t ≡ length w → r ≡ Typed c k → InPlaceReady s t 2 c
   type-ready l h e =
       let a = found-of e in
-      record { long = omega (arith, h, p .work); ready = lay-ready l (type-field (a .2)) (type-positive (a .0)) (type-small (a .1)) }
+      record { long = omega (arith, h, p .work); ready = encode-ready l (type-field (a .2)) (type-positive (a .0)) (type-small (a .1)) }
 
-  type-lies : {v : List ℕ} {c n : ℕ} (A : Ty) → infer [] (opened b) ≡ Infer.found A → HoldsType t c A → LaysDown t v 2 c n → LiesTree v n (fromType A)
-  type-lies {c = c} A e h y = y .says (suc c) (fromType A) (type-field h) (type-positive A) (type-small e)
+  type-encoded : {v : List ℕ} {c n : ℕ} (A : Ty) → infer [] (rootTerm b) ≡ Infer.found A → HoldsType t c A → EncodesTree t v 2 c n → EncodedTree v n (fromType A)
+  type-encoded {c = c} A e h y = y .says (suc c) (fromType A) (type-field h) (type-positive A) (type-small e)
 
-  pub type-lain : {v : List ℕ} {c k n : ℕ} → length v ≡ length w → r ≡ Typed c k → LaysDown t v 2 c n → SomeTree v n
-  type-lain h e y = let a = found-of e in record { work = h ∙ p .work; tree = fromType (a .0); lies = type-lies (a .0) (a .1) (a .2) y }
+  pub type-lain : {v : List ℕ} {c k n : ℕ} → length v ≡ length w → r ≡ Typed c k → EncodesTree t v 2 c n → SomeTree v n
+  type-lain h e y = let a = found-of e in record { work = h ∙ p .work; tree = fromType (a .0); encoded = type-encoded (a .0) (a .1) (a .2) y }
 
-  pub check-found : {v u : List ℕ} {c k n : ℕ} → r ≡ Typed c k → LaysDown t v 2 c n → Closes v u n → AfterTyping b shown u (Out.Accepted n)
+  pub check-found : {v u : List ℕ} {c k n : ℕ} → r ≡ Typed c k → EncodesTree t v 2 c n → Closes v u n → AfterTyping b shown u (Out.Accepted n)
   unfolding afterTyping shown
   check-found e y z =
       let a = found-of e in
-      let l = type-lies (a .0) (a .1) (a .2) y in
+      let l = type-encoded (a .0) (a .1) (a .2) y in
       rw (a .1) (record { answer = ap accepted (l .count ∙ type-cells (a .0)); left = z .says (fromType (a .0)) l })
 
-  pub root-of : {c k : ℕ} → length t ≡ length w → r ≡ Typed c k → RootAt t i (opened b)
+  pub root-of : {c k : ℕ} → length t ≡ length w → r ≡ Typed c k → RootAt t i (rootTerm b)
   root-of l e =
       let a = found-of e in
       record {
         long = l ∙ p .work;
         holds = a .3;
-        small = opened-small b bytes (p .book .form);
-        fits = opened-fits b bytes (p .book .form);
+        small = rootTerm-small b bytes (p .book .form);
+        fits = rootTerm-fits b bytes (p .book .form);
         type = a .0;
-        typed = infer-says [] (opened b) (a .0) .0 (a .1);
+        typed = infer-says [] (rootTerm b) (a .0) .0 (a .1);
       }
 
   pub run-found : {v : List ℕ} {c k m : ℕ} {o : Outcome} → length t ≡ length w → r ≡ Typed c k → RunsRoot t v i m o → AfterTyping b (reported b m) v o
   unfolding afterTyping
-  run-found l e y = let a = found-of e in rw (a .1) (y .says (opened b) (root-of l e))
+  run-found l e y = let a = found-of e in rw (a .1) (y .says (rootTerm b) (root-of l e))
 
   -- a refusal is answered alike by both calls
-  pub ill-typed-book : {q : Refusal} {v : List ℕ} {o : Outcome} (g : Ty → Result) → length t ≡ length w → r ≡ Refused q → TurnsBack t v q o → AfterTyping b g v o
-  unfolding afterTyping turnedBack
+  pub ill-typed-book : {q : Refusal} {v : List ℕ} {o : Outcome} (g : Ty → Result) → length t ≡ length w → r ≡ Refused q → RefusesBy t v q o → AfterTyping b g v o
+  unfolding afterTyping refusalResult
   ill-typed-book {q} {v} {o} g l e u = go d
     where
       go : FindsRoot b t i r → AfterTyping b g v o

@@ -5,12 +5,12 @@ use mathlib.Core.Logic.{_↔_}
 use mathlib.Core.List.{List, []}
 use Rattle.calculus.specs.Syntax.{Ty, size-type, size}
 use Rattle.calculus.specs.Typing.{Typed}
-use Rattle.format.specs.Book.{WellFormed, opened, typeBook}
+use Rattle.format.specs.Book.{WellFormed, rootTerm, typeBook}
 use Rattle.answers.specs.Answer.{refused, accepted}
-use Rattle.answers.specs.Engine.{IsWork, laid}
+use Rattle.answers.specs.Engine.{IsWork, padded}
 use Rattle.answers.specs.Definition.{check}
-use Rattle.outcome.specs.Numbers.{answerOf}
-use Rattle.outcome.specs.declared.Outcome.{Outcome}
+use Rattle.answers.specs.Cases.{answerOf}
+use Rattle.answers.specs.declared.Outcome.{Outcome}
 use Rattle.engine.specs.Rows.{Refuses}
 
 -- The book b, the work buffer w as lent and v as left, and the answer r.
@@ -18,10 +18,10 @@ pub record Checked (b w v : List ℕ) (r : Outcome) : Type 0 where
   -- the answer, by document 01's number and values, and every byte left are the definition's
   pub answer : answerOf r ≡ check b w .answer
   pub left : v ≡ check b w .left
-  -- turned back: by the number of a row that meets the book, with the cell that it names
+  -- refused: by the number of a row that meets the book, with the cell that it names
   pub refuses : (n i : ℕ) → answerOf r ≡ refused n i → Refuses b w v n i
   -- accepted precisely if the book is well-formed and the rules derive a type for its root
-  pub accepts : IsWork w → ((n : ℕ) × (answerOf r ≡ accepted n)) ↔ (WellFormed b × ((A : Ty) × Typed [] (opened b) A))
-  -- that type is the one laid down, and its size, the one given, does not pass the book's own
-  pub shows : IsWork w → WellFormed b → (A : Ty) → Typed [] (opened b) A →
-      (answerOf r ≡ accepted (size-type A)) × (v ≡ laid (typeBook A)) × (size-type A ≤ size (opened b))
+  pub accepts : IsWork w → ((n : ℕ) × (answerOf r ≡ accepted n)) ↔ (WellFormed b × ((A : Ty) × Typed [] (rootTerm b) A))
+  -- that type is the one encoded, and its size, the one given, does not pass the book's own
+  pub shows : IsWork w → WellFormed b → (A : Ty) → Typed [] (rootTerm b) A →
+      (answerOf r ≡ accepted (size-type A)) × (v ≡ padded (typeBook A)) × (size-type A ≤ size (rootTerm b))

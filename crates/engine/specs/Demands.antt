@@ -6,8 +6,8 @@ use mathlib.Core.List.{List}
 use Rattle.format.specs.Cell.{IsBytes}
 use Rattle.answers.specs.Answer.{result}
 use Rattle.answers.specs.Engine.{Engine, IsLimit}
-use Rattle.outcome.specs.Numbers.{answerOf}
-use Rattle.outcome.specs.declared.Outcome.{Outcome}
+use Rattle.answers.specs.Cases.{answerOf}
+use Rattle.answers.specs.declared.Outcome.{Outcome}
 use Rattle.engine.specs.Check.{Checked}
 use Rattle.engine.specs.Run.{Ran}
 

@@ -2,4 +2,4 @@ pub mod Rows
 pub mod Check
 pub mod Run
 pub mod Demands
-pub mod Inner
+pub mod Stages

@@ -1,23 +1,23 @@
 // The public calls. For every book, every work buffer and every step limit the answer and each byte left in the work buffer are fixed.
+use answers::Outcome;
+use answers::Refusal;
 use book::Form;
 use book::check_form;
 use layout::clear;
 use layout::close;
-use layout::lay_here;
+use layout::encode_in_place;
 use loading::load;
-use outcome::Outcome;
-use outcome::Refusal;
 use running::run_on;
 use typing::Found;
 use typing::find;
 ghost use Rattle.answers.specs.Definition.{shown, reported};
 ghost use Rattle.engine.specs.Check.{Checked};
-ghost use Rattle.engine.specs.Inner.{Begins, TurnsBack, Findable, FindsRoot, Formed, AfterTyping, SomeRoot, RunsRoot};
+ghost use Rattle.engine.specs.Stages.{FirstRows, RefusesBy, Findable, FindsRoot, Formed, AfterTyping, SomeRoot, RunsRoot};
 ghost use Rattle.engine.specs.Run.{Ran};
 
 // Rows 1 to 10, for both calls and a work buffer of n bytes.
-fn begin(book: &[u8], n: usize) -> Form
-    ensures { λ r. ⌜ Begins (now (book .entry)) n r ⌝ }
+fn first_rows(book: &[u8], n: usize) -> Form
+    ensures { λ r. ⌜ FirstRows (now (book .entry)) n r ⌝ }
 {
     if n != 65536 {
         return Form::Malformed(Refusal::Buffer);
@@ -26,8 +26,8 @@ fn begin(book: &[u8], n: usize) -> Form
 }
 
 // A work buffer of another length, refusal 1, is left as it is; every other refusal zeroes it.
-fn turn_back(work: &mut [u8], refusal: Refusal) -> Outcome
-    ensures { λ r. ⌜ TurnsBack (now (work .entry)) (now (work .exit)) refusal r ⌝ }
+fn refuse(work: &mut [u8], refusal: Refusal) -> Outcome
+    ensures { λ r. ⌜ RefusesBy (now (work .entry)) (now (work .exit)) refusal r ⌝ }
 {
     if work.len() == 65536 {
         clear(work);
@@ -45,39 +45,39 @@ fn find_root(book: &[u8], buffer: &mut [u8], root: usize) -> Found
     find(buffer, n, 0, root)
 }
 
-// A well-formed book: the type found is laid down.
+// A well-formed book: the type found is encoded.
 fn check_types(book: &[u8], work: &mut [u8], root: usize) -> Outcome
     requires { ⌜ Formed (now book) (now work) root ⌝ }
     ensures { λ r. ⌜ AfterTyping (now (book .entry)) shown (now (work .exit)) r ⌝ }
 {
     match find_root(book, work, root) {
-        Found::Refused(refusal) => turn_back(work, refusal),
+        Found::Refused(refusal) => refuse(work, refusal),
         Found::Typed(t, _) => {
             let mut s = [0u8; 32768];
-            let n = lay_here(&mut s, work, 2, t);
+            let n = encode_in_place(&mut s, work, 2, t);
             close(work, n);
             Outcome::Accepted(n)
         }
     }
 }
 
-// Checks a book: turned back by number and cell, or accepted with the size of its type, which is laid down from byte 0.
+// Checks a book: refused by number and cell, or accepted with the size of its type, which is encoded from byte 0.
 pub fn check(book: &[u8], work: &mut [u8]) -> Outcome
     ensures { λ r. ⌜ Checked (now (book .entry)) (now (work .entry)) (now (work .exit)) r ⌝ }
 {
-    match begin(book, work.len()) {
-        Form::Malformed(refusal) => turn_back(work, refusal),
+    match first_rows(book, work.len()) {
+        Form::Malformed(refusal) => refuse(work, refusal),
         Form::WellFormed(root) => check_types(book, work, root),
     }
 }
 
-// The root, held in the work buffer, is laid down and run there; a buffer of 4,096 cells serves both.
+// The root, held in the work buffer, is encoded and run there; a buffer of 4,096 cells serves both.
 fn run_root(work: &mut [u8], root: usize, limit: u32) -> Outcome
     requires { ⌜ SomeRoot (now work) root ⌝ }
     ensures { λ r. ⌜ RunsRoot (now (work .entry)) (now (work .exit)) root limit r ⌝ }
 {
     let mut s = [0u8; 32768];
-    let n = lay_here(&mut s, work, 3, root);
+    let n = encode_in_place(&mut s, work, 3, root);
     let end = run_on(&mut s, work, n, limit);
     let stop = end.stop;
     close(work, end.cells);
@@ -90,18 +90,18 @@ fn run_types(book: &[u8], work: &mut [u8], root: usize, limit: u32) -> Outcome
     ensures { λ r. ⌜ AfterTyping (now (book .entry)) (reported (now (book .entry)) limit) (now (work .exit)) r ⌝ }
 {
     match find_root(book, work, root) {
-        Found::Refused(fault) => turn_back(work, fault),
+        Found::Refused(fault) => refuse(work, fault),
         Found::Typed(_, _) => run_root(work, root, limit),
     }
 }
 
-// Runs a book for at most limit steps: turned back as the check turns it back, or stopped at a value, for steps or for room, with the term
-// reached laid down from byte 0.
+// Runs a book for at most limit steps: refused as the check refuses it, or stopped at a value, for steps or for room, with the term
+// reached encoded from byte 0.
 pub fn run(book: &[u8], work: &mut [u8], limit: u32) -> Outcome
     ensures { λ r. ⌜ Ran (now (book .entry)) (now (work .entry)) (now (work .exit)) limit r ⌝ }
 {
-    match begin(book, work.len()) {
-        Form::Malformed(fault) => turn_back(work, fault),
+    match first_rows(book, work.len()) {
+        Form::Malformed(fault) => refuse(work, fault),
         Form::WellFormed(root) => run_types(book, work, root, limit),
     }
 }

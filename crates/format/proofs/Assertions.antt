@@ -1,4 +1,4 @@
--- Closed facts that show what the tests of a book say: which row stands where a book meets two, and the cell that it names; and where a way
+-- Closed facts that show what the tests of a book say: which row stands where a book meets two, and the cell that it names; and where a path
 -- leads. Each is computed from the definitions alone. Assumes nothing.
 use Prim.Native.Nat.{ℕ}
 use mathlib.Core.Path.{_≡_, refl}
@@ -6,7 +6,7 @@ use mathlib.Core.Option.{none, some}
 use mathlib.Core.List.{List, [], _∷_, _++_, map}
 use Rattle.format.specs.Table.{table, rowIn, rowOf}
 use Rattle.format.specs.Cell.{cellAt, cellBytes}
-use Rattle.format.specs.Tree.{cells, branch, grow, openWithin, treeAt}
+use Rattle.format.specs.Tree.{cells, fieldTree, cellTree, unshareWithin, treeAt}
 use Rattle.format.specs.Book.{bad-length, bad-trailer, bad-count, bad-unnamed, bad-reference, bad-sort, bad-root}
 use Rattle.format.specs.Book.{firstBad, rowFault, cellFault, cellsFinding, rootFinding, cellsForm, formFinding, follow, trailer}
 use Rattle.format.proofs.Findings.{at}
@@ -55,17 +55,17 @@ rows :
     -- 1 annotated with Int
     ∷ none
     ∷ [])
-unfolding table rowIn rowOf cellAt cellBytes cells branch grow openWithin treeAt firstBad rowFault cellFault cellsFinding rootFinding cellsForm formFinding trailer
+unfolding table rowIn rowOf cellAt cellBytes cells fieldTree cellTree unshareWithin treeAt firstBad rowFault cellFault cellsFinding rootFinding cellsForm formFinding trailer
 rows = refl
 
--- The top value, and a record of 1, merged: ways from the merge, cell 3.
+-- The top value, and a record of 1, merged: paths from the merge, cell 3.
 abbrev merged : List ℕ
 merged = top ++ one ++ cell 24 7 1 0 0 ++ cell 22 0 0 2 0 ++ trailer 4 3
 
 -- field c of a merge is no reference
-ways : map (follow merged 3) ([] ∷ (0 ∷ []) ∷ (1 ∷ []) ∷ (1 ∷ 0 ∷ []) ∷ (2 ∷ []) ∷ []) ≡ (3 ∷ 0 ∷ 2 ∷ 1 ∷ 3 ∷ [])
+paths : map (follow merged 3) ([] ∷ (0 ∷ []) ∷ (1 ∷ []) ∷ (1 ∷ 0 ∷ []) ∷ (2 ∷ []) ∷ []) ≡ (3 ∷ 0 ∷ 2 ∷ 1 ∷ 3 ∷ [])
 unfolding table rowIn rowOf follow cellAt cellBytes trailer
-ways = refl
+paths = refl
 
 -- The top value as a function: its types are fields b and c.
 function : map (follow (top ++ int ++ cell 2 0 0 0 0 ++ cell 21 0 0 1 2 ++ trailer 4 3) 3) ((0 ∷ []) ∷ (1 ∷ []) ∷ (2 ∷ []) ∷ []) ≡ (0 ∷ 1 ∷ 2 ∷ [])

@@ -1,10 +1,10 @@
 pub mod Numbers
 pub mod Trees
-pub mod Opening
+pub mod Unsharing
 pub mod Tests
-pub mod Laying
+pub mod Encoding
 pub mod RoundTrip
 pub mod Assertions
-pub mod Ways
-pub mod Places
+pub mod Paths
+pub mod RefusalPaths
 pub mod Findings

@@ -1,4 +1,4 @@
--- A term or type of at most 4,095 cells whose labels, indices and numbers fit, laid down, is as specs/RoundTrip says. Assumes nothing.
+-- A term or type of at most 4,095 cells whose labels, indices and numbers fit, encoded, is as specs/RoundTrip says. Assumes nothing.
 use Prim.Native.Nat.{ℕ, _+_, _*_, _-_, _/_, _%_, _≤_, _<_}
 use native.Mathlib.Omega.{arith}
 use mathlib.Core.Path.{_≡_, refl, sym, ap, _∙_}
@@ -10,14 +10,14 @@ use Rattle.calculus.specs.Syntax.{Ty, int, top, arrow, inter, field, size-type}
 use Rattle.calculus.specs.Syntax.{Term, var, lit, unit, anno, app, lam, merge, fix, rcd, proj, size}
 use Rattle.format.specs.Table.{Sort, type-sort, term-sort, Use, unused, refers, rowOf, rowIn, table}
 use Rattle.format.specs.Cell.{IsBytes, half, unsigned, Cell, cellAt, cellBytes}
-use Rattle.format.specs.Tree.{Tree, raw, cells, treeAt, refer, lay}
+use Rattle.format.specs.Tree.{Tree, raw, cells, treeAt, refer, encode}
 use Rattle.format.specs.Terms.{fromType, fromTerm, toType, toTerm, TypeFits, TermFits}
-use Rattle.format.specs.Book.{sizeLimit, count, hasSort, WellFormedCells, opened, rootOf, trailer, book}
-use Rattle.format.specs.RoundTrip.{TermLaid, TypeLaid}
+use Rattle.format.specs.Book.{sizeLimit, count, hasSort, WellFormedCells, rootTerm, rootOf, trailer, book}
+use Rattle.format.specs.RoundTrip.{TermRoundTrip, TypeRoundTrip}
 use Rattle.format.proofs.Numbers.{unsigned-fits}
 use Rattle.format.proofs.Trees.{type-cells, term-cells, type-back, term-back}
-use Rattle.format.proofs.Laying.{blank, number, Good, leaf, cell, cell-back, length-lay, Laid, laid}
-use Rattle.format.proofs.Laying.{root-last, root-opens, root-sorted, is-bytes, bytes-append, cell-bytes, lay-bytes}
+use Rattle.format.proofs.Encoding.{blank, number, Good, leaf, cell, cell-back, length-encode, Encoded, padded}
+use Rattle.format.proofs.Encoding.{root-last, root-decodes, root-sorted, is-bytes, bytes-append, cell-bytes, encode-bytes}
 
 -- a field that its kind does not name
 nothing : Good unused (raw 0)
@@ -50,7 +50,7 @@ term-good (proj l e) f = cell refl refl (lit< tt) (number (f .0)) (term-good e (
 
 pub book-length : (t : Tree) → length (book t) ≡ 8 * (cells t + 1)
 unfolding book trailer
-book-length t = simp (length-append, length-lay) (omega arith)
+book-length t = simp (length-append, length-encode) (omega arith)
 
 pub book-count : (t : Tree) → count (book t) ≡ cells t
 book-count t = rw (book-length t) (omega arith)
@@ -62,7 +62,7 @@ trailer-cell n = record { kind = 0xf0; label = 1; a = n; b = n - 1; c = 0 }
 pub book-trailer : (t : Tree) → cellAt (book t) (count (book t)) ≡ trailer-cell (cells t)
 unfolding book trailer cellBytes
 book-trailer t =
-    rw (book-count t) (cell-back _ (record { before = lay 0 t; after = []; starts = length-lay 0 t; split = refl }))
+    rw (book-count t) (cell-back _ (record { before = encode 0 t; after = []; starts = length-encode 0 t; split = refl }))
 
 pub book-root : {s : Sort} {t : Tree} → Good (refers s) t → rootOf (book t) ≡ refer 0 t
 unfolding cellAt
@@ -72,22 +72,22 @@ book-bytes : {u : Use} {t : Tree} → Good u t → cells t ≤ sizeLimit → IsB
 unfolding book trailer cellBytes
 book-bytes {t = t} g h =
     let last = cell-bytes (trailer-cell (cells t)) (lit< tt) (lit< tt) (omega arith) (omega arith) (lit< tt) in
-    is-bytes (bytes-append (lay-bytes 0 g (omega arith)) last)
+    is-bytes (bytes-append (encode-bytes 0 g (omega arith)) last)
 
-book-cells : {u : Use} {t : Tree} → Good u t → Laid (book t) 0 u t
+book-cells : {u : Use} {t : Tree} → Good u t → Encoded (book t) 0 u t
 unfolding book
-book-cells {t = t} g = laid g (record { before = []; after = trailer (cells t) (cells t - 1); starts = refl; split = refl })
+book-cells {t = t} g = padded g (record { before = []; after = trailer (cells t) (cells t - 1); starts = refl; split = refl })
 
 -- What holds of the book of a good tree of a sort.
-pub record BookLaid (s : Sort) (t : Tree) : Type 0 where
+pub record BookEncoded (s : Sort) (t : Tree) : Type 0 where
   pub bytes : IsBytes (book t)
   pub well-formed : WellFormedCells (book t)
   pub sorted : hasSort (book t) s (rootOf (book t)) ≡ true
-  pub opens : treeAt (book t) (rootOf (book t)) ≡ t
+  pub decodes : treeAt (book t) (rootOf (book t)) ≡ t
 
-pub book-laid : {s : Sort} {t : Tree} → Good (refers s) t → cells t ≤ sizeLimit → BookLaid s t
+pub book-encoded : {s : Sort} {t : Tree} → Good (refers s) t → cells t ≤ sizeLimit → BookEncoded s t
 unfolding cellAt
-book-laid {s} {t} g h =
+book-encoded {s} {t} g h =
     let root = root-last 0 g in
     record {
       bytes = book-bytes g h;
@@ -104,20 +104,20 @@ book-laid {s} {t} g h =
             sound = λ i l. book-cells g .sound i (omega arith) (omega (arith, book-count t));
           };
       sorted = rw (book-root g) (root-sorted (book-cells g));
-      opens = rw (book-root g) (root-opens (book-cells g));
+      decodes = rw (book-root g) (root-decodes (book-cells g));
     }
 
-pub term-laid : (e : Term) → TermFits e → size e ≤ sizeLimit → TermLaid e
-unfolding opened
-term-laid e f h =
-    let b = book-laid (term-good e f) (rw (term-cells e) h) in
+pub term-round-trip : (e : Term) → TermFits e → size e ≤ sizeLimit → TermRoundTrip e
+unfolding rootTerm
+term-round-trip e f h =
+    let b = book-encoded (term-good e f) (rw (term-cells e) h) in
     record {
       bytes = b .bytes;
-      well-formed = record { formed = b .well-formed; term = b .sorted; small = rw (b .opens, term-cells e) h };
-      opens = ap toTerm (b .opens) ∙ term-back e f;
+      well-formed = record { formed = b .well-formed; term = b .sorted; small = rw (b .decodes, term-cells e) h };
+      decodes = ap toTerm (b .decodes) ∙ term-back e f;
     }
 
-pub type-laid : (A : Ty) → TypeFits A → size-type A ≤ sizeLimit → TypeLaid A
-type-laid A f h =
-    let b = book-laid (type-good A f) (rw (type-cells A) h) in
-    record { bytes = b .bytes; well-formed = b .well-formed; opens = ap toType (b .opens) ∙ type-back A }
+pub type-round-trip : (A : Ty) → TypeFits A → size-type A ≤ sizeLimit → TypeRoundTrip A
+type-round-trip A f h =
+    let b = book-encoded (type-good A f) (rw (type-cells A) h) in
+    record { bytes = b .bytes; well-formed = b .well-formed; decodes = ap toType (b .decodes) ∙ type-back A }

@@ -17,14 +17,14 @@ use Rattle.calculus.proofs.Bools.{true-says, eqb-says, ltb-says, nltb-says, Tes
 use Rattle.format.specs.Table.{Sort, type-sort, term-sort, Use, unused, plain, refers, Row, table, rowIn, rowOf}
 pub use Rattle.format.specs.Table.{All}
 use Rattle.format.specs.Cell.{IsBytes, byte, pair, Cell, cellAt, half, signed}
-use Rattle.format.specs.Tree.{Tree, raw, node, cells, branch, grow, treeAt}
+use Rattle.format.specs.Tree.{Tree, raw, node, cells, fieldTree, cellTree, treeAt}
 use Rattle.format.specs.Terms.{fromType, fromTerm, toTerm, TypeFits, TermFits}
 use Rattle.format.specs.Book.{unnamedOk, referenceOk, sortOk, sortIs, hasSort, everyField}
 use Rattle.format.specs.Book.{bad-kind, firstBad, rowFault, cellFault, cellsFinding, rootFinding, cellsForm, formFinding}
-use Rattle.format.specs.Book.{count, rootOf, trailerAt, sizeLimit, WellFormedCells, WellFormed, opened}
+use Rattle.format.specs.Book.{count, rootOf, trailerAt, sizeLimit, WellFormedCells, WellFormed, rootTerm}
 use Rattle.format.proofs.Numbers.{unsigned-signed, signed-fits}
 use Rattle.format.proofs.Trees.{term-cells, term-back}
-use Rattle.format.proofs.Opening.{branch-lower, treeAt-grow}
+use Rattle.format.proofs.Unsharing.{fieldTree-lower, treeAt-cell}
 
 -- ---- findings: one test after another
 
@@ -164,25 +164,25 @@ cellFault-says s i = (go (rowOf (cellAt s i .kind)) refl, λ h. rw (h .found) (r
     go none e h = absurd (Option·some-ne-none bad-kind h)
     go (some r) e h = record { row = r; found = e; fields = rowFault-says s i r (cellAt s i) .0 h }
 
--- ---- what a book opens to
+-- ---- what a book decodes to
 
 -- the tree of a type or a term that fits
-abbrev pub Opens : Sort → Tree → Type 0
-Opens type-sort t = (A : Ty) × (fromType A ≡ t) × TypeFits A
-Opens term-sort t = (e : Term) × (fromTerm e ≡ t) × TermFits e
+abbrev pub Decodes : Sort → Tree → Type 0
+Decodes type-sort t = (A : Ty) × (fromType A ≡ t) × TypeFits A
+Decodes term-sort t = (e : Term) × (fromTerm e ≡ t) × TermFits e
 
--- a field of a cell, its reference opened
+-- a field of a cell, unshared
 abbrev pub Holds : Use → Tree → Type 0
 Holds unused t = t ≡ raw 0
 Holds plain t = (x : ℕ) × (t ≡ raw x) × (x < 65536)
-Holds (refers o) t = Opens o t
+Holds (refers o) t = Decodes o t
 
-holds : (s : List ℕ) (i : ℕ) → ((o : Sort) (x : ℕ) → x < i → hasSort s o x ≡ true → Opens o (treeAt s x))
-    → (u : Use) (x : ℕ) → x < 65536 → FieldOk s i u x → Holds u (branch (treeAt s) i u x)
-unfolding branch
-holds s i opens unused x f h = ap raw h
-holds s i opens plain x f h = (x, refl, f)
-holds s i opens (refers o) x f h = rw (branch-lower (treeAt s) i x o (h .0)) (opens o x (h .0) (h .1))
+holds : (s : List ℕ) (i : ℕ) → ((o : Sort) (x : ℕ) → x < i → hasSort s o x ≡ true → Decodes o (treeAt s x))
+    → (u : Use) (x : ℕ) → x < 65536 → FieldOk s i u x → Holds u (fieldTree (treeAt s) i u x)
+unfolding fieldTree
+holds s i decodes unused x f h = ap raw h
+holds s i decodes plain x f h = (x, refl, f)
+holds s i decodes (refers o) x f h = rw (fieldTree-lower (treeAt s) i x o (h .0)) (decodes o x (h .0) (h .1))
 
 -- a label, by its use
 abbrev pub Named : Use → ℕ → Type 0
@@ -206,9 +206,9 @@ pub record Parts (r : Row) : Type 0 where
   pub b : Holds (r .b) tb
   pub c : Holds (r .c) tc
 
--- a cell with this row, its references opened, is a type or a term
+-- a cell with this row, unshared, is a type or a term
 abbrev pub Reads : Row → Type 0
-Reads r = (p : Parts r) → Opens (r .sort) (node (r .kind) (p .label) (p .ta) (p .tb) (p .tc))
+Reads r = (p : Parts r) → Decodes (r .sort) (node (r .kind) (p .label) (p .ta) (p .tb) (p .tc))
 
 infixr 20 _also_
 pub _also_ : {P Q : Type 0} → P → Q → P × Q
@@ -266,22 +266,22 @@ unfolding cellAt
 cell-fits s y i = (y (8 * i + 1), pair-fits s y (8 * i + 2), pair-fits s y (8 * i + 4), pair-fits s y (8 * i + 6))
 
 -- a cell that passes 5 to 8, over lower cells that open, opens
-cell-opens : (s : List ℕ) → IsBytes s → (i : ℕ) → CellOk s i
-    → ((o : Sort) (x : ℕ) → x < i → hasSort s o x ≡ true → Opens o (treeAt s x)) → (o : Sort) → hasSort s o i ≡ true → Opens o (treeAt s i)
-unfolding rowOf grow
-cell-opens s y i k below o e =
+cell-decodes : (s : List ℕ) → IsBytes s → (i : ℕ) → CellOk s i
+    → ((o : Sort) (x : ℕ) → x < i → hasSort s o x ≡ true → Decodes o (treeAt s x)) → (o : Sort) → hasSort s o i ≡ true → Decodes o (treeAt s i)
+unfolding rowOf cellTree
+cell-decodes s y i k below o e =
     let r = k .row in
     let t = cellAt s i in
     let f = cell-fits s y i in
     let v = view Reads table rows (t .kind) r (k .found) in
     let q : r .sort ≡ o = sortIs-says o r .0 (rw (k .found) at e) in
-    rw (treeAt-grow s i, k .found, v .0, ← q)
+    rw (treeAt-cell s i, k .found, v .0, ← q)
     (v .1
     (record {
       label = t .label;
-      ta = branch (treeAt s) i (r .a) (t .a);
-      tb = branch (treeAt s) i (r .b) (t .b);
-      tc = branch (treeAt s) i (r .c) (t .c);
+      ta = fieldTree (treeAt s) i (r .a) (t .a);
+      tb = fieldTree (treeAt s) i (r .b) (t .b);
+      tc = fieldTree (treeAt s) i (r .c) (t .c);
       name = named s i (r .label) (t .label) (f .0) (k .fields .label);
       a = holds s i below (r .a) (t .a) (f .1) (k .fields .a);
       b = holds s i below (r .b) (t .b) (f .2) (k .fields .b);
@@ -289,23 +289,23 @@ cell-opens s y i k below o e =
     }))
 
 -- every cell of a well-formed book is the tree of a type or a term, by its sort
-opens : (s : List ℕ) → IsBytes s → WellFormedCells s → (n i : ℕ) → i < n → i < count s → (o : Sort) → hasSort s o i ≡ true → Opens o (treeAt s i)
-opens s y w zero i h l = absurd (omega arith)
-opens s y w (suc n) i h l =
-    cell-opens s y i (cellFault-says s i .0 (w .sound i l)) (λ o x k e. opens s y w n x (omega arith) (omega arith) o e)
+decodes : (s : List ℕ) → IsBytes s → WellFormedCells s → (n i : ℕ) → i < n → i < count s → (o : Sort) → hasSort s o i ≡ true → Decodes o (treeAt s i)
+decodes s y w zero i h l = absurd (omega arith)
+decodes s y w (suc n) i h l =
+    cell-decodes s y i (cellFault-says s i .0 (w .sound i l)) (λ o x k e. decodes s y w n x (omega arith) (omega arith) o e)
 
-root-term : (s : List ℕ) → IsBytes s → WellFormed s → (e : Term) × (opened s ≡ e) × (fromTerm e ≡ treeAt s (rootOf s)) × TermFits e
-unfolding opened
+root-term : (s : List ℕ) → IsBytes s → WellFormed s → (e : Term) × (rootTerm s ≡ e) × (fromTerm e ≡ treeAt s (rootOf s)) × TermFits e
+unfolding rootTerm
 root-term s y w =
     let r = w .formed .rooted in
-    let t = opens s y (w .formed) (count s) (rootOf s) r r term-sort (w .term) in
+    let t = decodes s y (w .formed) (count s) (rootOf s) r r term-sort (w .term) in
     (t .0, ap toTerm (sym (t .1)) ∙ term-back (t .0) (t .2), t .1, t .2)
 
-pub opened-tree : (s : List ℕ) → IsBytes s → WellFormed s → fromTerm (opened s) ≡ treeAt s (rootOf s)
-opened-tree s b w = let r = root-term s b w in rw (r .1) (r .2)
+pub rootTerm-tree : (s : List ℕ) → IsBytes s → WellFormed s → fromTerm (rootTerm s) ≡ treeAt s (rootOf s)
+rootTerm-tree s b w = let r = root-term s b w in rw (r .1) (r .2)
 
-pub opened-small : (s : List ℕ) → IsBytes s → WellFormed s → size (opened s) ≤ sizeLimit
-opened-small s b w = rw (← term-cells (opened s), opened-tree s b w) (w .small)
+pub rootTerm-small : (s : List ℕ) → IsBytes s → WellFormed s → size (rootTerm s) ≤ sizeLimit
+rootTerm-small s b w = rw (← term-cells (rootTerm s), rootTerm-tree s b w) (w .small)
 
-pub opened-fits : (s : List ℕ) → IsBytes s → WellFormed s → TermFits (opened s)
-opened-fits s b w = let r = root-term s b w in rw (r .1) (r .3)
+pub rootTerm-fits : (s : List ℕ) → IsBytes s → WellFormed s → TermFits (rootTerm s)
+rootTerm-fits s b w = let r = root-term s b w in rw (r .1) (r .3)

@@ -1,5 +1,5 @@
 -- Document 01, "Bytes of a book" and rows 2 to 10 of "Where a book is turned back": the trailer, the tests in their order, what a book
--- opens to, and a tree laid down as a book of its own. Assumes nothing.
+-- decodes to, and a tree encoded as a book of its own. Assumes nothing.
 use Prim.Native.Nat.{ℕ, zero, suc, _+_, _*_, _-_, _/_, _%_, _≤_, _<_}
 use mathlib.Core.Path.{_≡_}
 use mathlib.Core.Bool.{Bool, true, false, not, cond, _&&_}
@@ -10,7 +10,7 @@ use lib.ListN.{length}
 use Rattle.calculus.specs.Syntax.{Ty, Term}
 use Rattle.format.specs.Table.{Sort, type-sort, term-sort, Use, unused, plain, refers, Row, rowOf, useIn}
 use Rattle.format.specs.Cell.{byte, pair, Cell, cellAt}
-use Rattle.format.specs.Tree.{Tree, cells, treeAt, lay}
+use Rattle.format.specs.Tree.{Tree, cells, treeAt, encode}
 use Rattle.format.specs.Terms.{fromType, fromTerm, toTerm}
 
 -- "The limit is 4,095."
@@ -145,7 +145,7 @@ pub record WellFormedCells (s : List ℕ) : Type 0 where
   pub rooted : rootOf s < count s
   pub sound : (i : ℕ) → i < count s → cellFault s i ≡ none
 
--- and no row from 2 to 10: the root is a term of at most 4,095 cells, sharing opened.
+-- and no row from 2 to 10: the root is a term of at most 4,095 cells, unshared.
 pub record WellFormed (s : List ℕ) : Type 0 where
   pub formed : WellFormedCells s
   pub term : hasSort s term-sort (rootOf s) ≡ true
@@ -172,14 +172,14 @@ leadsBy i t (some r) f = lowerOf i (useIn r f) (fieldIn t f)
 abbrev pub leadsTo : ℕ → Cell → ℕ → Option ℕ
 leadsTo i t f = leadsBy i t (rowOf (t .kind)) f
 
--- The cell at the end of a way from cell i, field by field. A field that leads to no lower cell ends the way.
+-- The cell at the end of a path from cell i, field by field. A field that leads to no lower cell ends the path.
 unfoldable pub follow : List ℕ → ℕ → List ℕ → ℕ
 follow s i [] = i
 follow s i (f ∷ p) = elim (leadsTo i (cellAt s i) f) [ none ↦ i | some j ↦ follow s j p ]
 
--- The root of a book, sharing opened.
-unfoldable pub opened : List ℕ → Term
-opened s = toTerm (treeAt s (rootOf s))
+-- The root of a book, unshared: document 01's "sharing opened".
+unfoldable pub rootTerm : List ℕ → Term
+rootTerm s = toTerm (treeAt s (rootOf s))
 
 -- "Trailer: byte 0 is F0 (hex); byte 1 the version, 1; bytes 2–3 the cell count; bytes 4–5 the root cell; bytes 6–7 zero."
 unfoldable pub trailer : ℕ → ℕ → List ℕ
@@ -187,9 +187,9 @@ trailer n r = 0xf0 ∷ 1 ∷ n % 256 ∷ n / 256 ∷ r % 256 ∷ r / 256 ∷ 0 �
 
 -- "A term or type is laid down as a version 1 book of its own, trailer included"
 unfoldable pub book : Tree → List ℕ
-book t = lay 0 t ++ trailer (cells t) (cells t - 1)
+book t = encode 0 t ++ trailer (cells t) (cells t - 1)
 
--- A type laid down,
+-- A type encoded,
 abbrev pub typeBook : Ty → List ℕ
 typeBook A = book (fromType A)
 

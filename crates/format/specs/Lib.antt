@@ -4,4 +4,4 @@ pub mod Tree
 pub mod Terms
 pub mod Book
 pub mod RoundTrip
-pub mod Places
+pub mod Checking

@@ -5,16 +5,16 @@ use Rattle.calculus.specs.Syntax.{Ty, Term}
 use Rattle.format.specs.Cell.{IsBytes}
 use Rattle.format.specs.Tree.{treeAt}
 use Rattle.format.specs.Terms.{toType}
-use Rattle.format.specs.Book.{WellFormedCells, WellFormed, opened, rootOf, typeBook, termBook}
+use Rattle.format.specs.Book.{WellFormedCells, WellFormed, rootTerm, rootOf, typeBook, termBook}
 
--- A term's book passes rows 2 to 10 and opens to the term.
-pub record TermLaid (e : Term) : Type 0 where
+-- A term's book passes rows 2 to 10 and decodes to the term.
+pub record TermRoundTrip (e : Term) : Type 0 where
   pub bytes : IsBytes (termBook e)
   pub well-formed : WellFormed (termBook e)
-  pub opens : opened (termBook e) ≡ e
+  pub decodes : rootTerm (termBook e) ≡ e
 
--- A type's book passes rows 2 to 8 and opens to the type. (A check turns it back by row 9.)
-pub record TypeLaid (A : Ty) : Type 0 where
+-- A type's book passes rows 2 to 8 and decodes to the type. (A check refuses it by row 9.)
+pub record TypeRoundTrip (A : Ty) : Type 0 where
   pub bytes : IsBytes (typeBook A)
   pub well-formed : WellFormedCells (typeBook A)
-  pub opens : toType (treeAt (typeBook A) (rootOf (typeBook A))) ≡ A
+  pub decodes : toType (treeAt (typeBook A) (rootOf (typeBook A))) ≡ A

@@ -9,29 +9,29 @@ use Rattle.format.specs.Cell.{half, signed, unsigned}
 use Rattle.format.specs.Tree.{Tree, raw, node}
 
 -- A field that the kind does not name.
-abbrev none : Tree
-none = raw 0
+abbrev absent : Tree
+absent = raw 0
 
 -- A type's tree: kinds 1 to 5.
 unfoldable pub fromType : Ty → Tree
-fromType int = node 1 0 none none none
-fromType top = node 2 0 none none none
-fromType (arrow A B) = node 3 0 (fromType A) (fromType B) none
-fromType (inter A B) = node 4 0 (fromType A) (fromType B) none
-fromType (field l A) = node 5 l (fromType A) none none
+fromType int = node 1 0 absent absent absent
+fromType top = node 2 0 absent absent absent
+fromType (arrow A B) = node 3 0 (fromType A) (fromType B) absent
+fromType (inter A B) = node 4 0 (fromType A) (fromType B) absent
+fromType (field l A) = node 5 l (fromType A) absent absent
 
 -- A term's tree: kinds 16 to 25.
 unfoldable pub fromTerm : Term → Tree
-fromTerm (var n) = node 16 0 (raw n) none none
-fromTerm (lit z) = node 17 0 none (raw (unsigned half z % 65536)) (raw (unsigned half z / 65536))
-fromTerm unit = node 18 0 none none none
-fromTerm (anno e A) = node 19 0 (fromTerm e) (fromType A) none
-fromTerm (app e f) = node 20 0 (fromTerm e) (fromTerm f) none
+fromTerm (var n) = node 16 0 (raw n) absent absent
+fromTerm (lit z) = node 17 0 absent (raw (unsigned half z % 65536)) (raw (unsigned half z / 65536))
+fromTerm unit = node 18 0 absent absent absent
+fromTerm (anno e A) = node 19 0 (fromTerm e) (fromType A) absent
+fromTerm (app e f) = node 20 0 (fromTerm e) (fromTerm f) absent
 fromTerm (lam e A B) = node 21 0 (fromTerm e) (fromType A) (fromType B)
-fromTerm (merge e f) = node 22 0 (fromTerm e) (fromTerm f) none
-fromTerm (fix e A) = node 23 0 (fromTerm e) (fromType A) none
-fromTerm (rcd l e) = node 24 l (fromTerm e) none none
-fromTerm (proj l e) = node 25 l (fromTerm e) none none
+fromTerm (merge e f) = node 22 0 (fromTerm e) (fromTerm f) absent
+fromTerm (fix e A) = node 23 0 (fromTerm e) (fromType A) absent
+fromTerm (rcd l e) = node 24 l (fromTerm e) absent absent
+fromTerm (proj l e) = node 25 l (fromTerm e) absent absent
 
 -- The number of a field that is no reference.
 unfoldable pub plainOf : Tree → ℕ

@@ -1,2 +1,2 @@
-pub mod Laid
-pub mod Here
+pub mod Encoded
+pub mod InPlace

@@ -1,12 +1,12 @@
-// Laying down: a held tree from cell 0 on, its trailer and the zeros behind it; a buffer of zeros.
+// Encoding: a held tree from cell 0 on, its trailer and the zeros behind it; a buffer of zeros.
 use cells::Cell;
 use cells::write_cell;
-use emission::Laid;
+use emission::Emitted;
 use emission::emit_field;
 use moving::copy;
 ghost use mathlib.Core.Path.{_≡_};
 ghost use lib.ListN.{length, replicate};
-ghost use Rattle.layout.specs.Lays.{LayReady, LaysDown, HereReady, SomeTree, Closes};
+ghost use Rattle.layout.specs.Encoding.{EncodeReady, EncodesTree, InPlaceReady, SomeTree, Closes};
 
 pub fn clear(d: &mut [u8])
     ensures { λ _. ⌜ now (d .exit) ≡ replicate (length (now (d .entry))) 0 ⌝ }
@@ -19,22 +19,22 @@ pub fn clear(d: &mut [u8])
 }
 
 // The tree of a field, for which there is room, from cell 0 on; answers its cells.
-pub fn lay_down(s: &[u8], d: &mut [u8], u: u8, x: usize) -> usize
-    requires { ⌜ LayReady (now s) (now d) u x ⌝ }
-    ensures { λ r. ⌜ LaysDown (now (s .entry)) (now (d .exit)) u x r ⌝ }
+pub fn encode_tree(s: &[u8], d: &mut [u8], u: u8, x: usize) -> usize
+    requires { ⌜ EncodeReady (now s) (now d) u x ⌝ }
+    ensures { λ r. ⌜ EncodesTree (now (s .entry)) (now (d .exit)) u x r ⌝ }
 {
     match emit_field(s, d, u, x, 0) {
-        Laid::Next(n) => n,
-        Laid::Full => 0,
+        Emitted::Next(n) => n,
+        Emitted::Full => 0,
     }
 }
 
 // The tree of a field of w, for which there is room, from cell 0 of w on, by way of s; answers its cells.
-pub fn lay_here(s: &mut [u8], w: &mut [u8], u: u8, x: usize) -> usize
-    requires { ⌜ HereReady (now s) (now w) u x ⌝ }
-    ensures { λ r. ⌜ LaysDown (now (w .entry)) (now (w .exit)) u x r ⌝ }
+pub fn encode_in_place(s: &mut [u8], w: &mut [u8], u: u8, x: usize) -> usize
+    requires { ⌜ InPlaceReady (now s) (now w) u x ⌝ }
+    ensures { λ r. ⌜ EncodesTree (now (w .entry)) (now (w .exit)) u x r ⌝ }
 {
-    let n = lay_down(w, s, u, x);
+    let n = encode_tree(w, s, u, x);
     copy(s, w, 8 * n);
     n
 }

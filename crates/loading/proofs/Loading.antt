@@ -12,11 +12,11 @@ use lib.ListN.{length}
 use lib.Seq.{sets}
 use Rattle.format.specs.Table.{type-sort, term-sort, Use, unused, plain, refers, Row, table, rowOf}
 use Rattle.format.specs.Cell.{IsBytes, Cell, cellAt, cellBytes}
-use Rattle.format.specs.Tree.{Tree, branch, grow, treeAt}
+use Rattle.format.specs.Tree.{Tree, fieldTree, cellTree, treeAt}
 use Rattle.format.specs.Terms.{toType}
 use Rattle.format.specs.Book.{lowerOf, leadsTo}
 use Rattle.format.proofs.Tests.{FieldOk, CellOk, cellFault-says, sortIs-says, cell-fits}
-use Rattle.format.proofs.Opening.{branch-lower, treeAt-grow}
+use Rattle.format.proofs.Unsharing.{fieldTree-lower, treeAt-cell}
 use Rattle.cells.specs.Coded.{CellFits, rowFrom}
 use Rattle.cells.specs.declared.Cell.{Cell as Struct}
 use Rattle.cells.specs.declared.Entry.{Entry}
@@ -26,12 +26,12 @@ use Rattle.loading.specs.Marks.{markBy, MarkReady}
 use Rattle.loading.specs.Loaded.{Loadable, Loaded, LoadsNext}
 use Rattle.loading.proofs.Marking.{Names, marked, small, mark-ready}
 
--- a field, by its use: it holds what it opens to in the book
-held : {b s : List ℕ} {i : ℕ} → Loaded b s i → (u : Use) (x : ℕ) → FieldOk b i u x → HeldField true s i u x (branch (treeAt b) i u x)
-unfolding branch
+-- a field, by its use: it holds what it decodes to in the book
+held : {b s : List ℕ} {i : ℕ} → Loaded b s i → (u : Use) (x : ℕ) → FieldOk b i u x → HeldField true s i u x (fieldTree (treeAt b) i u x)
+unfolding fieldTree
 held l unused x h = rw h f-unused
 held l plain x h = f-plain
-held {b} {i = i} l (refers o) x h = rw (branch-lower (treeAt b) i x o (h .0)) (below (l .held x (h .0) o (h .1)) (h .0))
+held {b} {i = i} l (refers o) x h = rw (fieldTree-lower (treeAt b) i x o (h .0)) (below (l .held x (h .0) o (h .1)) (h .0))
 
 label-kept : (b : List ℕ) (i : ℕ) (u : Use) (x : ℕ) → FieldOk b i u x → x ≡ labelBy u x
 label-kept b i unused x h = h
@@ -40,15 +40,15 @@ label-kept b i (refers o) x h = refl
 
 -- the tree of a cell that passes rows 5 to 8, by its row
 fields : {b s : List ℕ} {i : ℕ} (k : CellOk b i) → Loaded b s i → Fields true s i (cellAt b i .kind) (k .row) (cellAt b i) (treeAt b i)
-unfolding grow
+unfolding cellTree
 fields {b} {s} {i} k l =
     let r = k .row in
     let t = cellAt b i in
     record {
-      a = branch (treeAt b) i (r .a) (t .a);
-      b = branch (treeAt b) i (r .b) (t .b);
-      c = branch (treeAt b) i (r .c) (t .c);
-      is = rw (← label-kept b i (r .label) (t .label) (k .fields .label), treeAt-grow b i, k .found);
+      a = fieldTree (treeAt b) i (r .a) (t .a);
+      b = fieldTree (treeAt b) i (r .b) (t .b);
+      c = fieldTree (treeAt b) i (r .c) (t .c);
+      is = rw (← label-kept b i (r .label) (t .label) (k .fields .label), treeAt-cell b i, k .found);
       held-a = held l (r .a) (t .a) (k .fields .a);
       held-b = held l (r .b) (t .b) (k .fields .b);
       held-c = held l (r .c) (t .c) (k .fields .c);

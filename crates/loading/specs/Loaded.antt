@@ -18,7 +18,7 @@ pub record Loadable (b s : List ℕ) (n : ℕ) : Type 0 where
   pub sound : (i : ℕ) → i < n → cellFault b i ≡ none
   pub long : length s ≡ 65536
 
--- Each cell holds the tree that it opens to in the book, marked, and leads where it leads there.
+-- Each cell holds the tree that it decodes to in the book, marked, and leads where it leads there.
 pub record Loaded (b s : List ℕ) (n : ℕ) : Type 0 where
   pub long : length s ≡ 65536
   pub held : (i : ℕ) → i < n → (o : Sort) → hasSort b o i ≡ true → HeldField true s (suc i) (refers o) i (treeAt b i)

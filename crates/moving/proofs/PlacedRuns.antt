@@ -9,7 +9,7 @@ use mathlib.Core.Option.{some}
 use Rattle.format.specs.Table.{Sort, type-sort, term-sort, Use, refers, Row, rowOf}
 use Rattle.format.specs.Cell.{Cell, cellAt}
 use Rattle.format.specs.Tree.{Tree, raw, node}
-use Rattle.format.proofs.Laying.{Good, leaf, cell}
+use Rattle.format.proofs.Encoding.{Good, leaf, cell}
 use Rattle.cells.specs.Held.{MarkIs, Fields}
 use Rattle.cells.proofs.Held.{in-range}
 use Rattle.loading.proofs.Marking.{Names, marked}

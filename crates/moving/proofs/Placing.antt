@@ -15,7 +15,7 @@ use Rattle.cells.specs.declared.Cell.{Cell as Struct}
 use Rattle.cells.proofs.Held.{written}
 use Rattle.loading.specs.Marks.{markBy, MarkReady}
 use Rattle.loading.proofs.Marking.{mark-fits, kept-mark}
-use Rattle.moving.specs.Moves.{rebase, Stands, Follows, Rebased, PlacedCell, Wrote, OfRun, CellReady, PlaceReady, Places, PlaceCellReady, PlacesCell}
+use Rattle.moving.specs.Moves.{rebase, FieldIs, Follows, Rebased, PlacedCell, Wrote, OfRun, CellReady, PlaceReady, Places, PlaceCellReady, PlacesCell}
 use Rattle.moving.proofs.Rebasing.{of-run-wider, of-type, lower}
 use Rattle.moving.proofs.Writing.{wrote}
 
@@ -70,7 +70,7 @@ module _ {s w : List ℕ} {x y i : ℕ} {t : Cell} (p : PlaceCellReady s w x y i
         f : Follows t x y u
         f = r .follows
 
-        third : NewThird w u c → (o : Row) → rowOf (t .kind) ≡ some o → Stands (o .c) c (rebase x y (o .c) (t .c))
+        third : NewThird w u c → (o : Row) → rowOf (t .kind) ≡ some o → FieldIs (o .c) c (rebase x y (o .c) (t .c))
         third (of-mark l q) o k = let v = of-type (t .kind) o k in rw (v .1 .third (rw (f .kind, v .0) at l)) Prim.tt
         third (of-field l q) o k = rw q (f .third o k)
 

@@ -10,7 +10,7 @@ use Rattle.cells.specs.Coded.{CellFits, useOf, rowFrom}
 use Rattle.cells.specs.declared.Cell.{Cell as Struct}
 use Rattle.cells.specs.declared.Entry.{Entry}
 use Rattle.cells.proofs.Rows.{uses}
-use Rattle.moving.specs.Moves.{rebase, Stands, Rebased, Between, OfRun, RebaseReady, CellReady}
+use Rattle.moving.specs.Moves.{rebase, FieldIs, Rebased, Between, OfRun, RebaseReady, CellReady}
 
 -- ---- a field
 
@@ -36,13 +36,13 @@ rebase-fits unused n x y p h l = h
 rebase-fits plain n x y p h l = h
 rebase-fits (refers o) n x y p h l = omega (arith, p .0, p .1)
 
-stands : (u : Use) {n m : ℕ} → n ≡ m → Stands u n m
+stands : (u : Use) {n m : ℕ} → n ≡ m → FieldIs u n m
 stands unused e = Prim.tt
 stands plain e = e
 stands (refers o) e = e
 
 -- a reference that has moved lies below its cell
-pub lower : (u : Use) (x y e n m : ℕ) → u ≡ refers type-sort → Between u x e n → Stands u m (rebase x y u n) → m < e - x + y
+pub lower : (u : Use) (x y e n m : ℕ) → u ≡ refers type-sort → Between u x e n → FieldIs u m (rebase x y u n) → m < e - x + y
 lower unused x y e n m q b s = absurd (let z : _≡_ {A = ℕ} 0 1 = cc in omega arith)
 lower plain x y e n m q b s = absurd (let z : _≡_ {A = ℕ} 0 1 = cc in omega arith)
 lower (refers o) x y e n m q b s = omega (arith, b .0, b .1, s)

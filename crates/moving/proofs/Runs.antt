@@ -14,7 +14,7 @@ use Rattle.cells.specs.Held.{IsCell, Marked}
 use Rattle.cells.proofs.Held.{in-range}
 use Rattle.emission.specs.Runs.{Run, r-unused, r-plain, r-refers}
 use Rattle.emission.proofs.Runs.{grows}
-use Rattle.moving.specs.Moves.{rebase, Stands, Moved, Between, OfRun, ShiftReady, Shifts, PlaceReady}
+use Rattle.moving.specs.Moves.{rebase, FieldIs, Moved, Between, OfRun, ShiftReady, Shifts, PlaceReady}
 
 -- ---- a run's cells
 
@@ -62,7 +62,7 @@ place-ready w y a b c d r = record { inside-from = a; long = b; low-from = c; in
 
 -- ---- a run that has moved
 
-pub renumber : {q : Bool} {s : List ℕ} {x n m e : ℕ} {u : Use} {t : Tree} → Stands u m n → Run q s x u n t e → Run q s x u m t e
+pub renumber : {q : Bool} {s : List ℕ} {x n m e : ℕ} {u : Use} {t : Tree} → FieldIs u m n → Run q s x u n t e → Run q s x u m t e
 renumber v r-unused = r-unused
 renumber v r-plain = rw v r-plain
 renumber v (r-refers p k m f g h z d) = rw v (r-refers p k m f g h z d)

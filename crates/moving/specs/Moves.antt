@@ -15,19 +15,19 @@ rebase x y unused n = n
 rebase x y plain n = n
 rebase x y (refers o) n = n - x + y
 
--- A field of this use stands as told; of one that the row does not name nothing is said.
-abbrev pub Stands : Use → ℕ → ℕ → Type 0
-Stands unused n m = Unit {0}
-Stands plain n m = n ≡ m
-Stands (refers o) n m = n ≡ m
+-- A field of this use has the number m; of one that the row does not name nothing is said.
+abbrev pub FieldIs : Use → ℕ → ℕ → Type 0
+FieldIs unused n m = Unit {0}
+FieldIs plain n m = n ≡ m
+FieldIs (refers o) n m = n ≡ m
 
 -- The cell u has the kind, the label and the references of t, of a run that moves from x to y.
 pub record Follows (t : Cell) (x y : ℕ) (u : Cell) : Type 0 where
   pub kind : u .kind ≡ t .kind
   pub label : u .label ≡ t .label
-  pub first : (r : Row) → rowOf (t .kind) ≡ some r → Stands (r .a) (u .a) (rebase x y (r .a) (t .a))
-  pub second : (r : Row) → rowOf (t .kind) ≡ some r → Stands (r .b) (u .b) (rebase x y (r .b) (t .b))
-  pub third : (r : Row) → rowOf (t .kind) ≡ some r → Stands (r .c) (u .c) (rebase x y (r .c) (t .c))
+  pub first : (r : Row) → rowOf (t .kind) ≡ some r → FieldIs (r .a) (u .a) (rebase x y (r .a) (t .a))
+  pub second : (r : Row) → rowOf (t .kind) ≡ some r → FieldIs (r .b) (u .b) (rebase x y (r .b) (t .b))
+  pub third : (r : Row) → rowOf (t .kind) ≡ some r → FieldIs (r .c) (u .c) (rebase x y (r .c) (t .c))
 
 -- The cell u follows t, and has its mark.
 pub record Rebased (t : Cell) (x y : ℕ) (u : Cell) : Type 0 where

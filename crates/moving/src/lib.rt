@@ -1,4 +1,4 @@
-// Runs of cells moved within a buffer or from one to another: the references of each cell go with it. A run is a tree laid down, children
+// Runs of cells moved within a buffer or from one to another: the references of each cell go with it. A run is a tree encoded, children
 // first and root last; every reference of its cells stays within it.
 use cells::Cell;
 use cells::entry_of;
@@ -77,7 +77,7 @@ fn place_cell(s: &[u8], w: &mut [u8], x: usize, y: usize, i: usize)
     );
 }
 
-// The n cells of a run laid down from x on in s come to y in w, types marked.
+// The n cells of a run encoded from x on in s come to y in w, types marked.
 pub fn place(s: &[u8], w: &mut [u8], x: usize, y: usize, n: usize)
     requires { ⌜ PlaceReady (now s) (now w) x y n ⌝ }
     ensures { λ _. ⌜ Places (now (s .entry)) (now (w .entry)) (now (w .exit)) x y n ⌝ }

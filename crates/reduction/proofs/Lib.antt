@@ -1,4 +1,4 @@
 pub mod Sources
-pub mod Puts
+pub mod Substitution
 pub mod Nexts
-pub mod Opens
+pub mod Instances

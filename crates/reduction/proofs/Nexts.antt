@@ -7,7 +7,7 @@ use mathlib.Core.Bool.{true}
 use mathlib.Core.Option.{Option, none, some, Option·map, Option·some-injective, Option·none-ne-some}
 use mathlib.Core.List.{List}
 use lib.ListN.{length}
-use Rattle.calculus.specs.Syntax.{Ty, Term, unit, anno, app, fix, put}
+use Rattle.calculus.specs.Syntax.{Ty, Term, unit, anno, app, fix, substitute}
 use Rattle.calculus.specs.Decide.{value?}
 use Rattle.calculus.specs.Evaluate.{cast, apply, next}
 use Rattle.format.specs.Cell.{Cell, cellAt}
@@ -43,9 +43,9 @@ module _ {g : Term} where
   unfolding next
   app-applies e f v w h = rw (v, w, next) at h
 
-  pub fix-opens : (e : Term) (A : Ty) → next (fix e A) ≡ some g → g ≡ anno (put 0 (fix e A) e) A
+  pub fix-instance : (e : Term) (A : Ty) → next (fix e A) ≡ some g → g ≡ anno (substitute 0 (fix e A) e) A
   unfolding next
-  fix-opens e A h = sym (Option·some-injective _ g h)
+  fix-instance e A h = sym (Option·some-injective _ g h)
 
 -- ---- a redex, by its kind
 
@@ -64,11 +64,11 @@ pub record Read (s : List ℕ) (i : ℕ) (g : Term) : Type 0 where
   pub type : Ty
   pub holds-value : RunsTerm s (cellAt s i .a) value
   pub holds-type : RunsType s (cellAt s i .b) type
-  pub reads : cast type value ≡ some g
+  pub casts : cast type value ≡ some g
 
 pub anno-redex : {s : List ℕ} {i : ℕ} {e g : Term} → Redex s i e → next e ≡ some g → cellAt s i .kind ≡ 19 → Read s i g
 anno-redex (at-anno {v = v} {A = A} p _ _ d h k) n _ =
-    record { value = v; type = A; holds-value = rw (p .is) h; holds-type = rw (p .is) k; reads = anno-reads v A d n }
+    record { value = v; type = A; holds-value = rw (p .is) h; holds-type = rw (p .is) k; casts = anno-reads v A d n }
 anno-redex (at-app p _ _ _ _ _ _) n o = absurd (omega (arith, kind-of p, o))
 anno-redex (at-fix r) n o = absurd (omega (arith, fix-kind (holds-term r), o))
 
@@ -110,14 +110,14 @@ pub record Applied (s : List ℕ) (j : ℕ) (t : Cell) (v g : Term) : Type 0 whe
   pub body : Term
   pub input : Ty
   pub output : Ty
-  pub reading : Term
+  pub reduct : Term
   pub lower : t .a < j
   pub input-lower : t .b < j
   pub holds-body : RunsTerm s (t .a) body
   pub holds-input : RunsType s (t .b) input
   pub holds-output : RunsType s (t .c) output
-  pub reads : cast input v ≡ some reading
-  pub is : g ≡ anno (put 0 reading body) output
+  pub casts : cast input v ≡ some reduct
+  pub is : g ≡ anno (substitute 0 reduct body) output
 
 pub applied : {s : List ℕ} {j : ℕ} {t : Cell} {e v g : Term} → t ≡ cellAt s j → RunsTerm s j e → (t .kind ≡ 18 → ⊥) → apply e v ≡ some g
     → Applied s j t v g
@@ -126,18 +126,18 @@ applied {s} {j} {t} {e} {v} c r n h =
     elim (ℕ-discrete (cellAt s j .kind) 21) [
       | yes k ↦
           let w = lam-at r k in
-          let a = within-some (λ x. anno (put 0 x (w .body)) (w .output)) (cast (w .input) v) (rw (w .is) at h) in
+          let a = within-some (λ x. anno (substitute 0 x (w .body)) (w .output)) (cast (w .input) v) (rw (w .is) at h) in
           rw c record {
             body = w .body;
             input = w .input;
             output = w .output;
-            reading = a .to;
+            reduct = a .to;
             lower = w .body-lower;
             input-lower = w .input-lower;
             holds-body = w .holds-body;
             holds-input = w .holds-input;
             holds-output = w .holds-output;
-            reads = a .answers;
+            casts = a .answers;
             is = a .is;
           }
       | no u ↦

@@ -1,4 +1,4 @@
--- What a redex became, laid down in the other buffer, comes to its place; or the whole successor has no room. Assumes nothing.
+-- What a redex became, encoded in the other buffer, comes to its place; or the whole successor has no room. Assumes nothing.
 use Prim.Native.Nat.{ℕ, suc, _+_, _*_, _-_, _≤_, _<_}
 use native.Mathlib.Decide.{decLe}
 use native.Mathlib.Omega.{arith}
@@ -20,18 +20,18 @@ use Rattle.calculus.proofs.Soundness.{value-no-step}
 use Rattle.calculus.proofs.Evaluation.{next-sound}
 use Rattle.format.specs.Table.{term-sort, refers, rowOf, rowIn, table}
 use Rattle.format.specs.Cell.{Cell, cellAt}
-use Rattle.format.specs.Tree.{kindIn, cells, lay}
+use Rattle.format.specs.Tree.{kindIn, cells, encode}
 use Rattle.format.specs.Terms.{fromTerm, TermFits}
 use Rattle.format.specs.Book.{sizeLimit}
 use Rattle.format.proofs.Trees.{term-cells}
-use Rattle.format.proofs.Laying.{Part, length-lay, root-last}
+use Rattle.format.proofs.Encoding.{Part, length-encode, root-last}
 use Rattle.format.proofs.RoundTrip.{term-good}
 use Rattle.emission.specs.Emits.{Emits}
 use Rattle.emission.specs.Runs.{Run}
-use Rattle.emission.specs.declared.Laid.{Laid}
-use Rattle.emission.specs.declared.Laid.the-variants as Out
+use Rattle.emission.specs.declared.Emitted.{Emitted}
+use Rattle.emission.specs.declared.Emitted.the-variants as Out
 use Rattle.emission.proofs.Runs.{grows, parts, run-kind}
-use Rattle.emission.proofs.LaidRuns.{laid-run}
+use Rattle.emission.proofs.EncodedRuns.{encoded-run}
 use Rattle.moving.specs.Moves.{Kept, PlaceReady, Places}
 use Rattle.moving.proofs.Runs.{place-ready}
 use Rattle.moving.proofs.PlacedRuns.{run-placed}
@@ -39,13 +39,13 @@ use Rattle.reduction.specs.Steps as Reduction
 use Rattle.running.specs.Waiting.{Waits, around}
 use Rattle.running.specs.Contexts.{Around, whole, frames}
 use Rattle.running.specs.Places.{RedexParts, of-anno, of-app, of-fix, of-proj, Standing, Runnable}
-use Rattle.running.specs.Places.{HereBy, h-became, h-elsewhere, ReadsHere, ContractingAnno}
-use Rattle.running.specs.Places.{Becomes, Laid as LaidDown, Installing, Installs, Emitting, ContractsTo, c-to, c-full, Contracts}
+use Rattle.running.specs.Places.{InPlaceBy, h-became, h-elsewhere, CastsInPlace, ContractingAnno}
+use Rattle.running.specs.Places.{Becomes, ContractumAt, Installing, Installs, Emitting, ContractsTo, c-to, c-full, Contracts}
 use Rattle.running.specs.declared.Place.{Place}
 use Rattle.running.specs.declared.Focus.{Focus}
 use Rattle.running.specs.declared.Focus.the-variants.{Ahead, Done, Redex}
-use Rattle.running.specs.declared.Here.{Here}
-use Rattle.running.specs.declared.Here.the-variants.{Became, Elsewhere}
+use Rattle.running.specs.declared.InPlace.{InPlace}
+use Rattle.running.specs.declared.InPlace.the-variants.{Became, Elsewhere}
 use Rattle.running.specs.declared.Contracted.{Contracted}
 use Rattle.running.specs.declared.Contracted.the-variants.{To, Full}
 use Rattle.running.proofs.Contexts.{Inside, next-inside, next-whole}
@@ -66,17 +66,17 @@ anno-low r k-anno =
 
 module _ {s w : List ℕ} {p : Place} {kind m end : ℕ} (i : Installing s w p kind m end) where
   pub ordered : m ≤ end
-  ordered = omega (arith, grows (i .laid .run))
+  ordered = omega (arith, grows (i .contractum .run))
 
   -- it ends long before what is to come
   pub far : p .start + (end - m) + 4097 ≤ suc (p .root)
   far = omega (arith, i .around, i .small, ordered)
 
   pub root-low : suc (p .root) ≤ 8192
-  root-low = waits-right (i .laid .waits)
+  root-low = waits-right (i .contractum .waits)
 
   pub last-some : 1 ≤ end
-  last-some = omega (arith, ends (i .laid .run))
+  last-some = omega (arith, ends (i .contractum .run))
 
   pub last-within : 8 * (end - 1) + 8 ≤ length s
   last-within = omega (arith, last-some, i .small, i .long)
@@ -84,17 +84,17 @@ module _ {s w : List ℕ} {p : Place} {kind m end : ℕ} (i : Installing s w p k
   -- what an annotation refers to
   pub inside-within : {t : Cell} {a : ℕ} → t ≡ cellAt s (end - 1) → t .kind ≡ 19 → a ≡ t .a → 8 * a + 8 ≤ length s
   inside-within e k o =
-      let l = anno-low (i .laid .run) (term-kind (i .term) (i .laid .run) (kind-at e k)) in
+      let l = anno-low (i .contractum .run) (term-kind (i .term) (i .contractum .run) (kind-at e k)) in
       omega (arith, o, l, ap (λ (c : Cell). c .a) e, i .small, i .long)
 
-  cut : {K : List Around} {h : Term} → LaidDown s w p kind m end K h → Run false s m (refers term-sort) (end - 1) (fromTerm h) (m + (end - m))
+  cut : {K : List Around} {h : Term} → ContractumAt s w p kind m end K h → Run false s m (refers term-sort) (end - 1) (fromTerm h) (m + (end - m))
   cut b = at-run refl refl (omega (arith, ordered)) (b .run)
 
   pub place-left : PlaceReady s w m (p .start) (end - m)
-  place-left = place-ready w (p .start) (omega (arith, ordered, i .small, i .long)) (i .buffer) (omega (arith, ordered, i .small)) (omega (arith, far, root-low)) (cut (i .laid))
+  place-left = place-ready w (p .start) (omega (arith, ordered, i .small, i .long)) (i .buffer) (omega (arith, ordered, i .small)) (omega (arith, far, root-low)) (cut (i .contractum))
 
   pub place-right : PlaceReady s w m (p .root + 1 - (end - m)) (end - m)
-  place-right = place-ready w (p .root + 1 - (end - m)) (omega (arith, ordered, i .small, i .long)) (i .buffer) (omega (arith, ordered, i .small)) (omega (arith, far, root-low)) (cut (i .laid))
+  place-right = place-ready w (p .root + 1 - (end - m)) (omega (arith, ordered, i .small, i .long)) (i .buffer) (omega (arith, ordered, i .small)) (omega (arith, far, root-low)) (cut (i .contractum))
 
   module _ {v : List ℕ} where
     -- the cells around it are as they were
@@ -139,7 +139,7 @@ module _ {s w : List ℕ} {p : Place} {kind m end : ℕ} (i : Installing s w p k
                 is = refl;
                 proper = b .proper;
                 at = record {
-                  begins = refl;
+                  starts = refl;
                   run = at-run refl (omega (arith, ends (b .run), last (b .run), ordered, far)) (omega (arith, far)) (run-placed x (term-good h (b .fits)) (cut b));
                   waits = around-kept K (x .kept) (omega (arith, far)) (omega (arith, far)) (b .waits);
                   apart = omega (arith, far);
@@ -160,12 +160,12 @@ part-set s {t} m x h e =
     }
 
 -- a term that was emitted is a run
-pub emitted-run : (s : List ℕ) {t : List ℕ} (m : ℕ) (h : Term) → TermFits h → 32768 ≤ length s → m + cells (fromTerm h) ≤ sizeLimit → t ≡ sets s (8 * m) (lay m (fromTerm h)) →
+pub emitted-run : (s : List ℕ) {t : List ℕ} (m : ℕ) (h : Term) → TermFits h → 32768 ≤ length s → m + cells (fromTerm h) ≤ sizeLimit → t ≡ sets s (8 * m) (encode m (fromTerm h)) →
     Run false t m (refers term-sort) (m + cells (fromTerm h) - 1) (fromTerm h) (m + cells (fromTerm h))
 emitted-run s {t} m h f n l e =
     let g = term-good h f in
-    let z = length-lay m (fromTerm h) in
-    at-run refl (omega (arith, root-last m g)) refl (laid-run m g (part-set s m (lay m (fromTerm h)) (omega (arith, z, l, n)) e))
+    let z = length-encode m (fromTerm h) in
+    at-run refl (omega (arith, root-last m g)) refl (encoded-run m g (part-set s m (encode m (fromTerm h)) (omega (arith, z, l, n)) e))
 
 -- an annotated value becomes a value
 anno-value : {v h : Term} {A : Ty} → value? v ≡ true → Step (anno v A) h → value? h ≡ true
@@ -191,14 +191,14 @@ module _ {w : List ℕ} (p : Place) {e : Term} (s : Standing w (Redex p) e) (r :
   redex-of (anno v A) f (of-anno {a = a} {b = b} c x y z) k =
       let q = redex-range (s .at) in
       Reduction.at-anno c (omega (arith, ends y, q .apart, q .right)) (omega (arith, ends z)) x
-      (record { begin = p .start; run = at-run refl refl (ends y) y; fits = f .0 })
-      (record { begin = p .right; run = at-run refl refl (ends z) z })
+      (record { start = p .start; run = at-run refl refl (ends y) y; fits = f .0 })
+      (record { start = p .right; run = at-run refl refl (ends z) z })
   redex-of (app v u) f (of-app c x y a b i) k =
       let q = redex-range (s .at) in
       Reduction.at-app c (omega (arith, ends a, grows b, q .apart, q .right)) (omega (arith, ends b, q .apart, q .right)) x y
-      (record { begin = p .start; run = at-run refl refl (ends a) a; fits = f .0 })
-      (record { begin = _; run = at-run refl refl (ends b) b; fits = f .1 })
-  redex-of (fix g A) f (of-fix i x) k = Reduction.at-fix (record { begin = p .right; run = x; fits = f })
+      (record { start = p .start; run = at-run refl refl (ends a) a; fits = f .0 })
+      (record { start = _; run = at-run refl refl (ends b) b; fits = f .1 })
+  redex-of (fix g A) f (of-fix i x) k = Reduction.at-fix (record { start = p .right; run = x; fits = f })
   redex-of (proj l v) f (of-proj c x y i) k = absurd (k (ap (λ (q : Cell). q .kind) (c .is)))
 
   pub redex-at : (cellAt w (p .root) .kind ≡ 25 → ⊥) → Reduction.Redex w (p .root) (s .focus)
@@ -246,8 +246,8 @@ emit-ready {p = p} d =
     }
 
 -- the two answers of emission
-module _ {s s′ w : List ℕ} {p : Place} {t : Cell} (d : Emitting s w p t) {o : Laid}
-    (x : Reduction.Contracts w s s′ (p .root) (p .start + 8191 - p .root) o) where
+module _ {s s′ w : List ℕ} {p : Place} {t : Cell} (d : Emitting s w p t) {o : Emitted}
+    (x : Reduction.EmitsContractum w s s′ (p .root) (p .start + 8191 - p .root) o) where
   abbrev m : ℕ
   m = p .start + 8191 - p .root
 
@@ -266,13 +266,13 @@ module _ {s s′ w : List ℕ} {p : Place} {t : Cell} (d : Emitting s w p t) {o 
 
   module _ {end : ℕ} (q : o ≡ Out.Next end) where
     became-after : {e g : Term} (st : Standing w (Redex p) e) (r : Runnable e) (n : next e ≡ some g) →
-        ((end ≡ m + cells (fromTerm (within-of p st r n .to))) × (end ≤ sizeLimit) × LaidDown s′ w p (t .kind) m end (st .around) (within-of p st r n .to))
+        ((end ≡ m + cells (fromTerm (within-of p st r n .to))) × (end ≤ sizeLimit) × ContractumAt s′ w p (t .kind) m end (st .around) (within-of p st r n .to))
     became-after st r n = by (decLe (m + cells (fromTerm h)) sizeLimit)
       where
         h : Term
         h = within-of p st r n .to
 
-        by : Dec (m + cells (fromTerm h) ≤ sizeLimit) → (end ≡ m + cells (fromTerm h)) × (end ≤ sizeLimit) × LaidDown s′ w p (t .kind) m end (st .around) h
+        by : Dec (m + cells (fromTerm h) ≤ sizeLimit) → (end ≡ m + cells (fromTerm h)) × (end ≤ sizeLimit) × ContractumAt s′ w p (t .kind) m end (st .around) h
         by (yes l) =
             let a = emits-after st r n .fits l in
             let z : end ≡ m + cells (fromTerm h) = cc in
@@ -304,7 +304,7 @@ module _ {s s′ w : List ℕ} {p : Place} {t : Cell} (d : Emitting s w p t) {o 
           small = b .1;
           within = st .around;
           term = within-of p st (y .runnable) n .to;
-          laid = b .2;
+          contractum = b .2;
         })
 
     pub contracts-next : {v : List ℕ} {y : Focus} → Installs s′ w v p (t .kind) m end y → Contracts w v p (To y)
@@ -316,30 +316,30 @@ module _ {s s′ w : List ℕ} {p : Place} {t : Cell} (d : Emitting s w p t) {o 
             c-to (omega (arith, b .0, b .1, size-after p st r n)) refl
             (subst (Standing v y) (sym (within-of p st r n .is)) (z .says (st .around) (within-of p st r n .to) (b .2)))
 
-pub contracts-here : {w v : List ℕ} {p : Place} {y : Focus} → Becomes w v p y → Contracts w v p (To y)
-contracts-here x = record { says = λ e g st r n. let a = x .says e g st r n in c-to (omega (arith, a .1, r .small)) refl (a .0) }
+pub contracts-in-place : {w v : List ℕ} {p : Place} {y : Focus} → Becomes w v p y → Contracts w v p (To y)
+contracts-in-place x = record { says = λ e g st r n. let a = x .says e g st r n in c-to (omega (arith, a .1, r .small)) refl (a .0) }
 
 -- ---- an annotated value, in place or not
 
-module _ {w v : List ℕ} {p : Place} {r : Here} (h : ReadsHere w v p r) where
+module _ {w v : List ℕ} {p : Place} {r : InPlace} (h : CastsInPlace w v p r) where
   pub became-is : {x : Focus} → r ≡ Became x → Contracts w v p (To x)
   became-is {x} q = go (h .says)
     where
-      go : HereBy w v p r → Contracts w v p (To x)
-      go (h-became {x = y} e b) = let i : y ≡ x = cc in subst (λ (z : Focus). Contracts w v p (To z)) i (contracts-here b)
+      go : InPlaceBy w v p r → Contracts w v p (To x)
+      go (h-became {x = y} e b) = let i : y ≡ x = cc in subst (λ (z : Focus). Contracts w v p (To z)) i (contracts-in-place b)
       go (h-elsewhere e b) = let z : _≡_ {A = ℕ} 0 1 = cc in absurd (omega arith)
 
   same : r ≡ Elsewhere → v ≡ w
   same q = go (h .says)
     where
-      go : HereBy w v p r → v ≡ w
+      go : InPlaceBy w v p r → v ≡ w
       go (h-became e b) = let z : _≡_ {A = ℕ} 0 1 = cc in absurd (omega arith)
       go (h-elsewhere e b) = b
 
   pub still-contracts : {u : List ℕ} {o : Contracted} → r ≡ Elsewhere → Contracts v u p o → Contracts w u p o
   still-contracts {u} {o} q c = subst (λ (z : List ℕ). Contracts z u p o) (same q) c
 
-pub still-emitting : {s w v : List ℕ} {p : Place} {t : Cell} {r : Here} → ContractingAnno s w p t → ReadsHere w v p r → r ≡ Elsewhere → Emitting s v p t
+pub still-emitting : {s w v : List ℕ} {p : Place} {t : Cell} {r : InPlace} → ContractingAnno s w p t → CastsInPlace w v p r → r ≡ Elsewhere → Emitting s v p t
 still-emitting {s} {w} {v} {p} {t} a h q =
     subst (λ (z : List ℕ). Emitting s z p t) (sym (same h q))
     (record { contracting = a .contracting; cell = a .cell; kind = λ k. absurd (omega (arith, k, a .kind)) })

@@ -18,7 +18,7 @@ use Rattle.emission.specs.Runs.{Run}
 use Rattle.emission.proofs.Runs.{Parts, parts, run-kind}
 use Rattle.moving.specs.Moves.{Wrote}
 use Rattle.running.specs.Waiting.{Frame, first, Waits}
-use Rattle.running.specs.Contexts.{Around, anno-of, app-left, merge-left, rcd-of, proj-of, within1, Proper, frame, frames}
+use Rattle.running.specs.Contexts.{Around, anno-of, app-left, merge-left, rcd-of, proj-of, plugTerm, Proper, frame, frames}
 use Rattle.running.specs.Places.{IsAhead, IsRedex, of-fix}
 use Rattle.running.specs.declared.Place.{Place}
 use Rattle.running.proofs.Going.{descends}
@@ -68,7 +68,7 @@ value-lam k-lam = refl
 
 -- a fixpoint is a redex as it stands
 pub enters-fix : {w : List ℕ} {p : Place} {K : List Around} {f : Term} → IsAhead w p K f → Kind 23 f → IsRedex w p K f
-enters-fix a k-fix = record { parts = of-fix (a .begins) (a .run); waits = a .waits; apart = omega (arith, a .begins, a .apart) }
+enters-fix a k-fix = record { parts = of-fix (a .starts) (a .run); waits = a .waits; apart = omega (arith, a .starts, a .apart) }
 
 -- the place below: its first part
 abbrev below : Place → ℕ → Place
@@ -78,7 +78,7 @@ below p a = record { left = p .left; start = p .start; right = p .right; root = 
 pub record Descends (v : List ℕ) (p : Place) (K : List Around) (f : Term) (a : ℕ) : Type 0 where
   pub around : Around
   pub part : Term
-  pub is : f ≡ within1 around part
+  pub is : f ≡ plugTerm around part
   pub proper : Proper around
   pub ahead : IsAhead v (below p a) (around ∷ K) part
 
@@ -90,7 +90,7 @@ module _ {w v : List ℕ} (p : Place) {K : List Around} (d : Wrote w v (p .root)
   -- the cell of a term that steps in its first part waits, whatever its kind
   waits-for : {f : Term} {k m : ℕ} {g h : Tree} {r : Row} (F : Around) (x : Term) (t : Cell) → IsAhead w p K f → frame F ≡ first k m g h → rowOf k ≡ some r →
       r .a ≡ refers term-sort → r .c ≡ unused → Proper F → Parts true w (p .right) (p .root) (suc (p .root)) k m (fromTerm x) g h r → t ≡ cellAt w (p .root) →
-      IsCell v (p .root) (t .kind) (t .label) (p .up) (t .b) 0 → Descends v p K (within1 F x) (t .a)
+      IsCell v (p .root) (t .kind) (t .label) (p .up) (t .b) 0 → Descends v p K (plugTerm F x) (t .a)
   unfolding frames
   waits-for {k = k} F x t o i n one two f q e c =
       let s : t ≡ record { kind = k; label = q .l; a = q .a; b = q .b; c = q .c } = e ∙ q .cell .is in
@@ -101,13 +101,13 @@ module _ {w v : List ℕ} (p : Place) {K : List Around} (d : Wrote w v (p .root)
         part = x;
         is = refl;
         proper = f;
-        ahead = record { begins = o .begins; run = y .run; waits = subst (λ (G : Frame). Waits v (p .root) (p .start) (suc (q .a)) (G ∷ frames K)) (sym i) (y .waits); apart = y .apart };
+        ahead = record { starts = o .starts; run = y .run; waits = subst (λ (G : Frame). Waits v (p .root) (p .start) (suc (q .a)) (G ∷ frames K)) (sym i) (y .waits); apart = y .apart };
       })
 
   -- the cell t of the focus waits
   pub enters-part : (f : Term) (t : Cell) → IsAhead w p K f → t ≡ cellAt w (p .root) → IsCell v (p .root) (t .kind) (t .label) (p .up) (t .b) 0 → Steps (kindOf term-sort f) →
       Descends v p K f (t .a)
-  unfolding fromTerm kindIn table rowIn rowOf within1 frame
+  unfolding fromTerm kindIn table rowIn rowOf plugTerm frame
   enters-part (var n) t a e c h = absurd (h .0 refl)
   enters-part (lit i) t a e c h = absurd (h .1 refl)
   enters-part unit t a e c h = absurd (h .2 refl)

@@ -53,10 +53,10 @@ enters-value {w} {v} {p} t x =
         let r = ahead-range a in
         record {
           value = sight f (a .run) (t .value);
-          run = at-run (sym (a .begins)) (omega (arith, r .right)) refl
+          run = at-run (sym (a .starts)) (omega (arith, r .right)) refl
               (run-shifted (at-run refl refl (omega (arith, r .right)) (a .run)) x);
           waits = subst (λ (q : ℕ). Rattle.running.specs.Waiting.Waits v (p .up) (p .start) q (Rattle.running.specs.Contexts.frames K)) (omega arith)
-              (kept-waits (kept (a .begins) r) (a .waits));
+              (kept-waits (kept (a .starts) r) (a .waits));
           apart = omega (arith, r .apart, r .right);
         }
       where

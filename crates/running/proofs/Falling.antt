@@ -5,7 +5,7 @@ use mathlib.Core.Path.{_≡_, sym, subst}
 use mathlib.Core.List.{List}
 use lib.Seq.{sets}
 use Rattle.format.specs.Cell.{Cell, cellBytes}
-use Rattle.running.specs.Places.{Ready, Moves, GoesOn, WaitingOne, WaitingFirst, WaitingSecond}
+use Rattle.running.specs.Places.{FocusReady, Moves, GoesOn, WaitingOne, WaitingFirst, WaitingSecond}
 use Rattle.running.specs.declared.Place.{Place}
 use Rattle.running.specs.declared.Focus.the-variants.{Ahead, Done, Redex}
 use Rattle.running.proofs.Leaving.{closed, redexed, onward}
@@ -13,12 +13,12 @@ use Rattle.running.proofs.Ranges.{done-range, ahead-range, above-some, 
 use Rattle.running.proofs.Leaves.{single-done, single-redex, second-on, both-done, both-redex, other}
 
 module _ {w v : List ℕ} {p q : Place} where
-  closed-on : {o u : ℕ} → Ready w (Done p) → (p .up ≡ 0 → ⊥) → Moves w v (Done p) (Done (closed p o u)) → q ≡ closed p o u → GoesOn w v (Done p) (Done q)
+  closed-on : {o u : ℕ} → FocusReady w (Done p) → (p .up ≡ 0 → ⊥) → Moves w v (Done p) (Done (closed p o u)) → q ≡ closed p o u → GoesOn w v (Done p) (Done q)
   closed-on h some m i =
       let a = above-some (done-range (h .standing .at) .up) some in
       subst (λ (z : Place). GoesOn w v (Done p) (Done z)) (sym i) (record { moves = m; falls = omega (arith, a .0, a .1) })
 
-  onward-on : {b : ℕ} → Ready w (Done p) → Moves w v (Done p) (Ahead (onward p b)) → q ≡ onward p b → GoesOn w v (Done p) (Ahead q)
+  onward-on : {b : ℕ} → FocusReady w (Done p) → Moves w v (Done p) (Ahead (onward p b)) → q ≡ onward p b → GoesOn w v (Done p) (Ahead q)
   onward-on h m i =
       let r = ahead-range (m .says (h .term) (h .standing) (h .runnable) .at) in
       subst (λ (z : Place). GoesOn w v (Done p) (Ahead z)) (sym i) (record { moves = m; falls = omega (arith, r .root) })

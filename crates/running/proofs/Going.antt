@@ -116,7 +116,7 @@ pub closes-one : {w v : List ℕ} {start last right j u k l m b c x d₁ d₂ : 
     → IsCell v (suc last) k l last d₁ d₂ → DoneTree v start (suc last) (suc j) u (node k m t g h) K
 closes-one {start = start} {last} {right} {j} {x = x} {d₁} {d₂} p e m s o n g h q t l y d c =
     let end : x ≡ j = nothing (as-use n h) in
-    let begin : right ≡ x = nothing (as-use o g) in
+    let start : right ≡ x = nothing (as-use o g) in
     record {
       run =
           r-refers
@@ -128,8 +128,8 @@ closes-one {start = start} {last} {right} {j} {x = x} {d₁} {d₂} p e m s o n 
           (elsewhere (suc last) d₂ n h)
           refl
           (y, tt);
-      waits = kept-waits (wrote-kept d (omega (arith, grows t)) (omega (arith, l, end, begin))) q;
-      apart = omega (arith, l, end, begin);
+      waits = kept-waits (wrote-kept d (omega (arith, grows t)) (omega (arith, l, end, start))) q;
+      apart = omega (arith, l, end, start);
     }
 
 -- over: both parts are done

@@ -19,7 +19,7 @@ use Rattle.moving.specs.Moves.{Kept, Wrote, PlaceReady, Places}
 use Rattle.moving.proofs.Runs.{place-ready}
 use Rattle.moving.proofs.PlacedRuns.{run-placed}
 use Rattle.running.specs.Contexts.{Around, whole}
-use Rattle.running.specs.Places.{of-anno, Laid, Installing, Halving, Installs}
+use Rattle.running.specs.Places.{of-anno, ContractumAt, Installing, Halving, Installs}
 use Rattle.running.specs.declared.Place.{Place}
 use Rattle.running.specs.declared.Focus.the-variants.{Redex}
 use Rattle.running.proofs.Waiting.{kept-waits}
@@ -33,7 +33,7 @@ pub halving : {s w : List ℕ} {p : Place} {kind m end a : ℕ} {t u : Cell} →
     u ≡ cellAt s a → u .kind ≡ 21 → Halving s w p kind m end a
 halving i e k o g f = record { installing = i; annotated = kind-at e k; inside = o ∙ ap (λ (c : Cell). c .a) e; function = kind-at g f }
 
--- the two halves of a term that is laid down so
+-- the two halves of a term that is encoded so
 record Halves (s : List ℕ) (m end a : ℕ) (h : Term) : Type 0 where
   inside : Term
   type : Ty
@@ -64,11 +64,11 @@ halves {s} {m} {end} {a} r g (k-anno {e = x} {A}) i f =
     }
 
 module _ {s w : List ℕ} {p : Place} {kind m end a : ℕ} (d : Halving s w p kind m end a) where
-  halved : {K : List Around} {h : Term} → Laid s w p kind m end K h → Halves s m end a h
+  halved : {K : List Around} {h : Term} → ContractumAt s w p kind m end K h → Halves s m end a h
   halved {h = h} b = halves (b .run) (b .fits) (term-kind h (b .run) (d .annotated)) (d .inside) (d .function)
 
   abbrev here : Halves s m end a (d .installing .term)
-  here = halved (d .installing .laid)
+  here = halved (d .installing .contractum)
 
   -- where everything lies
   pub low : m ≤ a

@@ -10,7 +10,7 @@ use Rattle.format.specs.Cell.{Cell, cellAt}
 use Rattle.cells.specs.Held.{IsCell}
 use Rattle.moving.specs.Moves.{Wrote}
 use Rattle.running.specs.Waiting.{Waits, w-none}
-use Rattle.running.specs.Contexts.{Around, anno-of, app-left, app-right, merge-left, merge-right, rcd-of, proj-of, within1, whole, AllProper, p-more, frame, frames}
+use Rattle.running.specs.Contexts.{Around, anno-of, app-left, app-right, merge-left, merge-right, rcd-of, proj-of, plugTerm, whole, AllProper, p-more, frame, frames}
 use Rattle.running.specs.Places.{IsDone, Standing, Moves, GoesOn, Waiting, WaitingOne}
 use Rattle.running.specs.declared.Place.{Place}
 use Rattle.running.specs.declared.Focus.the-variants.{Ahead, Done, Redex, Whole}
@@ -43,11 +43,11 @@ waiting-kind (anno-of A) K h = let q = waits-first h refl in (ap (λ (c : Cell).
 waiting-kind (app-left f) K h = let q = waits-first h refl in (ap (λ (c : Cell). c .kind) (q .cell .is), ap (λ (c : Cell). c .c) (q .cell .is) ∙ q .unused refl)
 waiting-kind (app-right v) K h =
     let q = waits-second h refl in
-    (ap (λ (c : Cell). c .kind) (q .cell .is), omega (arith, ap (λ (c : Cell). c .c) (q .cell .is), q .begin))
+    (ap (λ (c : Cell). c .kind) (q .cell .is), omega (arith, ap (λ (c : Cell). c .c) (q .cell .is), q .start))
 waiting-kind (merge-left f) K h = let q = waits-first h refl in (ap (λ (c : Cell). c .kind) (q .cell .is), ap (λ (c : Cell). c .c) (q .cell .is) ∙ q .unused refl)
 waiting-kind (merge-right v) K h =
     let q = waits-second h refl in
-    (ap (λ (c : Cell). c .kind) (q .cell .is), omega (arith, ap (λ (c : Cell). c .c) (q .cell .is), q .begin))
+    (ap (λ (c : Cell). c .kind) (q .cell .is), omega (arith, ap (λ (c : Cell). c .c) (q .cell .is), q .start))
 waiting-kind (rcd-of l) K h = let q = waits-first h refl in (ap (λ (c : Cell). c .kind) (q .cell .is), ap (λ (c : Cell). c .c) (q .cell .is) ∙ q .unused refl)
 waiting-kind (proj-of l) K h = let q = waits-first h refl in (ap (λ (c : Cell). c .kind) (q .cell .is), ap (λ (c : Cell). c .c) (q .cell .is) ∙ q .unused refl)
 
@@ -84,7 +84,7 @@ module _ {w : List ℕ} (p : Place) (t : Cell) (some : p .up ≡ 0 → ⊥) (cel
 
   pub single-done : {v : List ℕ} → t .kind ≡ 24 → Wrote w v (p .left) → IsCell v (p .left) (t .kind) (t .label) (p .left - 1) (t .b) 0 →
       Moves w v (Done p) (Done (closed p (p .start) (t .a)))
-  unfolding whole within1 kindFor
+  unfolding whole plugTerm kindFor
   single-done {v} k x y = record { says = λ e s r. go (s .around) s (s .is) (s .proper) (s .at) }
     where
       go : {e : Term} (K : List Around) (s : Standing w (Done p) e) → e ≡ whole K (s .focus) → AllProper K → IsDone w p K (s .focus) →
@@ -101,7 +101,7 @@ module _ {w : List ℕ} (p : Place) (t : Cell) (some : p .up ≡ 0 → ⊥) (cel
 
   pub single-redex : {v : List ℕ} → (t .kind ≡ 20 → ⊥) → (t .kind ≡ 22 → ⊥) → (t .kind ≡ 24 → ⊥) → Wrote w v (p .up) → IsCell v (p .up) (t .kind) (t .label) (p .left - 1) (t .b) 0 →
       Moves w v (Done p) (Redex (redexed p (p .start) (t .a)))
-  unfolding whole within1 kindFor
+  unfolding whole plugTerm kindFor
   single-redex {v} k20 k22 k24 x y = record { says = λ e s r. go (s .around) s (s .is) (s .proper) (s .at) }
     where
       go : {e : Term} (K : List Around) (s : Standing w (Done p) e) → e ≡ whole K (s .focus) → AllProper K → IsDone w p K (s .focus) →
@@ -119,7 +119,7 @@ module _ {w : List ℕ} (p : Place) (t : Cell) (some : p .up ≡ 0 → ⊥) (cel
 
   pub second-on : {v : List ℕ} → (t .kind ≡ 20) ⊎ (t .kind ≡ 22) → t .c ≡ 0 → Wrote w v (p .up) → IsCell v (p .up) (t .kind) (t .label) (p .left - 1) (t .a) (p .start + 1) →
       Moves w v (Done p) (Ahead (onward p (t .b)))
-  unfolding whole within1 kindFor frame rowOf rowIn table
+  unfolding whole plugTerm kindFor frame rowOf rowIn table
   second-on {v} k z x y = record { says = λ e s r. go (s .around) s (s .is) (s .proper) (s .at) }
     where
       go : {e : Term} (K : List Around) (s : Standing w (Done p) e) → e ≡ whole K (s .focus) → AllProper K → IsDone w p K (s .focus) →
@@ -137,7 +137,7 @@ module _ {w : List ℕ} (p : Place) (t : Cell) (some : p .up ≡ 0 → ⊥) (cel
 
   pub both-done : {v : List ℕ} → t .kind ≡ 22 → (t .c ≡ 0 → ⊥) → Wrote w v (p .left) → IsCell v (p .left) (t .kind) (t .label) (t .a) (p .left - 1) 0 →
       Moves w v (Done p) (Done (closed p (t .c - 1) (t .b)))
-  unfolding whole within1 kindFor
+  unfolding whole plugTerm kindFor
   both-done {v} k z x y = record { says = λ e s r. go (s .around) s (s .is) (s .proper) (s .at) }
     where
       go : {e : Term} (K : List Around) (s : Standing w (Done p) e) → e ≡ whole K (s .focus) → AllProper K → IsDone w p K (s .focus) →
@@ -154,7 +154,7 @@ module _ {w : List ℕ} (p : Place) (t : Cell) (some : p .up ≡ 0 → ⊥) (cel
 
   pub both-redex : {v : List ℕ} → t .kind ≡ 20 → (t .c ≡ 0 → ⊥) → Wrote w v (p .up) → IsCell v (p .up) (t .kind) (t .label) (t .a) (p .left - 1) 0 →
       Moves w v (Done p) (Redex (redexed p (t .c - 1) (t .b)))
-  unfolding whole within1 kindFor
+  unfolding whole plugTerm kindFor
   both-redex {v} k z x y = record { says = λ e s r. go (s .around) s (s .is) (s .proper) (s .at) }
     where
       go : {e : Term} (K : List Around) (s : Standing w (Done p) e) → e ≡ whole K (s .focus) → AllProper K → IsDone w p K (s .focus) →

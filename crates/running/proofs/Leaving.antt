@@ -17,7 +17,7 @@ use Rattle.emission.specs.Runs.{Run, r-unused}
 use Rattle.emission.proofs.Runs.{grows, counts}
 use Rattle.moving.specs.Moves.{Kept, Wrote}
 use Rattle.running.specs.Waiting.{Frame, first, second, Waits, w-none, w-first, w-second}
-use Rattle.running.specs.Contexts.{Around, anno-of, app-left, app-right, merge-left, merge-right, rcd-of, proj-of, within1, whole, Proper, AllProper, p-more, frame, frames}
+use Rattle.running.specs.Contexts.{Around, anno-of, app-left, app-right, merge-left, merge-right, rcd-of, proj-of, plugTerm, whole, Proper, AllProper, p-more, frame, frames}
 use Rattle.running.specs.Places.{IsAhead, IsDone, IsRedex, RedexParts, of-anno, of-app, of-proj, FocusIs, Standing}
 use Rattle.running.specs.declared.Place.{Place}
 use Rattle.running.specs.declared.Focus.{Focus}
@@ -56,7 +56,7 @@ pub record Second (w : List ℕ) (j p q k m : ℕ) (f : Tree) (K : List Frame) (
   pub o : ℕ
   pub cell : IsCell w j k l a u c
   pub label : m ≡ labelBy (r .label) l
-  pub begin : c ≡ suc o
+  pub start : c ≡ suc o
   pub run : Run true w o (refers term-sort) a f p
   pub low : p ≤ j
   pub here : q ≡ j
@@ -67,7 +67,7 @@ pub waits-second : {w : List ℕ} {j p q k m : ℕ} {f : Tree} {K : List Frame} 
 waits-second {w} {j} {p} {q} {k} {m} {f} {K} {r} (w-second {o = o′} {u = u} {l = l} {a = a} {c = c} {r = v} x e n s b d t y g z) h =
     let i : v ≡ r = cc (h, e) in
     subst (Second w j p q k m f K) i
-    (record { l = l; a = a; u = u; c = c; o = o′; cell = x; label = n; begin = t; run = y; low = g; here = refl; rest = z })
+    (record { l = l; a = a; u = u; c = c; o = o′; cell = x; label = n; start = t; run = y; low = g; here = refl; rest = z })
 
 -- what waits is a cell right of the gap
 pub waits-some : {w : List ℕ} {j p q : ℕ} {F : Frame} {K : List Frame} → Waits w j p q (F ∷ K) → 1 ≤ j
@@ -163,7 +163,7 @@ module _ {w v : List ℕ} (p : Place) {K : List Around} where
       let a = goes-on (q .cell) o (q .label) one two none (q .second) (q .third) (q .rest) (d .run) (d .apart) x
       (subst (IsCell v (p .up) k (q .l) (p .left - 1) (q .u)) n (rw s at y)) in
       rw s
-      (record { begins = refl; run = a .run; waits = subst (λ (z : Frame). Waits v (p .up) (p .left) (suc (q .b)) (z ∷ frames K)) (sym j) (a .waits); apart = a .apart })
+      (record { starts = refl; run = a .run; waits = subst (λ (z : Frame). Waits v (p .up) (p .left) (suc (q .b)) (z ∷ frames K)) (sym j) (a .waits); apart = a .apart })
 
   -- a merge of values is done
   pub leaves-merge : (f : Term) {g : Term} (t : Cell) → IsDone w p (merge-right g ∷ K) f → value? g ≡ true → t ≡ cellAt w (p .up) → Wrote w v (p .left) →
@@ -173,7 +173,7 @@ module _ {w v : List ℕ} (p : Place) {K : List Around} where
       let q = waits-second (d .waits) refl in
       let s : t ≡ record { kind = 22; label = q .l; a = q .a; b = q .u; c = q .c } = e ∙ q .cell .is in
       let n : p .left ≡ suc (p .left - 1) = ends (d .run) in
-      let o : q .c - 1 ≡ q .o = omega (arith, q .begin) in
+      let o : q .c - 1 ≡ q .o = omega (arith, q .start) in
       let i = q .here in
       let c : DoneTree v (q .o) (suc (p .left - 1)) (suc (p .up)) (q .u) (fromTerm (merge g f)) (frames K)
       = closes-both (q .cell) refl (q .label) refl refl refl (q .run) (q .rest)
@@ -189,7 +189,7 @@ module _ {w v : List ℕ} (p : Place) {K : List Around} where
   leaves-app f {g} t d h e x y =
       let q = waits-second (d .waits) refl in
       let s : t ≡ record { kind = 20; label = q .l; a = q .a; b = q .u; c = q .c } = e ∙ q .cell .is in
-      let o : q .c - 1 ≡ q .o = omega (arith, q .begin) in
+      let o : q .c - 1 ≡ q .o = omega (arith, q .start) in
       let i = q .here in
       rw (s, o)
       (record {

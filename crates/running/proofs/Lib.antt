@@ -12,9 +12,9 @@ pub mod Falling
 pub mod Settling
 pub mod Projecting
 pub mod Contracting
-pub mod Laying
+pub mod Encoding
 pub mod Turning
 pub mod Loop
-pub mod Reading
+pub mod Casting
 pub mod Halving
 pub mod Sizes

@@ -12,16 +12,16 @@ use Rattle.format.specs.Book.{sizeLimit}
 use Rattle.answers.specs.Answer as Answer
 use Rattle.answers.specs.Definition.{ended, evaluate}
 use Rattle.answers.proofs.Running.{evaluate-value, evaluate-spent, evaluate-room, evaluate-step}
-use Rattle.outcome.specs.declared.Stop.{Stop}
-use Rattle.outcome.specs.declared.Stop.the-variants.{Value, Spent, Room}
-use Rattle.running.specs.Places.{Standing, Runnable, Ready, Settled}
-use Rattle.running.specs.Turns.{StepReady, Starts, Laying, TurnReady, TurnOf, t-value, t-spent, t-room, t-next, Steps, LaysWhole, RunOf, Runs}
+use Rattle.answers.specs.declared.Stop.{Stop}
+use Rattle.answers.specs.declared.Stop.the-variants.{Value, Spent, Room}
+use Rattle.running.specs.Places.{Standing, Runnable, FocusReady, Settled}
+use Rattle.running.specs.Turns.{StepReady, Starts, WholeReady, TurnReady, TurnOf, t-value, t-spent, t-room, t-next, Steps, EncodesWhole, RunOf, Runs}
 use Rattle.running.specs.declared.Focus.{Focus}
 use Rattle.running.specs.declared.State.{State}
 use Rattle.running.specs.declared.Turn.{Turn}
 use Rattle.running.specs.declared.Turn.the-variants.{Next, Ended}
 use Rattle.running.proofs.Standing.{next-runnable}
-use Rattle.running.proofs.Laying.{lies-runnable}
+use Rattle.running.proofs.Encoding.{encoded-runnable}
 
 -- the run of e₀ with limit l has come to a term that stands in the work buffer
 pub record Going (l : ℕ) (e₀ : Term) (w : List ℕ) (x : State) : Type 0 where
@@ -35,7 +35,7 @@ pub record AllGoing (l : ℕ) (s₀ w₀ : List ℕ) (x₀ : Focus) (s w : List 
   pub same : length s ≡ length s₀
   pub long : 32768 ≤ length s
   pub work : length w ≡ 65536
-  pub first : Ready w₀ x₀
+  pub first : FocusReady w₀ x₀
   pub settled : Settled (x .focus)
   pub taken : x .steps ≤ l
   pub says : (e₀ : Term) → Standing w₀ x₀ e₀ → Runnable e₀ → Going l e₀ w x
@@ -48,7 +48,7 @@ going-first d k s =
       same = refl;
       long = omega (arith, k, d .long);
       work = s .long;
-      first = record { term = h .term; standing = s .says (h .term) (h .type) (h .lies) (h .typed); runnable = lies-runnable (h .lies) (h .typed) };
+      first = record { term = h .term; standing = s .says (h .term) (h .type) (h .encoded) (h .typed); runnable = encoded-runnable (h .encoded) (h .typed) };
       settled = s .settled;
       taken = omega arith;
       says = λ e h t. record { term = e; standing = h; runnable = t; left = rw sub-zero };
@@ -108,24 +108,24 @@ module _ {l : ℕ} {s₀ w₀ s w v : List ℕ} {x₀ : Focus} {x : State} {r : 
               }
 
   -- a turn that ends the run leaves the term where it stands
-  ending-ready : {y : Focus} {z : Stop} → Steps w v x l r → r ≡ Ended z y → Ready v y
+  ending-ready : {y : Focus} {z : Stop} → Steps w v x l r → r ≡ Ended z y → FocusReady v y
   ending-ready {y} {z} o q = by (o .says (now g .term) (now g .standing) (now g .runnable))
     where
-      at : x .focus ≡ y → Standing v (x .focus) (now g .term) → Ready v y
+      at : x .focus ≡ y → Standing v (x .focus) (now g .term) → FocusReady v y
       at e i = record { term = now g .term; standing = subst (λ (d : Focus). Standing v d (now g .term)) e i; runnable = now g .runnable }
 
-      by : TurnOf v (x .focus) (x .steps) l (now g .term) r → Ready v y
+      by : TurnOf v (x .focus) (x .steps) l (now g .term) r → FocusReady v y
       by (t-value a c i) = let e : x .focus ≡ y = cc in at e i
       by (t-spent a b c i) = let e : x .focus ≡ y = cc in at e i
       by (t-room a b d f c i) = let e : x .focus ≡ y = cc in at e i
       by (t-next a b d m c j k i) = let z : _≡_ {A = ℕ} 0 1 = cc in absurd (omega arith)
 
-  pub ending-laying : {t : List ℕ} {y : Focus} {z : Stop} → length t ≡ length s → Steps w v x l r → r ≡ Ended z y → Laying t v y
-  ending-laying a o q = record { long = omega (arith, a, g .long); ready = ending-ready o q }
+  pub ending-whole : {t : List ℕ} {y : Focus} {z : Stop} → length t ≡ length s → Steps w v x l r → r ≡ Ended z y → WholeReady t v y
+  ending-whole a o q = record { long = omega (arith, a, g .long); ready = ending-ready o q }
 
-  pub going-ends : {y : Focus} {z : Stop} {u : List ℕ} {m : ℕ} → Steps w v x l r → r ≡ Ended z y → LaysWhole v u y m →
+  pub going-ends : {y : Focus} {z : Stop} {u : List ℕ} {m : ℕ} → Steps w v x l r → r ≡ Ended z y → EncodesWhole v u y m →
       {a : List ℕ} {n : ℕ} → Starts a w₀ n x₀ → Runs a u n l (record { stop = z; cells = m })
-  going-ends {y} {z} {u} {m} o q d b = record { says = λ e A i t. go e (b .says e A i t) (lies-runnable i t) }
+  going-ends {y} {z} {u} {m} o q d b = record { says = λ e A i t. go e (b .says e A i t) (encoded-runnable i t) }
     where
       go : (e₀ : Term) → Standing w₀ x₀ e₀ → Runnable e₀ → RunOf u l e₀ (record { stop = z; cells = m })
       go e₀ i t = by (o .says (p .term) (p .standing) (p .runnable))
@@ -134,7 +134,7 @@ module _ {l : ℕ} {s₀ w₀ s w v : List ℕ} {x₀ : Focus} {x : State} {r : 
           p = g .says e₀ i t
 
           done : (a : Answer.Stop) → evaluate sizeLimit (l - x .steps) (x .steps) (p .term) ≡ ended a (x .steps) (p .term) →
-              Rattle.outcome.specs.Numbers.stopAnswer z ≡ Answer.stopped a (x .steps) → x .focus ≡ y → Standing v (x .focus) (p .term) →
+              Rattle.answers.specs.Cases.stopAnswer z ≡ Answer.stopped a (x .steps) → x .focus ≡ y → Standing v (x .focus) (p .term) →
               RunOf u l e₀ (record { stop = z; cells = m })
           done a b c e i =
               record {
@@ -143,7 +143,7 @@ module _ {l : ℕ} {s₀ w₀ s w v : List ℕ} {x₀ : Focus} {x : State} {r : 
                 term = p .term;
                 ends = p .left ∙ b;
                 answer = c;
-                lies = d .says (p .term) (subst (λ (f : Focus). Standing v f (p .term)) e i) (p .runnable);
+                encoded = d .says (p .term) (subst (λ (f : Focus). Standing v f (p .term)) e i) (p .runnable);
               }
 
           by : TurnOf v (x .focus) (x .steps) l (p .term) r → RunOf u l e₀ (record { stop = z; cells = m })

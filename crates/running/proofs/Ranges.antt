@@ -56,7 +56,7 @@ done-range d =
     record { some = omega (arith, e); start = omega (arith, e, l); apart = d .apart; right = waits-right (d .waits); up = waits-up (d .waits) }
 
 pub record AheadRange (p : Place) : Type 0 where
-  pub begins : p .start ≡ p .left
+  pub starts : p .start ≡ p .left
   pub apart : p .left < p .right
   pub right : p .right ≤ p .root
   pub root : p .root < 8192
@@ -65,8 +65,8 @@ pub record AheadRange (p : Place) : Type 0 where
 pub ahead-range : {w : List ℕ} {p : Place} {K : List Around} {f : Term} → IsAhead w p K f → AheadRange p
 ahead-range a =
     record {
-      begins = a .begins;
-      apart = omega (arith, a .begins, a .apart);
+      starts = a .starts;
+      apart = omega (arith, a .starts, a .apart);
       right = last (a .run);
       root = waits-right (a .waits);
       up = waits-up (a .waits);

@@ -13,22 +13,22 @@ use Rattle.format.specs.Tree.{Tree}
 use Rattle.cells.specs.Held.{HeldField}
 use Rattle.running.specs.Waiting.{fill, Waits}
 use Rattle.running.specs.Contexts.{Around, frames}
-use Rattle.running.specs.Places.{Standing, Ready, Moves, GoesOn, distance, Settled, Settles, Held, Unwinding, MendReady, MendedTo, Mends, Unwinds}
+use Rattle.running.specs.Places.{Standing, FocusReady, Moves, GoesOn, distance, Settled, Settles, Held, Unwinding, RestoreReady, RestoredTo, Restores, Unwinds}
 use Rattle.running.specs.declared.Place.{Place}
 use Rattle.running.specs.declared.Focus.{Focus}
 use Rattle.running.specs.declared.Focus.the-variants.{Redex, Whole}
 use Rattle.running.proofs.Waiting.{held-less, waits-right}
 use Rattle.running.proofs.Leaving.{waits-none}
-use Rattle.running.proofs.Unwinding.{mend-within, child-fits, mends-first, mends-second, mends-up}
+use Rattle.running.proofs.Unwinding.{restore-within, child-fits, restores-first, restores-second, restores-up}
 use Rattle.running.proofs.Ranges.{read-fits, stored}
 
 -- the focus has come from x₀ to x
 pub record Under (w₀ : List ℕ) (x₀ : Focus) (w : List ℕ) (x : Focus) : Type 0 where
   pub long : length w ≡ length w₀
-  pub ready : Ready w x
+  pub ready : FocusReady w x
   pub moves : Moves w₀ w x₀ x
 
-pub under-first : {w : List ℕ} {x : Focus} → Ready w x → Under w x w x
+pub under-first : {w : List ℕ} {x : Focus} → FocusReady w x → Under w x w x
 under-first r = record { long = refl; ready = r; moves = record { says = λ e s t. s } }
 
 pub under-next : {w₀ w v : List ℕ} {x₀ x y r : Focus} → Under w₀ x₀ w x → x ≡ y → length v ≡ length w → GoesOn w v y r → Under w₀ x₀ v r
@@ -46,8 +46,8 @@ under-next {w₀} {w} {v} {x₀} {x} {y} {r} u q l g =
     at : {e : Rattle.calculus.specs.Syntax.Term} → Standing w x e → Standing w y e
     at {e} s = subst (λ (z : Focus). Standing w z e) q s
 
-pub under-ready : {w₀ w : List ℕ} {x₀ x y : Focus} → Under w₀ x₀ w x → x ≡ y → Ready w y
-under-ready {w = w} u q = subst (Ready w) q (u .ready)
+pub under-ready : {w₀ w : List ℕ} {x₀ x y : Focus} → Under w₀ x₀ w x → x ≡ y → FocusReady w y
+under-ready {w = w} u q = subst (FocusReady w) q (u .ready)
 
 pub under-falls : {w v : List ℕ} {x y r : Focus} → x ≡ y → GoesOn w v y r → distance r < distance x
 under-falls {x = x} {y} {r} q g = subst (λ (z : Focus). distance r < distance z) (sym q) (g .falls)
@@ -68,31 +68,31 @@ outward (suc n) = 8192 - n
 pub record Outward (w₀ : List ℕ) (up child : ℕ) (w : List ℕ) (around root : ℕ) : Type 0 where
   pub long : length w ≡ length w₀
   pub unwinding : Unwinding w around root
-  pub says : (K : List Around) (t : Tree) → Held w₀ up child K t → MendedTo w root around (fill (frames K) t)
+  pub says : (K : List Around) (t : Tree) → Held w₀ up child K t → RestoredTo w root around (fill (frames K) t)
 
 pub outward-first : {w : List ℕ} {up child : ℕ} → Unwinding w up child → Outward w up child w up child
 outward-first u = record { long = refl; unwinding = u; says = λ K t h. record { around = K; tree = t; held = h; same = refl } }
 
 -- the cell up is written, whole again
-module _ {w : List ℕ} {up child : ℕ} {t : Cell} (d : MendReady w up child) (c : t ≡ cellAt w up) where
-  pub mend-fits : IsBytes w → (t .a < 65536) × (t .b < 65536) × (child < 65536)
-  mend-fits y = let f = read-fits w up y c in (f .0, f .1, child-fits d)
+module _ {w : List ℕ} {up child : ℕ} {t : Cell} (d : RestoreReady w up child) (c : t ≡ cellAt w up) where
+  pub restore-fits : IsBytes w → (t .a < 65536) × (t .b < 65536) × (child < 65536)
+  restore-fits y = let f = read-fits w up y c in (f .0, f .1, child-fits d)
 
-  mends : {v : List ℕ} {r o : ℕ} → ((K : List Around) (f : Tree) → Held w up child K f → MendedTo v up o (fill (frames K) f)) → r ≡ o → Mends w v up child r
-  mends {v} m i =
+  restores : {v : List ℕ} {r o : ℕ} → ((K : List Around) (f : Tree) → Held w up child K f → RestoredTo v up o (fill (frames K) f)) → r ≡ o → Restores w v up child r
+  restores {v} m i =
       let u = d .unwinding in
-      subst (Mends w v up child) (sym i) (record { higher = mends-up (m (u .around) (u .tree) (u .held)); says = m })
+      subst (Restores w v up child) (sym i) (record { higher = restores-up (m (u .around) (u .tree) (u .held)); says = m })
 
-  pub first-mends : {v : List ℕ} {r : ℕ} → t .c ≡ 0 → v ≡ sets w (8 * up) (cellBytes (record { kind = t .kind; label = t .label; a = child; b = t .b; c = 0 })) → r ≡ t .a → Mends w v up child r
-  first-mends z e i = let x = stored _ (mend-within d) e in mends (mends-first c (x .wrote) (d .some) z (x .there)) i
+  pub first-restores : {v : List ℕ} {r : ℕ} → t .c ≡ 0 → v ≡ sets w (8 * up) (cellBytes (record { kind = t .kind; label = t .label; a = child; b = t .b; c = 0 })) → r ≡ t .a → Restores w v up child r
+  first-restores z e i = let x = stored _ (restore-within d) e in restores (restores-first c (x .wrote) (d .some) z (x .there)) i
 
-  pub second-mends : {v : List ℕ} {r : ℕ} → (t .c ≡ 0 → ⊥) → v ≡ sets w (8 * up) (cellBytes (record { kind = t .kind; label = t .label; a = t .a; b = child; c = 0 })) → r ≡ t .b → Mends w v up child r
-  second-mends z e i = let x = stored _ (mend-within d) e in mends (mends-second c (x .wrote) (d .some) z (x .there)) i
+  pub second-restores : {v : List ℕ} {r : ℕ} → (t .c ≡ 0 → ⊥) → v ≡ sets w (8 * up) (cellBytes (record { kind = t .kind; label = t .label; a = t .a; b = child; c = 0 })) → r ≡ t .b → Restores w v up child r
+  second-restores z e i = let x = stored _ (restore-within d) e in restores (restores-second c (x .wrote) (d .some) z (x .there)) i
 
-pub mend-ready : {w₀ w : List ℕ} {up child around root : ℕ} → Outward w₀ up child w around root → 0 < around → MendReady w around root
-mend-ready o h = record { unwinding = o .unwinding; some = λ e. absurd (omega (arith, e, h)) }
+pub restore-ready : {w₀ w : List ℕ} {up child around root : ℕ} → Outward w₀ up child w around root → 0 < around → RestoreReady w around root
+restore-ready o h = record { unwinding = o .unwinding; some = λ e. absurd (omega (arith, e, h)) }
 
-pub outward-next : {w₀ w v : List ℕ} {up child around root r : ℕ} → Outward w₀ up child w around root → length v ≡ length w → Mends w v around root r →
+pub outward-next : {w₀ w v : List ℕ} {up child around root r : ℕ} → Outward w₀ up child w around root → length v ≡ length w → Restores w v around root r →
     Outward w₀ up child v r around
 outward-next {w₀} {w} {v} {up} {child} {around} {root} {r} o l m =
     let n = m .says (o .unwinding .around) (o .unwinding .tree) (o .unwinding .held) in
@@ -102,13 +102,13 @@ outward-next {w₀} {w} {v} {up} {child} {around} {root} {r} o l m =
       says = go;
     }
   where
-    go : (K : List Around) (t : Tree) → Held w₀ up child K t → MendedTo v around r (fill (frames K) t)
+    go : (K : List Around) (t : Tree) → Held w₀ up child K t → RestoredTo v around r (fill (frames K) t)
     go K t h =
         let a = o .says K t h in
         let b = m .says (a .around) (a .tree) (a .held) in
         record { around = b .around; tree = b .tree; held = b .held; same = b .same ∙ a .same }
 
-pub outward-less : {w v : List ℕ} {around root r : ℕ} → Mends w v around root r → 0 < around → around < 8192 → outward r < outward around
+pub outward-less : {w v : List ℕ} {around root r : ℕ} → Restores w v around root r → 0 < around → around < 8192 → outward r < outward around
 outward-less {around = zero} m h l = absurd (omega (arith, h))
 outward-less {around = suc n} {r = zero} m h l = omega (arith, l)
 outward-less {around = suc n} {r = suc k} m h l = go (m .higher)
@@ -130,6 +130,6 @@ outward-ends {w₀} {w} {up} {child} {around} {root} o l = record { says = go }
     go : (K : List Around) (t : Tree) → Held w₀ up child K t → HeldField false w 8192 (refers term-sort) root (fill (frames K) t)
     go K t h =
         let a = o .says K t h in
-        let n = waits-none (a .around) (subst (λ (j : ℕ). Waits w j (a .held .begin) (a .held .end) (frames (a .around))) z (a .held .waits)) in
+        let n = waits-none (a .around) (subst (λ (j : ℕ). Waits w j (a .held .start) (a .held .end) (frames (a .around))) z (a .held .waits)) in
         subst (HeldField false w 8192 (refers term-sort) root) (sym (filled-none (a .around) (a .tree) n) ∙ a .same)
         (held-less (waits-right (a .held .waits)) (a .held .holds))

@@ -35,7 +35,7 @@ redex-cells (of-fix {e = e} {A = A} i r) = omega (arith, counts r, i, term-cells
 redex-cells (of-proj {v = v} c x a e) = omega (arith, counts a, e, term-cells v)
 
 focus-cells : (w : List ℕ) (x : Focus) (K : List Around) (f : Term) → FocusIs w x K f → around (frames K) + size f ≡ cellsAt (placeOf x)
-focus-cells w (Ahead p) K f a = let r = ahead-range a in omega (arith, waiting (a .waits), counts (a .run), term-cells f, r .begins, r .right, r .root)
+focus-cells w (Ahead p) K f a = let r = ahead-range a in omega (arith, waiting (a .waits), counts (a .run), term-cells f, r .starts, r .right, r .root)
 focus-cells w (Done p) K f d = let r = done-range d in omega (arith, waiting (d .waits), counts (d .run), term-cells f, r .start, r .right)
 focus-cells w (Redex p) K f d = let r = redex-range d in omega (arith, waiting (d .waits), redex-cells (d .parts), r .start, r .right, r .root)
 focus-cells w (Whole p) K f d = let r = done-range (d .1) in omega (arith, waiting (d .1 .waits), counts (d .1 .run), term-cells f, r .start, r .right)

@@ -16,7 +16,7 @@ use Rattle.calculus.proofs.Evaluation.{next-sound, next-complete}
 use Rattle.answers.proofs.Fits.{reaches-fits}
 use Rattle.format.specs.Terms.{TermFits}
 use Rattle.format.specs.Book.{sizeLimit}
-use Rattle.running.specs.Contexts.{Around, anno-of, app-left, app-right, merge-left, merge-right, rcd-of, proj-of, within1, whole, AllProper}
+use Rattle.running.specs.Contexts.{Around, anno-of, app-left, app-right, merge-left, merge-right, rcd-of, proj-of, plugTerm, whole, AllProper}
 use Rattle.running.specs.Places.{Runnable}
 use Rattle.running.proofs.Contexts.{no-value, next-inside}
 
@@ -52,8 +52,8 @@ no-variable K {e} f {n} is p t q =
     let g = goes K f is p t (ap value? q) in
     Option·none-ne-some (g .0) (sym (ap next q) ∙ g .1)
 
-inside-fits : (F : Around) (e : Term) → TermFits (within1 F e) → TermFits e
-unfolding within1
+inside-fits : (F : Around) (e : Term) → TermFits (plugTerm F e) → TermFits e
+unfolding plugTerm
 inside-fits (anno-of A) e h = h .0
 inside-fits (app-left f) e h = h .0
 inside-fits (app-right v) e h = h .1
@@ -66,4 +66,4 @@ inside-fits (proj-of l) e h = h .1
 pub focus-fits : (K : List Around) (f : Term) → TermFits (whole K f) → TermFits f
 unfolding whole
 focus-fits [] f h = h
-focus-fits (F ∷ K) f h = inside-fits F f (focus-fits K (within1 F f) h)
+focus-fits (F ∷ K) f h = inside-fits F f (focus-fits K (plugTerm F f) h)

@@ -11,9 +11,9 @@ use Rattle.calculus.specs.Syntax.{Term, size}
 use Rattle.calculus.specs.Decide.{value?}
 use Rattle.calculus.specs.Evaluate.{next}
 use Rattle.format.specs.Book.{sizeLimit}
-use Rattle.outcome.specs.declared.Stop.the-variants.{Value, Spent, Room}
+use Rattle.answers.specs.declared.Stop.the-variants.{Value, Spent, Room}
 use Rattle.running.specs.Contexts.{Around, whole}
-use Rattle.running.specs.Places.{Standing, Runnable, Ready, Settled, Settles, Contracts, ContractsTo, c-to, c-full}
+use Rattle.running.specs.Places.{Standing, Runnable, FocusReady, Settled, Settles, Contracts, ContractsTo, c-to, c-full}
 use Rattle.running.specs.Turns.{TurnOf, t-value, t-spent, t-room, t-next, Steps}
 use Rattle.running.specs.declared.Place.{Place}
 use Rattle.running.specs.declared.Focus.{Focus}
@@ -48,7 +48,7 @@ module _ {w : List ℕ} {y : Focus} {p : Place} (q : y ≡ Redex p) where
   at : {e : Term} → Standing w y e → Standing w (Redex p) e
   at {e} s = subst (λ (y : Focus). Standing w y e) q s
 
-  pub redex-ready : Ready w y → Ready w (Redex p)
+  pub redex-ready : FocusReady w y → FocusReady w (Redex p)
   redex-ready h = record { term = h .term; standing = at (h .standing); runnable = h .runnable }
 
   module _ {v : List ℕ} {o : Contracted} (c : Contracts w v p o) where
@@ -56,10 +56,10 @@ module _ {w : List ℕ} {y : Focus} {p : Place} (q : y ≡ Redex p) where
     contracted {e} s r = let n = successor r (redex-none (at s)) in (n .0, n .1, c .says e (n .0) (at s) r (n .1))
 
     -- what was contracted can settle
-    pub contracted-ready : {z : Focus} → Ready w y → o ≡ To z → Ready v z
+    pub contracted-ready : {z : Focus} → FocusReady w y → o ≡ To z → FocusReady v z
     contracted-ready {z} h f = let a = contracted (h .standing) (h .runnable) in by (a .0) (a .1) (a .2)
       where
-        by : (g : Term) → next (h .term) ≡ some g → ContractsTo w v g o → Ready v z
+        by : (g : Term) → next (h .term) ≡ some g → ContractsTo w v g o → FocusReady v z
         by g n (c-to {x = d} u k t) =
             let i : d ≡ z = cc in
             record { term = g; standing = subst (λ (d : Focus). Standing v d g) i t; runnable = next-runnable (h .runnable) n u }

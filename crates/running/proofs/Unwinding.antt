@@ -16,8 +16,8 @@ use Rattle.emission.proofs.Runs.{grows}
 use Rattle.moving.specs.Moves.{Wrote}
 use Rattle.running.specs.Waiting.{Frame, first, second, plug, fill, Waits, w-none, w-first, w-second}
 use Rattle.running.specs.Contexts.{Around, anno-of, app-left, app-right, merge-left, merge-right, rcd-of, proj-of, frame, frames}
-use Rattle.running.specs.Places.{Held, Unwinding, MendReady, MendedTo}
-use Rattle.running.proofs.Waiting.{held-less, waits-right, Mended, mend-first, mend-second, mend-rest}
+use Rattle.running.specs.Places.{Held, Unwinding, RestoreReady, RestoredTo}
+use Rattle.running.proofs.Waiting.{held-less, waits-right, Restored, restore-first, restore-second, restore-rest}
 use Rattle.running.proofs.Leaving.{First, Second, waits-first, waits-second}
 use Rattle.running.proofs.Leaves.{waiting-kind, none-waits}
 
@@ -29,17 +29,17 @@ waits-up (w-second c r m a b d o f l k) = inr (omega arith, waits-right k)
 
 module _ {w v : List ℕ} {j : ℕ} where
   -- the cell j is whole, and what waited around it waits for it
-  mended : {x p q u : ℕ} {t : Tree} (F : Around) (K : List Around) → Mended w v j x (frame F) → HeldField false w q (refers term-sort) x t → q ≤ j → p ≤ j →
-      Waits w u p (suc j) (frames K) → MendedTo v j u (fill (frames (F ∷ K)) t)
+  restored : {x p q u : ℕ} {t : Tree} (F : Around) (K : List Around) → Restored w v j x (frame F) → HeldField false w q (refers term-sort) x t → q ≤ j → p ≤ j →
+      Waits w u p (suc j) (frames K) → RestoredTo v j u (fill (frames (F ∷ K)) t)
   unfolding frames fill
-  mended {x} {p} {q} {u} {t} F K m h l b k =
+  restored {x} {p} {q} {u} {t} F K m h l b k =
       record {
         around = K;
         tree = plug (frame F) t;
         held = record {
-          begin = p;
+          start = p;
           end = suc j;
-          waits = mend-rest m b k;
+          waits = restore-rest m b k;
           low = omega (arith, b);
           holds = m .whole t (held-less l (kept-field (m .long) (λ i y. m .others i (λ e. absurd (omega (arith, y, e, l)))) h));
         };
@@ -49,65 +49,65 @@ module _ {w v : List ℕ} {j : ℕ} where
   module _ {t : Cell} (cell : t ≡ cellAt w j) (d : Wrote w v j) where
     first-of : {x p q k m : ℕ} {g h f : Tree} {r : Row} (F : Around) (K : List Around) → frame F ≡ first k m g h → rowOf k ≡ some r → r .a ≡ refers term-sort
         → r .c ≡ unused → First w j p q k m g h (frames K) r → IsCell v j (t .kind) (t .label) x (t .b) 0 → HeldField false w q (refers term-sort) x f
-        → MendedTo v j (t .a) (fill (frames (F ∷ K)) f)
+        → RestoredTo v j (t .a) (fill (frames (F ∷ K)) f)
     first-of {x} {p} {q} {k} {m} {g} {h} {f} F K i e a n y c b =
         let s : t ≡ record { kind = k; label = y .l; a = y .u; b = y .b; c = y .c } = cell ∙ y .cell .is in
         let u = grows (y .second) in
         let z = grows (y .third) in
         let c′ : IsCell v j k (y .l) x (y .b) (y .c) = subst (IsCell v j k (y .l) x (y .b)) (sym (y .unused n)) (rw s at c) in
-        let mend : Mended w v j x (frame F) = subst (Mended w v j x) (sym i) (mend-first (y .cell) e (y .label) a (y .second) (y .third) (d .long) (d .others) c′) in
-        rw s (mended F K mend b (omega (arith, u, z)) (omega (arith, u, z, y .low)) (y .rest))
+        let restore : Restored w v j x (frame F) = subst (Restored w v j x) (sym i) (restore-first (y .cell) e (y .label) a (y .second) (y .third) (d .long) (d .others) c′) in
+        rw s (restored F K restore b (omega (arith, u, z)) (omega (arith, u, z, y .low)) (y .rest))
 
     second-of : {x p q k m : ℕ} {g f : Tree} {r : Row} (F : Around) (K : List Around) → frame F ≡ second k m g → rowOf k ≡ some r → r .a ≡ refers term-sort
         → r .b ≡ refers term-sort → r .c ≡ unused → Second w j p q k m g (frames K) r → IsCell v j (t .kind) (t .label) (t .a) x 0
-        → HeldField false w q (refers term-sort) x f → MendedTo v j (t .b) (fill (frames (F ∷ K)) f)
+        → HeldField false w q (refers term-sort) x f → RestoredTo v j (t .b) (fill (frames (F ∷ K)) f)
     second-of {x} {p} {q} {k} {m} {g} {f} F K i e a o n y c b =
         let s : t ≡ record { kind = k; label = y .l; a = y .a; b = y .u; c = y .c } = cell ∙ y .cell .is in
-        let mend : Mended w v j x (frame F) = subst (Mended w v j x) (sym i) (mend-second (y .cell) e (y .label) a o n (y .run) (y .low) (d .long) (d .others) (rw s at c)) in
-        rw s (mended F K mend b (omega (arith, y .here)) (omega (arith, grows (y .run), y .low)) (y .rest))
+        let restore : Restored w v j x (frame F) = subst (Restored w v j x) (sym i) (restore-second (y .cell) e (y .label) a o n (y .run) (y .low) (d .long) (d .others) (rw s at c)) in
+        rw s (restored F K restore b (omega (arith, y .here)) (omega (arith, grows (y .run), y .low)) (y .rest))
 
     -- it waited for its first part
-    pub mends-first : {x : ℕ} → (j ≡ 0 → ⊥) → t .c ≡ 0 → IsCell v j (t .kind) (t .label) x (t .b) 0 → (K : List Around) (f : Tree) → Held w j x K f
-        → MendedTo v j (t .a) (fill (frames K) f)
+    pub restores-first : {x : ℕ} → (j ≡ 0 → ⊥) → t .c ≡ 0 → IsCell v j (t .kind) (t .label) x (t .b) 0 → (K : List Around) (f : Tree) → Held w j x K f
+        → RestoredTo v j (t .a) (fill (frames K) f)
     unfolding frames frame table rowIn rowOf
-    mends-first j0 z c [] f h = absurd (j0 (none-waits (h .waits)))
-    mends-first j0 z c (app-right y ∷ K) f h = absurd (omega (arith, z, ap (λ (q : Cell). q .c) cell, waiting-kind (app-right y) K (h .waits) .1))
-    mends-first j0 z c (merge-right y ∷ K) f h = absurd (omega (arith, z, ap (λ (q : Cell). q .c) cell, waiting-kind (merge-right y) K (h .waits) .1))
-    mends-first j0 z c (anno-of A ∷ K) f h = first-of (anno-of A) K refl refl refl refl (waits-first (h .waits) refl) c (h .holds)
-    mends-first j0 z c (app-left y ∷ K) f h = first-of (app-left y) K refl refl refl refl (waits-first (h .waits) refl) c (h .holds)
-    mends-first j0 z c (merge-left y ∷ K) f h = first-of (merge-left y) K refl refl refl refl (waits-first (h .waits) refl) c (h .holds)
-    mends-first j0 z c (rcd-of l ∷ K) f h = first-of (rcd-of l) K refl refl refl refl (waits-first (h .waits) refl) c (h .holds)
-    mends-first j0 z c (proj-of l ∷ K) f h = first-of (proj-of l) K refl refl refl refl (waits-first (h .waits) refl) c (h .holds)
+    restores-first j0 z c [] f h = absurd (j0 (none-waits (h .waits)))
+    restores-first j0 z c (app-right y ∷ K) f h = absurd (omega (arith, z, ap (λ (q : Cell). q .c) cell, waiting-kind (app-right y) K (h .waits) .1))
+    restores-first j0 z c (merge-right y ∷ K) f h = absurd (omega (arith, z, ap (λ (q : Cell). q .c) cell, waiting-kind (merge-right y) K (h .waits) .1))
+    restores-first j0 z c (anno-of A ∷ K) f h = first-of (anno-of A) K refl refl refl refl (waits-first (h .waits) refl) c (h .holds)
+    restores-first j0 z c (app-left y ∷ K) f h = first-of (app-left y) K refl refl refl refl (waits-first (h .waits) refl) c (h .holds)
+    restores-first j0 z c (merge-left y ∷ K) f h = first-of (merge-left y) K refl refl refl refl (waits-first (h .waits) refl) c (h .holds)
+    restores-first j0 z c (rcd-of l ∷ K) f h = first-of (rcd-of l) K refl refl refl refl (waits-first (h .waits) refl) c (h .holds)
+    restores-first j0 z c (proj-of l ∷ K) f h = first-of (proj-of l) K refl refl refl refl (waits-first (h .waits) refl) c (h .holds)
 
     -- it waited for its second part
-    pub mends-second : {x : ℕ} → (j ≡ 0 → ⊥) → (t .c ≡ 0 → ⊥) → IsCell v j (t .kind) (t .label) (t .a) x 0 → (K : List Around) (f : Tree) → Held w j x K f
-        → MendedTo v j (t .b) (fill (frames K) f)
+    pub restores-second : {x : ℕ} → (j ≡ 0 → ⊥) → (t .c ≡ 0 → ⊥) → IsCell v j (t .kind) (t .label) (t .a) x 0 → (K : List Around) (f : Tree) → Held w j x K f
+        → RestoredTo v j (t .b) (fill (frames K) f)
     unfolding frames frame table rowIn rowOf
-    mends-second j0 z c [] f h = absurd (j0 (none-waits (h .waits)))
-    mends-second j0 z c (app-right y ∷ K) f h = second-of (app-right y) K refl refl refl refl refl (waits-second (h .waits) refl) c (h .holds)
-    mends-second j0 z c (merge-right y ∷ K) f h = second-of (merge-right y) K refl refl refl refl refl (waits-second (h .waits) refl) c (h .holds)
-    mends-second j0 z c (anno-of A ∷ K) f h = absurd (z (ap (λ (q : Cell). q .c) cell ∙ waiting-kind (anno-of A) K (h .waits) .1))
-    mends-second j0 z c (app-left y ∷ K) f h = absurd (z (ap (λ (q : Cell). q .c) cell ∙ waiting-kind (app-left y) K (h .waits) .1))
-    mends-second j0 z c (merge-left y ∷ K) f h = absurd (z (ap (λ (q : Cell). q .c) cell ∙ waiting-kind (merge-left y) K (h .waits) .1))
-    mends-second j0 z c (rcd-of l ∷ K) f h = absurd (z (ap (λ (q : Cell). q .c) cell ∙ waiting-kind (rcd-of l) K (h .waits) .1))
-    mends-second j0 z c (proj-of l ∷ K) f h = absurd (z (ap (λ (q : Cell). q .c) cell ∙ waiting-kind (proj-of l) K (h .waits) .1))
+    restores-second j0 z c [] f h = absurd (j0 (none-waits (h .waits)))
+    restores-second j0 z c (app-right y ∷ K) f h = second-of (app-right y) K refl refl refl refl refl (waits-second (h .waits) refl) c (h .holds)
+    restores-second j0 z c (merge-right y ∷ K) f h = second-of (merge-right y) K refl refl refl refl refl (waits-second (h .waits) refl) c (h .holds)
+    restores-second j0 z c (anno-of A ∷ K) f h = absurd (z (ap (λ (q : Cell). q .c) cell ∙ waiting-kind (anno-of A) K (h .waits) .1))
+    restores-second j0 z c (app-left y ∷ K) f h = absurd (z (ap (λ (q : Cell). q .c) cell ∙ waiting-kind (app-left y) K (h .waits) .1))
+    restores-second j0 z c (merge-left y ∷ K) f h = absurd (z (ap (λ (q : Cell). q .c) cell ∙ waiting-kind (merge-left y) K (h .waits) .1))
+    restores-second j0 z c (rcd-of l ∷ K) f h = absurd (z (ap (λ (q : Cell). q .c) cell ∙ waiting-kind (rcd-of l) K (h .waits) .1))
+    restores-second j0 z c (proj-of l ∷ K) f h = absurd (z (ap (λ (q : Cell). q .c) cell ∙ waiting-kind (proj-of l) K (h .waits) .1))
 
 -- what waits around is above the cell that is whole
-pub mends-up : {v : List ℕ} {j r : ℕ} {t : Tree} → MendedTo v j r t → (r ≡ 0) ⊎ ((j < r) × (r < 8192))
-mends-up {j = j} {r} m = go (waits-up (m .held .waits))
+pub restores-up : {v : List ℕ} {j r : ℕ} {t : Tree} → RestoredTo v j r t → (r ≡ 0) ⊎ ((j < r) × (r < 8192))
+restores-up {j = j} {r} m = go (waits-up (m .held .waits))
   where
     go : (r ≡ 0) ⊎ ((m .held .end ≤ r) × (r < 8192)) → (r ≡ 0) ⊎ ((j < r) × (r < 8192))
     go (inl e) = inl e
     go (inr e) = inr (omega (arith, e .0, lower (m .held .holds)), e .1)
 
-pub mend-within : {w : List ℕ} {up child : ℕ} → MendReady w up child → 8 * up + 8 ≤ length w
-mend-within {w} {up} p = go (waits-up (p .unwinding .held .waits))
+pub restore-within : {w : List ℕ} {up child : ℕ} → RestoreReady w up child → 8 * up + 8 ≤ length w
+restore-within {w} {up} p = go (waits-up (p .unwinding .held .waits))
   where
     go : (up ≡ 0) ⊎ ((p .unwinding .held .end ≤ up) × (up < 8192)) → 8 * up + 8 ≤ length w
     go (inl e) = absurd (p .some e)
     go (inr e) = omega (arith, e .1, p .unwinding .long)
 
-pub child-fits : {w : List ℕ} {up child : ℕ} → MendReady w up child → child < 65536
+pub child-fits : {w : List ℕ} {up child : ℕ} → RestoreReady w up child → child < 65536
 child-fits p = omega (arith, lower (p .unwinding .held .holds), waits-right (p .unwinding .held .waits))
 
 pub around-low : {w : List ℕ} {up child : ℕ} → Unwinding w up child → up < 8192

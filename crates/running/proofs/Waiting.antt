@@ -67,16 +67,16 @@ waiting (w-first c r m a n g h l k) = omega (arith, counts g, counts h, waiting 
 waiting (w-second c r m a b d o f l k) = omega (arith, counts f, waiting k)
 
 -- The cell j that waited is whole again, with the focus at x; the cells beside it are as they were.
-pub record Mended (w v : List ℕ) (j x : ℕ) (F : Frame) : Type 0 where
+pub record Restored (w v : List ℕ) (j x : ℕ) (F : Frame) : Type 0 where
   pub long : length v ≡ length w
   pub others : (i : ℕ) → (i ≡ j → ⊥) → cellAt v i ≡ cellAt w i
   pub whole : (t : Tree) → HeldField false v j (refers term-sort) x t → HeldField false v (suc j) (refers term-sort) j (plug F t)
 
-pub mend-first : {w v : List ℕ} {j q z k l m u b c x : ℕ} {r : Row} {g h : Tree} → IsCell w j k l u b c → rowOf k ≡ some r → m ≡ labelBy (r .label) l
+pub restore-first : {w v : List ℕ} {j q z k l m u b c x : ℕ} {r : Row} {g h : Tree} → IsCell w j k l u b c → rowOf k ≡ some r → m ≡ labelBy (r .label) l
     → r .a ≡ refers term-sort → Run true w q (r .b) b g z → Run true w z (r .c) c h j → length v ≡ length w → ((i : ℕ) → (i ≡ j → ⊥) → cellAt v i ≡ cellAt w i)
-    → IsCell v j k l x b c → Mended w v j x (first k m g h)
+    → IsCell v j k l x b c → Restored w v j x (first k m g h)
 unfolding plug
-mend-first {j = j} p r m a g h n o c =
+restore-first {j = j} p r m a g h n o c =
     record {
       long = n;
       others = o;
@@ -94,8 +94,8 @@ mend-first {j = j} p r m a g h n o c =
     }
 
 -- the rest of what waits still waits
-pub mend-rest : {w v : List ℕ} {j x p u : ℕ} {F : Frame} {K : List Frame} → Mended w v j x F → p ≤ j → Waits w u p (suc j) K → Waits v u p (suc j) K
-mend-rest {j = j} d l k =
+pub restore-rest : {w v : List ℕ} {j x p u : ℕ} {F : Frame} {K : List Frame} → Restored w v j x F → p ≤ j → Waits w u p (suc j) K → Waits v u p (suc j) K
+restore-rest {j = j} d l k =
     kept-waits
     (record { long = d .long; below = λ i y. d .others i (λ e. absurd (omega (arith, y, e, l))); above = λ i y. d .others i (λ e. absurd (omega (arith, y, e))) })
     k
@@ -103,11 +103,11 @@ mend-rest {j = j} d l k =
 none : {v : List ℕ} {n x : ℕ} {u : Use} → u ≡ unused → HeldField false v n u x (raw 0)
 none e = rw e f-unused
 
-pub mend-second : {w v : List ℕ} {j p o k l m a u c x y : ℕ} {r : Row} {f : Tree} → IsCell w j k l a u c → rowOf k ≡ some r → m ≡ labelBy (r .label) l
+pub restore-second : {w v : List ℕ} {j p o k l m a u c x y : ℕ} {r : Row} {f : Tree} → IsCell w j k l a u c → rowOf k ≡ some r → m ≡ labelBy (r .label) l
     → r .a ≡ refers term-sort → r .b ≡ refers term-sort → r .c ≡ unused → Run true w o (refers term-sort) a f p → p ≤ j → length v ≡ length w
-    → ((i : ℕ) → (i ≡ j → ⊥) → cellAt v i ≡ cellAt w i) → IsCell v j k l a x y → Mended w v j x (second k m f)
+    → ((i : ℕ) → (i ≡ j → ⊥) → cellAt v i ≡ cellAt w i) → IsCell v j k l a x y → Restored w v j x (second k m f)
 unfolding plug
-mend-second {j = j} q r m a b d f l n o c =
+restore-second {j = j} q r m a b d f l n o c =
     record {
       long = n;
       others = o;

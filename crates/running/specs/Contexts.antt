@@ -17,19 +17,19 @@ pub data Around : Type 0 where
   rcd-of proj-of : ℕ → Around
 
 -- The term e with that around it;
-unfoldable pub within1 : Around → Term → Term
-within1 (anno-of A) e = anno e A
-within1 (app-left f) e = app e f
-within1 (app-right v) e = app v e
-within1 (merge-left f) e = merge e f
-within1 (merge-right v) e = merge v e
-within1 (rcd-of l) e = rcd l e
-within1 (proj-of l) e = proj l e
+unfoldable pub plugTerm : Around → Term → Term
+plugTerm (anno-of A) e = anno e A
+plugTerm (app-left f) e = app e f
+plugTerm (app-right v) e = app v e
+plugTerm (merge-left f) e = merge e f
+plugTerm (merge-right v) e = merge v e
+plugTerm (rcd-of l) e = rcd l e
+plugTerm (proj-of l) e = proj l e
 
 -- the innermost first
 unfoldable pub whole : List Around → Term → Term
 whole [] e = e
-whole (f ∷ k) e = whole k (within1 f e)
+whole (f ∷ k) e = whole k (plugTerm f e)
 
 -- what stands left of the focus is a value
 abbrev pub Proper : Around → Type 0

@@ -23,14 +23,14 @@ use Rattle.running.specs.Contexts.{Around, whole, AllProper, frames}
 use Rattle.running.specs.declared.Place.{Place}
 use Rattle.running.specs.declared.Focus.{Focus}
 use Rattle.running.specs.declared.Focus.the-variants.{Ahead, Done, Redex, Whole}
-use Rattle.running.specs.declared.Here.{Here}
-use Rattle.running.specs.declared.Here.the-variants.{Became, Elsewhere}
+use Rattle.running.specs.declared.InPlace.{InPlace}
+use Rattle.running.specs.declared.InPlace.the-variants.{Became, Elsewhere}
 use Rattle.running.specs.declared.Contracted.{Contracted}
 use Rattle.running.specs.declared.Contracted.the-variants.{To, Full}
 
 -- The focus f is to come, within K.
 pub record IsAhead (w : List ℕ) (p : Place) (K : List Around) (f : Term) : Type 0 where
-  pub begins : p .start ≡ p .left
+  pub starts : p .start ≡ p .left
   pub run : Run true w (p .right) (refers term-sort) (p .root) (fromTerm f) (suc (p .root))
   pub waits : Waits w (p .up) (p .start) (suc (p .root)) (frames K)
   pub apart : p .start < p .right
@@ -85,7 +85,7 @@ pub record Runnable (e : Term) : Type 0 where
   pub small : size e ≤ sizeLimit
 
 -- Some such term stands there.
-pub record Ready (w : List ℕ) (x : Focus) : Type 0 where
+pub record FocusReady (w : List ℕ) (x : Focus) : Type 0 where
   pub term : Term
   pub standing : Standing w x term
   pub runnable : Runnable term
@@ -108,7 +108,7 @@ pub record GoesOn (w v : List ℕ) (x y : Focus) : Type 0 where
 
 -- The focus is to come.
 abbrev pub Entering : List ℕ → Place → Type 0
-Entering w p = Ready w (Ahead p)
+Entering w p = FocusReady w (Ahead p)
 
 -- From there it has gone on.
 abbrev pub Enters : List ℕ → List ℕ → Place → Focus → Type 0
@@ -130,7 +130,7 @@ pub record Descending (w : List ℕ) (p : Place) (t : Cell) : Type 0 where
 
 -- The focus is a value and done.
 abbrev pub Leaving : List ℕ → Place → Type 0
-Leaving w p = Ready w (Done p)
+Leaving w p = FocusReady w (Done p)
 
 -- From there it has gone on.
 abbrev pub Leaves : List ℕ → List ℕ → Place → Focus → Type 0
@@ -182,7 +182,7 @@ pub record Becomes (w v : List ℕ) (p : Place) (r : Focus) : Type 0 where
 
 -- A redex whose cell t is of kind k.
 pub record RedexAt (w : List ℕ) (p : Place) (t : Cell) (k : ℕ) : Type 0 where
-  pub ready : Ready w (Redex p)
+  pub ready : FocusReady w (Redex p)
   pub cell : t ≡ cellAt w (p .root)
   pub kind : t .kind ≡ k
 
@@ -202,17 +202,17 @@ pub record FunctionAt (w : List ℕ) (p : Place) (t v y : Cell) : Type 0 where
   pub arrow : y .kind ≡ 3
   pub proper : y .c ≡ 1 → ⊥
 
--- It has become what it becomes where it lies, or nothing has changed.
-pub data HereBy (w v : List ℕ) (p : Place) (r : Here) : Type 0 where
-  h-became : {x : Focus} → r ≡ Became x → Becomes w v p x → HereBy w v p r
-  h-elsewhere : r ≡ Elsewhere → v ≡ w → HereBy w v p r
+-- It has become what it becomes in place, or nothing has changed.
+pub data InPlaceBy (w v : List ℕ) (p : Place) (r : InPlace) : Type 0 where
+  h-became : {x : Focus} → r ≡ Became x → Becomes w v p x → InPlaceBy w v p r
+  h-elsewhere : r ≡ Elsewhere → v ≡ w → InPlaceBy w v p r
 
--- What reading an annotated value where it lies gives.
-pub record ReadsHere (w v : List ℕ) (p : Place) (r : Here) : Type 0 where
-  pub says : HereBy w v p r
+-- What casting an annotated value in place gives.
+pub record CastsInPlace (w v : List ℕ) (p : Place) (r : InPlace) : Type 0 where
+  pub says : InPlaceBy w v p r
 
--- What a redex became lies from cell m of s on, before end, all its numbers fitting: a value if the redex was an annotation.
-pub record Laid (s w : List ℕ) (p : Place) (kind m end : ℕ) (K : List Around) (h : Term) : Type 0 where
+-- What a redex became is encoded from cell m of s on, before end, all its numbers fitting: a value if the redex was an annotation.
+pub record ContractumAt (s w : List ℕ) (p : Place) (kind m end : ℕ) (K : List Around) (h : Term) : Type 0 where
   pub proper : AllProper K
   pub waits : Waits w (p .up) (p .start) (suc (p .root)) (frames K)
   pub run : Run false s m (refers term-sort) (end - 1) (fromTerm h) end
@@ -227,7 +227,7 @@ pub record Installing (s w : List ℕ) (p : Place) (kind m end : ℕ) : Type 0 w
   pub small : end ≤ sizeLimit
   pub within : List Around
   pub term : Term
-  pub laid : Laid s w p kind m end within term
+  pub contractum : ContractumAt s w p kind m end within term
 
 -- The same, of an annotated function: a is the function's cell.
 pub record Halving (s w : List ℕ) (p : Place) (kind m end a : ℕ) : Type 0 where
@@ -238,12 +238,12 @@ pub record Halving (s w : List ℕ) (p : Place) (kind m end a : ℕ) : Type 0 wh
 
 -- It has its place in the work buffer, in what was around the redex.
 pub record Installs (s w v : List ℕ) (p : Place) (kind m end : ℕ) (r : Focus) : Type 0 where
-  pub says : (K : List Around) (h : Term) → Laid s w p kind m end K h → Standing v r (whole K h)
+  pub says : (K : List Around) (h : Term) → ContractumAt s w p kind m end K h → Standing v r (whole K h)
 
 -- A redex, and a buffer for what it becomes;
 pub record Contracting (s w : List ℕ) (p : Place) : Type 0 where
   pub long : 32768 ≤ length s
-  pub ready : Ready w (Redex p)
+  pub ready : FocusReady w (Redex p)
 
 -- its cell t of kind 19;
 pub record ContractingAnno (s w : List ℕ) (p : Place) (t : Cell) : Type 0 where
@@ -268,10 +268,10 @@ pub record Contracts (w v : List ℕ) (p : Place) (r : Contracted) : Type 0 wher
 
 -- The cell up waits for a tree that is held at child.
 pub record Held (w : List ℕ) (up child : ℕ) (K : List Around) (t : Tree) : Type 0 where
-  pub begin : ℕ
+  pub start : ℕ
   pub end : ℕ
-  pub waits : Waits w up begin end (frames K)
-  pub low : begin ≤ end
+  pub waits : Waits w up start end (frames K)
+  pub low : start ≤ end
   pub holds : HeldField false w end (refers term-sort) child t
 
 -- Some tree is held so.
@@ -282,26 +282,26 @@ pub record Unwinding (w : List ℕ) (up child : ℕ) : Type 0 where
   pub held : Held w up child around tree
 
 -- The same, and there is a cell that waits.
-pub record MendReady (w : List ℕ) (up child : ℕ) : Type 0 where
+pub record RestoreReady (w : List ℕ) (up child : ℕ) : Type 0 where
   pub unwinding : Unwinding w up child
   pub some : up ≡ 0 → ⊥
 
 -- The cell up, whole again, is held, and r waits for it: the whole tree is t.
-pub record MendedTo (v : List ℕ) (up r : ℕ) (t : Tree) : Type 0 where
+pub record RestoredTo (v : List ℕ) (up r : ℕ) (t : Tree) : Type 0 where
   pub around : List Around
   pub tree : Tree
   pub held : Held v r up around tree
   pub same : fill (frames around) tree ≡ t
 
 -- The cell up is mended; what waits for it is a higher cell, or nothing.
-pub record Mends (w v : List ℕ) (up child r : ℕ) : Type 0 where
+pub record Restores (w v : List ℕ) (up child r : ℕ) : Type 0 where
   pub higher : (r ≡ 0) ⊎ ((up < r) × (r < 8192))
-  pub says : (K : List Around) (t : Tree) → Held w up child K t → MendedTo v up r (fill (frames K) t)
+  pub says : (K : List Around) (t : Tree) → Held w up child K t → RestoredTo v up r (fill (frames K) t)
 
 -- All waiting cells are whole again: the root r holds the whole tree.
 pub record Unwinds (w v : List ℕ) (up child r : ℕ) : Type 0 where
   pub says : (K : List Around) (t : Tree) → Held w up child K t → HeldField false v 8192 (refers term-sort) r (fill (frames K) t)
 
 -- The root r holds the whole term.
-pub record Holds (w v : List ℕ) (x : Focus) (r : ℕ) : Type 0 where
+pub record Rebuilds (w v : List ℕ) (x : Focus) (r : ℕ) : Type 0 where
   pub says : (e : Term) → Standing w x e → HeldField false v 8192 (refers term-sort) r (fromTerm e)

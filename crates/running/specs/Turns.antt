@@ -15,26 +15,26 @@ use Rattle.format.specs.Book.{sizeLimit}
 use Rattle.answers.specs.Answer as Answer
 use Rattle.answers.specs.Answer.{stopped}
 use Rattle.answers.specs.Definition.{ended, evaluate}
-use Rattle.layout.specs.Lays.{LiesTree}
-use Rattle.outcome.specs.Numbers.{stopAnswer}
-use Rattle.outcome.specs.declared.Stop.{Stop}
-use Rattle.outcome.specs.declared.Stop.the-variants.{Value, Spent, Room}
-use Rattle.running.specs.Places.{Standing, Runnable, Ready, Settled}
+use Rattle.layout.specs.Encoding.{EncodedTree}
+use Rattle.answers.specs.Cases.{stopAnswer}
+use Rattle.answers.specs.declared.Stop.{Stop}
+use Rattle.answers.specs.declared.Stop.the-variants.{Value, Spent, Room}
+use Rattle.running.specs.Places.{Standing, Runnable, FocusReady, Settled}
 use Rattle.running.specs.declared.Focus.{Focus}
 use Rattle.running.specs.declared.State.{State}
 use Rattle.running.specs.declared.Turn.{Turn}
 use Rattle.running.specs.declared.Turn.the-variants.{Next, Ended}
 use Rattle.running.specs.declared.End.{End}
 
--- The term lies in the first n cells of the work buffer, as a tree of its own.
-pub record Lies (w : List ℕ) (n : ℕ) (e : Term) : Type 0 where
-  pub tree : LiesTree w n (fromTerm e)
+-- The term is encoded in the first n cells of the work buffer, as a tree of its own.
+pub record EncodedTerm (w : List ℕ) (n : ℕ) (e : Term) : Type 0 where
+  pub tree : EncodedTree w n (fromTerm e)
   pub fits : TermFits e
 
--- A typed term lies so.
-pub record TypedLies (w : List ℕ) (n : ℕ) : Type 0 where
+-- A typed term is encoded so.
+pub record TypedEncoded (w : List ℕ) (n : ℕ) : Type 0 where
   pub term : Term
-  pub lies : Lies w n term
+  pub encoded : EncodedTerm w n term
   pub type : Ty
   pub typed : Typed [] term type
 
@@ -42,18 +42,18 @@ pub record TypedLies (w : List ℕ) (n : ℕ) : Type 0 where
 pub record StepReady (s w : List ℕ) (n : ℕ) : Type 0 where
   pub long : 32768 ≤ length s
   pub work : length w ≡ 65536
-  pub at : TypedLies w n
+  pub at : TypedEncoded w n
 
--- The term that lies there has its place.
+-- The term encoded there has its place.
 pub record Starts (w v : List ℕ) (n : ℕ) (r : Focus) : Type 0 where
   pub long : length v ≡ 65536
   pub settled : Settled r
-  pub says : (e : Term) (A : Ty) → Lies w n e → Typed [] e A → Standing v r e
+  pub says : (e : Term) (A : Ty) → EncodedTerm w n e → Typed [] e A → Standing v r e
 
 -- A state within the limit l, and a buffer of 4,096 cells.
 pub record TurnReady (s w : List ℕ) (x : State) (l : ℕ) : Type 0 where
   pub long : 32768 ≤ length s
-  pub ready : Ready w (x .focus)
+  pub ready : FocusReady w (x .focus)
   pub settled : Settled (x .focus)
   pub taken : x .steps ≤ l
 
@@ -71,24 +71,24 @@ pub data TurnOf (v : List ℕ) (x : Focus) (k l : ℕ) (e : Term) (r : Turn) : T
 pub record Steps (w v : List ℕ) (x : State) (l : ℕ) (r : Turn) : Type 0 where
   pub says : (e : Term) → Standing w (x .focus) e → Runnable e → TurnOf v (x .focus) (x .steps) l e r
 
--- A term that has its place, and a buffer to lay it down in.
-pub record Laying (s w : List ℕ) (x : Focus) : Type 0 where
+-- A term that has its place, and a buffer to encode it in.
+pub record WholeReady (s w : List ℕ) (x : Focus) : Type 0 where
   pub long : 32768 ≤ length s
-  pub ready : Ready w x
+  pub ready : FocusReady w x
 
--- The whole term lies in the first r cells.
-pub record LaysWhole (w v : List ℕ) (x : Focus) (r : ℕ) : Type 0 where
-  pub says : (e : Term) → Standing w x e → Runnable e → Lies v r e
+-- The whole term is encoded in the first r cells.
+pub record EncodesWhole (w v : List ℕ) (x : Focus) (r : ℕ) : Type 0 where
+  pub says : (e : Term) → Standing w x e → Runnable e → EncodedTerm v r e
 
--- The whole run of e with limit l: how it ended, by the definition, and the term reached, which lies in the work buffer.
+-- The whole run of e with limit l: how it ended, by the definition, and the term reached, which is encoded in the work buffer.
 pub record RunOf (v : List ℕ) (l : ℕ) (e : Term) (r : End) : Type 0 where
   pub stop : Answer.Stop
   pub steps : ℕ
   pub term : Term
   pub ends : evaluate sizeLimit l 0 e ≡ ended stop steps term
   pub answer : stopAnswer (r .stop) ≡ stopped stop steps
-  pub lies : Lies v (r .cells) term
+  pub encoded : EncodedTerm v (r .cells) term
 
--- The whole run of the term that lies there.
+-- The whole run of the term encoded there.
 pub record Runs (w v : List ℕ) (n l : ℕ) (r : End) : Type 0 where
-  pub says : (e : Term) (A : Ty) → Lies w n e → Typed [] e A → RunOf v l e r
+  pub says : (e : Term) (A : Ty) → EncodedTerm w n e → Typed [] e A → RunOf v l e r

@@ -1,25 +1,25 @@
 // The turns of a run. The run keeps its place: what is done, values only, lies at the start of the work buffer, what is to come at its end in
-// the order of laying down, and the gap between them moves through the term. A cell that waits for a part says where the cell around it
+// the order of encoding, and the gap between them moves through the term. A cell that waits for a part says where the cell around it
 // is, so there is no stack. A step contracts the redex alone, by way of a buffer that keeps nothing between steps. The state is small and
 // goes by value.
+use answers::Stop;
 use cells::Cell;
 use cells::read_cell;
 use cells::write_cell;
-use emission::Laid;
-use layout::lay_here;
+use emission::Emitted;
+use layout::encode_in_place;
 use moving::copy;
 use moving::place;
 use moving::shift;
-use outcome::Stop;
 use reduction::emit_contractum;
 ghost use mathlib.Core.Path.{_≡_};
 ghost use Prim.Native.Nat.{_<_};
 ghost use Rattle.cells.specs.Coded.{asCell};
-ghost use Rattle.running.specs.Places.{Taking, Descending, Entering, Enters, Leaving, Leaves, WaitingOne, WaitingFirst, WaitingSecond, Ready, Settles};
-ghost use Rattle.running.specs.Places.{doneAt, Becomes, RedexAt, TopAt, FunctionAt, ReadsHere};
+ghost use Rattle.running.specs.Places.{Taking, Descending, Entering, Enters, Leaving, Leaves, WaitingOne, WaitingFirst, WaitingSecond, FocusReady, Settles};
+ghost use Rattle.running.specs.Places.{doneAt, Becomes, RedexAt, TopAt, FunctionAt, CastsInPlace};
 ghost use Rattle.running.specs.Places.{Installing, Halving, Installs, Contracting, ContractingAnno, Emitting, Contracts};
-ghost use Rattle.running.specs.Places.{Unwinding, Unwinds, MendReady, Mends, Holds};
-ghost use Rattle.running.specs.Turns.{StepReady, Starts, TurnReady, Steps, Laying, LaysWhole, Runs};
+ghost use Rattle.running.specs.Places.{Unwinding, Unwinds, RestoreReady, Restores, Rebuilds};
+ghost use Rattle.running.specs.Turns.{StepReady, Starts, TurnReady, Steps, WholeReady, EncodesWhole, Runs};
 
 // The first left cells are done, those from right on are to come. The focus has the cells from start on among those done, and among those
 // to come the cells up to root. The cell up waits for it; 0: none does.
@@ -59,8 +59,8 @@ pub struct End {
     pub cells: usize,
 }
 
-// What a redex became where it lies, or that it becomes nothing there.
-pub enum Here {
+// What a redex became in place, or that it becomes nothing there.
+pub enum InPlace {
     Became(Focus),
     Elsewhere,
 }
@@ -241,7 +241,7 @@ fn leave(w: &mut [u8], p: Place) -> Focus
 
 // The focus moves to the redex, or to the whole term if that is a value.
 fn settle(w: &mut [u8], x: Focus) -> Focus
-    requires { ⌜ Ready (now w) x ⌝ }
+    requires { ⌜ FocusReady (now w) x ⌝ }
     ensures { λ r. ⌜ Settles (now (w .entry)) (now (w .exit)) x r ⌝ }
 {
     let mut focus = x;
@@ -290,7 +290,7 @@ fn project(w: &[u8], p: Place, t: Cell) -> Focus
 }
 
 // A value under a top-like type y that is no intersection: the top value.
-fn read_top(w: &mut [u8], p: Place, t: Cell, y: Cell) -> Focus
+fn cast_top(w: &mut [u8], p: Place, t: Cell, y: Cell) -> Focus
     requires { ⌜ TopAt (now w) p (asCell t) (asCell y) ⌝ }
     ensures { λ r. ⌜ Becomes (now (w .entry)) (now (w .exit)) p r ⌝ }
 {
@@ -331,30 +331,30 @@ fn retype(w: &mut [u8], p: Place, t: Cell, v: Cell, y: Cell) -> Focus
 }
 
 // A value under a type, where its reading is short to say: the top value, a number, a function that is no part of a merge.
-fn read_here(w: &mut [u8], p: Place, t: Cell) -> Here
+fn cast_in_place(w: &mut [u8], p: Place, t: Cell) -> InPlace
     requires { ⌜ RedexAt (now w) p (asCell t) 19 ⌝ }
-    ensures { λ r. ⌜ ReadsHere (now (w .entry)) (now (w .exit)) p r ⌝ }
+    ensures { λ r. ⌜ CastsInPlace (now (w .entry)) (now (w .exit)) p r ⌝ }
 {
     let y = read_cell(w, t.b);
     if y.kind == 4 {
-        return Here::Elsewhere;
+        return InPlace::Elsewhere;
     }
     if y.c == 1 {
-        return Here::Became(read_top(w, p, t, y));
+        return InPlace::Became(cast_top(w, p, t, y));
     }
     let v = read_cell(w, t.a);
     if v.kind == 21 {
         if y.kind == 3 {
-            return Here::Became(retype(w, p, t, v, y));
+            return InPlace::Became(retype(w, p, t, v, y));
         }
-        return Here::Elsewhere;
+        return InPlace::Elsewhere;
     }
     if v.kind == 17 {
         if y.kind == 1 {
-            return Here::Became(became(p, p.left));
+            return InPlace::Became(became(p, p.left));
         }
     }
-    Here::Elsewhere
+    InPlace::Elsewhere
 }
 
 // What a redex became, a function at cell a of s and its annotation: the function is done, its type is to come, and the annotation is a redex.
@@ -413,7 +413,7 @@ fn install_ahead(s: &[u8], w: &mut [u8], p: Place, kind: u8, m: usize, end: usiz
     })
 }
 
-// What a redex of this kind became, laid down in s from cell m on before end, comes to the work buffer: a value is done, a function under its
+// What a redex of this kind became, encoded in s from cell m on before end, comes to the work buffer: a value is done, a function under its
 // annotation too, all else is to come.
 fn install(s: &[u8], w: &mut [u8], p: Place, kind: u8, m: usize, end: usize) -> Focus
     requires { ⌜ Installing (now s) (now w) p kind m end ⌝ }
@@ -441,7 +441,7 @@ fn contract_through(s: &mut [u8], w: &mut [u8], p: Place, t: Cell) -> Contracted
     ensures { λ r. ⌜ Contracts (now (w .entry)) (now (w .exit)) p r ⌝ }
 {
     let m = p.start + 8191 - p.root;
-    let Laid::Next(end) = emit_contractum(w, s, p.root, m) else {
+    let Emitted::Next(end) = emit_contractum(w, s, p.root, m) else {
         return Contracted::Full;
     };
     Contracted::To(install(s, w, p, t.kind, m, end))
@@ -452,9 +452,9 @@ fn contract_anno(s: &mut [u8], w: &mut [u8], p: Place, t: Cell) -> Contracted
     requires { ⌜ ContractingAnno (now s) (now w) p (asCell t) ⌝ }
     ensures { λ r. ⌜ Contracts (now (w .entry)) (now (w .exit)) p r ⌝ }
 {
-    match read_here(w, p, t) {
-        Here::Became(x) => Contracted::To(x),
-        Here::Elsewhere => contract_through(s, w, p, t),
+    match cast_in_place(w, p, t) {
+        InPlace::Became(x) => Contracted::To(x),
+        InPlace::Elsewhere => contract_through(s, w, p, t),
     }
 }
 
@@ -495,9 +495,9 @@ pub fn step(s: &mut [u8], w: &mut [u8], state: State, limit: u32) -> Turn
 }
 
 // The waiting cell up is whole again with its part at child; answers the cell that waits around it.
-fn mend(w: &mut [u8], up: usize, child: usize) -> usize
-    requires { ⌜ MendReady (now w) up child ⌝ }
-    ensures { λ r. ⌜ Mends (now (w .entry)) (now (w .exit)) up child r ⌝ }
+fn restore(w: &mut [u8], up: usize, child: usize) -> usize
+    requires { ⌜ RestoreReady (now w) up child ⌝ }
+    ensures { λ r. ⌜ Restores (now (w .entry)) (now (w .exit)) up child r ⌝ }
 {
     let t = read_cell(w, up);
     if t.c == 0 {
@@ -536,7 +536,7 @@ fn unwind(w: &mut [u8], up: usize, child: usize) -> usize
     let mut around = up;
     let mut root = child;
     while around > 0 {
-        let next = mend(w, around, root);
+        let next = restore(w, around, root);
         root = around;
         around = next;
     }
@@ -544,9 +544,9 @@ fn unwind(w: &mut [u8], up: usize, child: usize) -> usize
 }
 
 // All waiting cells are made whole; answers the cell that holds the term.
-fn hold(w: &mut [u8], focus: Focus) -> usize
-    requires { ⌜ Ready (now w) focus ⌝ }
-    ensures { λ r. ⌜ Holds (now (w .entry)) (now (w .exit)) focus r ⌝ }
+fn rebuild(w: &mut [u8], focus: Focus) -> usize
+    requires { ⌜ FocusReady (now w) focus ⌝ }
+    ensures { λ r. ⌜ Rebuilds (now (w .entry)) (now (w .exit)) focus r ⌝ }
 {
     match focus {
         Focus::Ahead(p) => unwind(w, p.up, p.root),
@@ -556,16 +556,16 @@ fn hold(w: &mut [u8], focus: Focus) -> usize
     }
 }
 
-// The whole term, laid down from cell 0 on; answers its cells.
-pub fn lay_whole(s: &mut [u8], w: &mut [u8], focus: Focus) -> usize
-    requires { ⌜ Laying (now s) (now w) focus ⌝ }
-    ensures { λ r. ⌜ LaysWhole (now (w .entry)) (now (w .exit)) focus r ⌝ }
+// The whole term, encoded from cell 0 on; answers its cells.
+pub fn encode_whole(s: &mut [u8], w: &mut [u8], focus: Focus) -> usize
+    requires { ⌜ WholeReady (now s) (now w) focus ⌝ }
+    ensures { λ r. ⌜ EncodesWhole (now (w .entry)) (now (w .exit)) focus r ⌝ }
 {
-    let root = hold(w, focus);
-    lay_here(s, w, 3, root)
+    let root = rebuild(w, focus);
+    encode_in_place(s, w, 3, root)
 }
 
-// The term that lies in the first n cells of the work buffer has its place.
+// The term encoded in the first n cells of the work buffer has its place.
 pub fn start(s: &mut [u8], w: &mut [u8], n: usize) -> Focus
     requires { ⌜ StepReady (now s) (now w) n ⌝ }
     ensures { λ r. ⌜ Starts (now (w .entry)) (now (w .exit)) n r ⌝ }
@@ -599,7 +599,7 @@ pub fn run_on(s: &mut [u8], w: &mut [u8], n: usize, limit: u32) -> End
                 state = next;
             }
             Turn::Ended(stop, focus) => {
-                let cells = lay_whole(s, w, focus);
+                let cells = encode_whole(s, w, focus);
                 return End { stop, cells };
             }
         }

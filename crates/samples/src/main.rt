@@ -1,21 +1,21 @@
 // Every sample of document 01 that is not marked M: each book is made here, checked or run, and its answer printed.
+use answers::Outcome;
+use answers::Refusal;
+use answers::Stop;
 use cells::Cell;
 use cells::write_cell;
 use engine::check;
 use engine::run;
 use libc::STDOUT_FILENO;
-use outcome::Outcome;
-use outcome::Refusal;
-use outcome::Stop;
 ghost use Prim.Native.Nat.{_≤_};
 ghost use lib.ListN.{length};
 ghost use Rattle.samples.specs.Chain.{Leaf, Chain};
 
 fn print_refusal(r: Refusal) {
     io::write_all(STDOUT_FILENO, b"refused ");
-    io::print_decimal(STDOUT_FILENO, report::row(r) as u64);
+    io::print_decimal(STDOUT_FILENO, answers::row(r) as u64);
     io::write_all(STDOUT_FILENO, b" ");
-    io::print_decimal(STDOUT_FILENO, report::cell(r) as u64);
+    io::print_decimal(STDOUT_FILENO, answers::cell(r) as u64);
     io::write_all(STDOUT_FILENO, b"\n");
 }
 

@@ -11,13 +11,13 @@ use Rattle.calculus.specs.Infer.{Reason, mismatch, checked, infer}
 use Rattle.calculus.specs.Decide.{below?}
 use Rattle.format.specs.Book.{follow}
 use Rattle.answers.specs.Answer.{refused, reasonNumber}
-use Rattle.outcome.specs.Numbers.{refusalAnswer}
-use Rattle.outcome.specs.declared.Refusal.{Refusal}
+use Rattle.answers.specs.Cases.{refusalAnswer}
+use Rattle.answers.specs.declared.Refusal.{Refusal}
 use Rattle.cells.specs.Held.{HoldsType, HoldsTerm, HoldsContext, Same}
 use Rattle.typing.specs.declared.Found.{Found}
 use Rattle.typing.specs.declared.Found.the-variants.{Typed, Refused}
 use Rattle.typing.specs.Finding.{Answered, Finds, checkedHere, Checks}
-use Rattle.typing.proofs.Ways.{follow-same, Leads}
+use Rattle.typing.proofs.Paths.{follow-same, Leads}
 
 -- An answer, as a record.
 pub record Answer (s t : List ℕ) (n m i : ℕ) (r : Found) (F : Infer.Found) : Type 0 where
@@ -57,23 +57,23 @@ typed {s} {t} {n} {m} {i} {x} {k} {r} {F} a e = go F (a .says)
 -- An answer that is a refusal.
 pub record IsRefused (s : List ℕ) (i : ℕ) (q : Refusal) (F : Infer.Found) : Type 0 where
   pub reason : Reason
-  pub way : List ℕ
-  pub is : F ≡ Infer.refused reason way
-  pub says : refusalAnswer q ≡ refused (reasonNumber reason) (follow s i way)
+  pub path : List ℕ
+  pub is : F ≡ Infer.refused reason path
+  pub says : refusalAnswer q ≡ refused (reasonNumber reason) (follow s i path)
 
-pub turned : {s t : List ℕ} {n m i : ℕ} {q : Refusal} {r : Found} {F : Infer.Found} → Answer s t n m i r F → r ≡ Refused q → IsRefused s i q F
-turned {s} {t} {n} {m} {i} {q} {r} {F} a e = go F (a .says)
+pub refused-by : {s t : List ℕ} {n m i : ℕ} {q : Refusal} {r : Found} {F : Infer.Found} → Answer s t n m i r F → r ≡ Refused q → IsRefused s i q F
+refused-by {s} {t} {n} {m} {i} {q} {r} {F} a e = go F (a .says)
   where
     go : (G : Infer.Found) → Answered s t n m i r G → IsRefused s i q G
     go (Infer.found A) h = absurd (clash (sym (h .2) ∙ e))
     go (Infer.refused w p) h =
         let z : h .0 ≡ q = cc (h .1) in
-        record { reason = w; way = p; is = refl; says = rw (← z) (h .2) }
+        record { reason = w; path = p; is = refl; says = rw (← z) (h .2) }
 
--- The refusal for a part, at cell j of a buffer with the same first n cells, is the whole's: the way goes on through the part's field.
+-- The refusal for a part, at cell j of a buffer with the same first n cells, is the whole's: the path goes on through the part's field.
 pub handed : {s u : List ℕ} {n i f j : ℕ} {q : Refusal} {r : Found} {F : Infer.Found} → Leads s i f j → i < n → Same s u n → r ≡ Refused q →
-    (a : IsRefused u j q F) → Answered s u n n i r (Infer.refused (a .reason) (f ∷ a .way))
-handed {j = j} {q = q} l b p e a = (q, e, a .says ∙ ap (refused (reasonNumber (a .reason))) (follow-same p (a .way) j (omega (arith, l .lower)) ∙ sym (l .way (a .way))))
+    (a : IsRefused u j q F) → Answered s u n n i r (Infer.refused (a .reason) (f ∷ a .path))
+handed {j = j} {q = q} l b p e a = (q, e, a .says ∙ ap (refused (reasonNumber (a .reason))) (follow-same p (a .path) j (omega (arith, l .lower)) ∙ sym (l .path (a .path))))
 
 -- What was found for a part at field f that is checked, carried to the whole, of type B.
 abbrev pub carried : ℕ → Ty → Infer.Found → Infer.Found

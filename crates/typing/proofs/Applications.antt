@@ -10,15 +10,15 @@ use Rattle.format.specs.Cell.{Cell, cellAt}
 use Rattle.format.specs.Tree.{kindIn}
 use Rattle.format.specs.Terms.{fromType}
 use Rattle.format.specs.Book.{follow}
-use Rattle.outcome.specs.declared.Refusal.{Refusal}
-use Rattle.outcome.specs.declared.Refusal.the-variants.{Application}
+use Rattle.answers.specs.declared.Refusal.{Refusal}
+use Rattle.answers.specs.declared.Refusal.the-variants.{Application}
 use Rattle.cells.specs.Held.{HoldsType, HoldsTerm, HoldsContext}
 use Rattle.cells.proofs.Held.{kind-of-held, same-held, same-trans}
 use Rattle.typing.specs.declared.Found.{Found}
 use Rattle.typing.specs.declared.Found.the-variants.{Typed, Refused}
 use Rattle.typing.specs.Finding.{Answered, Finds, ReadyFor, checkedHere, Checks}
-use Rattle.typing.proofs.Answers.{Answer, checking, typed, turned, handed, carried, checked-carried}
-use Rattle.typing.proofs.Lefts.{app-sides, Known, known, own, right-asks}
+use Rattle.typing.proofs.Answers.{Answer, checking, typed, refused-by, handed, carried, checked-carried}
+use Rattle.typing.proofs.FirstParts.{app-sides, Known, known, own, right-asks}
 use Rattle.typing.proofs.Parts.{Arrow, arrow-of, top-of, Read, FoundAt}
 use Rattle.typing.proofs.Checking.{carried-on}
 
@@ -101,7 +101,7 @@ module _ {s u : List ℕ} {n c i x k μ : ℕ} {y : Cell} (p : Read s n c i 20 �
           record {
             says = λ Γ d a h.
                 let q = all a h in
-                let b = turned (q .answer) e′ in
+                let b = refused-by (q .answer) e′ in
                 rw (q .is, b .is) (handed (q .of .sides .right .leads) (p .ready .term-below) (q .of .left .same) e′ b);
           }
 

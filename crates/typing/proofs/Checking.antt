@@ -10,22 +10,22 @@ use Rattle.calculus.specs.Infer.{mismatch, infer}
 use Rattle.calculus.specs.Decide.{below?}
 use Rattle.format.specs.Cell.{Cell}
 use Rattle.format.specs.Book.{follow}
-use Rattle.outcome.specs.declared.Refusal.{Refusal}
-use Rattle.outcome.specs.declared.Refusal.the-variants.{Mismatch}
+use Rattle.answers.specs.declared.Refusal.{Refusal}
+use Rattle.answers.specs.declared.Refusal.the-variants.{Mismatch}
 use Rattle.cells.specs.Held.{Same}
 use Rattle.cells.proofs.Held.{same-held, same-refl, same-trans}
-use Rattle.types.specs.Says.{TypesAt, TypesSay}
+use Rattle.decisions.specs.Questions.{TypesAt, TypesSay}
 use Rattle.typing.specs.declared.Found.{Found}
 use Rattle.typing.specs.declared.Found.the-variants.{Typed, Refused}
 use Rattle.typing.specs.Finding.{Answered, Finds, ReadyFor, checkedHere, Checks}
-use Rattle.typing.proofs.Ways.{Leads}
-use Rattle.typing.proofs.Answers.{Answer, finding, checking, typed, turned, handed, carried, checked-carried}
+use Rattle.typing.proofs.Paths.{Leads}
+use Rattle.typing.proofs.Answers.{Answer, finding, checking, typed, refused-by, handed, carried, checked-carried}
 use Rattle.typing.proofs.Parts.{ready-part, found, Read, FoundAt, anno-of}
 
 -- ---- `check`
 
 pub check-refused : {s u : List ℕ} {n c i w : ℕ} {q : Refusal} {r : Found} → Finds s u n c i r → r ≡ Refused q → Checks s u n c i w r
-check-refused {q = q} f e = record { says = λ Γ t A g h a. let z = turned (finding f g h) e in rw (z .is) (q, e, z .says) }
+check-refused {q = q} f e = record { says = λ Γ t A g h a. let z = refused-by (finding f g h) e in rw (z .is) (q, e, z .says) }
 
 -- the found type and the wanted one, for the test
 pub check-asks : {s u : List ℕ} {n c i w x k : ℕ} → ReadyFor s n c i w → FoundAt s u n c i x k → TypesAt u x w
@@ -87,7 +87,7 @@ carried-on {s} {t} {u} {n} {k} {l} {i} {f} {j} {r} F A m v b p q o a = go (check
     go : (G : Infer.Found) → ((C : Ty) → G ≡ Infer.found C → C ≡ A) → Answered t u k l j r G → Answered s u n m i r (carried f A G)
     go (Infer.found C) y h =
         (h .0, h .1, h .2, omega (arith, h .3), omega (arith, h .4), same-trans p (h .5) q, h .6, rw (← y C refl) (h .7))
-    go (Infer.refused w c) y h = handed v b p (h .1) (record { reason = w; way = c; is = refl; says = h .2 })
+    go (Infer.refused w c) y h = handed v b p (h .1) (record { reason = w; path = c; is = refl; says = h .2 })
 
 -- ---- an annotation
 

@@ -10,14 +10,14 @@ use Rattle.calculus.specs.Infer as Infer
 use Rattle.calculus.specs.Infer.{infer}
 use Rattle.calculus.specs.Decide.{topLike?}
 use Rattle.format.specs.Cell.{Cell, cellAt}
-use Rattle.outcome.specs.declared.Refusal.{Refusal}
+use Rattle.answers.specs.declared.Refusal.{Refusal}
 use Rattle.cells.specs.Held.{HoldsType, HoldsTerm, HoldsContext, Same}
 use Rattle.cells.proofs.Makes.{h-arrow}
 use Rattle.cells.proofs.Held.{same-held, same-trans, held-within, type-mark}
 use Rattle.typing.specs.declared.Found.{Found}
 use Rattle.typing.specs.declared.Found.the-variants.{Typed, Refused}
 use Rattle.typing.specs.Finding.{Finds, ReadyFor, checkedHere, Checks, RoomFor, Adds, BinderBelow, Binds}
-use Rattle.typing.proofs.Answers.{Answer, checking, typed, turned, handed, carried, checked-carried}
+use Rattle.typing.proofs.Answers.{Answer, checking, typed, refused-by, handed, carried, checked-carried}
 use Rattle.typing.proofs.Parts.{mark-one, Function, Noted, ready-body, Read, AtCell, lam-of, fix-of}
 use Rattle.typing.proofs.Checking.{carried-on}
 
@@ -85,7 +85,7 @@ module _ {s : List ℕ} {n c i μ : ℕ} {y : Cell} (p : Read s n c i 21 μ y) w
           record {
             says = λ Γ d g h.
                 let v = body g h in
-                let z = turned (v .answer) e in
+                let z = refused-by (v .answer) e in
                 rw (v .is, z .is) (handed (v .view .left .leads) (p .ready .term-below) (w .same) e z);
           }
 

@@ -14,7 +14,7 @@ use Rattle.calculus.specs.Infer.{infer}
 use Rattle.calculus.specs.Decide.{topLike?}
 use Rattle.format.specs.Cell.{Cell, cellAt, cellBytes}
 use Rattle.format.specs.Book.{follow}
-use Rattle.outcome.specs.declared.Refusal.the-variants.{Unbound}
+use Rattle.answers.specs.declared.Refusal.the-variants.{Unbound}
 use Rattle.cells.specs.Held.{mark, HoldsType, HoldsTerm, HoldsContext, h-empty, h-bind}
 use Rattle.cells.proofs.Makes.{h-int, h-top, h-inter}
 use Rattle.cells.proofs.Held.{same-held, same-context, same-refl, type-mark, written, var-at, lit-at, unit-at}

@@ -1,7 +1,7 @@
-pub mod Ways
+pub mod Paths
 pub mod Answers
 pub mod Parts
-pub mod Lefts
+pub mod FirstParts
 pub mod Checking
 pub mod Applications
 pub mod Functions

@@ -8,16 +8,16 @@ use Rattle.calculus.specs.Syntax.{Ty, Term, size}
 use Rattle.calculus.specs.Infer.{mergeable?, merged, infer}
 use Rattle.format.specs.Cell.{Cell}
 use Rattle.format.specs.Book.{follow}
-use Rattle.outcome.specs.declared.Refusal.{Refusal}
-use Rattle.outcome.specs.declared.Refusal.the-variants.{Merge}
+use Rattle.answers.specs.declared.Refusal.{Refusal}
+use Rattle.answers.specs.declared.Refusal.the-variants.{Merge}
 use Rattle.cells.specs.Held.{HoldsType, HoldsTerm, HoldsContext, Same}
 use Rattle.cells.proofs.Held.{same-held, same-trans}
-use Rattle.types.specs.Says.{HalvesAt, HalvesSay}
+use Rattle.decisions.specs.Questions.{HalvesAt, HalvesSay}
 use Rattle.typing.specs.declared.Found.{Found}
 use Rattle.typing.specs.declared.Found.the-variants.{Refused}
 use Rattle.typing.specs.Finding.{Finds, TypesBelow, AddsInter}
-use Rattle.typing.proofs.Answers.{finding, IsFound, typed, turned, handed}
-use Rattle.typing.proofs.Lefts.{merge-sides, Known, known, AtLeft}
+use Rattle.typing.proofs.Answers.{finding, IsFound, typed, refused-by, handed}
+use Rattle.typing.proofs.FirstParts.{merge-sides, Known, known, AtLeft}
 use Rattle.typing.proofs.Parts.{Read, FoundAt}
 
 module _ {s u v : List ℕ} {n c i x k μ : ℕ} {y : Cell} (p : Read s n c i 22 μ y) (f : FoundAt s u n c (y .a) x k) where
@@ -27,7 +27,7 @@ module _ {s u v : List ℕ} {n c i x k μ : ℕ} {y : Cell} (p : Read s n c i 22
       record {
         says = λ Γ d g h.
             let z = known merge-sides p f g h in
-            let b = turned (finding f′ (z .context) (z .right)) e′ in
+            let b = refused-by (finding f′ (z .context) (z .right)) e′ in
             rw (z .sides .is, z .left .is, b .is) (handed (z .sides .right .leads) (p .ready .term-below) (z .left .same) e′ b);
       }
 

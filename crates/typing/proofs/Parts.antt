@@ -20,8 +20,8 @@ use Rattle.cells.proofs.Held.{TermAndType, TwoTerms, OneTerm, held-kinds, top-a
 use Rattle.cells.proofs.Held.{same-held, same-context}
 use Rattle.typing.specs.declared.Found.{Found}
 use Rattle.typing.specs.declared.Found.the-variants.{Typed}
-use Rattle.typing.specs.Finding.{Ready, ReadyAt, ReadyTwo, Finds, Binds}
-use Rattle.typing.proofs.Ways.{Leads, leads}
+use Rattle.typing.specs.Finding.{FindReady, ReadyAt, ReadyTwo, Finds, Binds}
+use Rattle.typing.proofs.Paths.{Leads, leads}
 use Rattle.typing.proofs.Answers.{finding, IsFound, typed}
 
 pub size-one : (e : Term) → 1 ≤ size e
@@ -184,7 +184,7 @@ pub top-of : {s : List ℕ} {i : ℕ} {y : Cell} {A : Ty} → y ≡ cellAt s i �
 top-of p k h = top-at h (rw p at k)
 
 -- A part is ready in the buffer as it is later, with m cells used.
-pub ready-part : {s u : List ℕ} {n m c i f j : ℕ} {e : Term} → Ready s n c i → Part s i f j e → Same s u n → n ≤ m → m + size e ≤ 8192 → Ready u m c j
+pub ready-part : {s u : List ℕ} {n m c i f j : ℕ} {e : Term} → FindReady s n c i → Part s i f j e → Same s u n → n ≤ m → m + size e ≤ 8192 → FindReady u m c j
 ready-part {e = e} r p q l k =
     record {
       long = q .long ∙ r .long;
@@ -198,8 +198,8 @@ ready-part {e = e} r p q l k =
     }
 
 -- The body of a function or a fixpoint is ready under it.
-pub ready-body : {s t : List ℕ} {n m a c i f j : ℕ} {A : Ty} {e : Term} → Ready s n c i → Part s i f j e →
-    Binds s t n a c m → HoldsType s a A → n + 1 + size e ≤ 8192 → Ready t m n j
+pub ready-body : {s t : List ℕ} {n m a c i f j : ℕ} {A : Ty} {e : Term} → FindReady s n c i → Part s i f j e →
+    Binds s t n a c m → HoldsType s a A → n + 1 + size e ≤ 8192 → FindReady t m n j
 ready-body {A = A} {e = e} r p w h k =
     record {
       long = w .same .long ∙ r .long;
@@ -213,16 +213,16 @@ ready-body {A = A} {e = e} r p w h k =
     }
 
 -- What was found at a cell that was ready.
-pub found : {s u : List ℕ} {n c i x k : ℕ} {r : Found} → (p : Ready s n c i) → Finds s u n c i r → r ≡ Typed x k →
+pub found : {s u : List ℕ} {n c i x k : ℕ} {r : Found} → (p : FindReady s n c i) → Finds s u n c i r → r ≡ Typed x k →
     IsFound s u n (size (p .term)) x k (infer (p .context) (p .term))
 found p f e = typed (finding f (p .holds-context) (p .holds-term)) e
 
 -- There is room for a cell.
-pub room-one : {s : List ℕ} {n c i : ℕ} → Ready s n c i → n < 8192
+pub room-one : {s : List ℕ} {n c i : ℕ} → FindReady s n c i → n < 8192
 room-one p = omega (arith, p .room, size-one (p .term))
 
 -- The kind that was read, of a cell that is ready.
-pub at-kind : {s : List ℕ} {n c i k : ℕ} {y : Cell} → Ready s n c i → y ≡ cellAt s i → y .kind ≡ k → ReadyAt s n c i k
+pub at-kind : {s : List ℕ} {n c i k : ℕ} {y : Cell} → FindReady s n c i → y ≡ cellAt s i → y .kind ≡ k → ReadyAt s n c i k
 at-kind p o e = record { ready = p; kind = rw o at e }
 
 -- k is none of the n numbers from m on
@@ -242,7 +242,7 @@ abbrev pub NoneBelow : ℕ → Type 0
 NoneBelow k = (((NoneOf k 16 4 × ¬ ((k ≡ 20) ⊎ (k ≡ 22))) × ¬ (k ≡ 21)) × ¬ (k ≡ 23)) × ¬ (k ≡ 24)
 
 -- A term of none of the other kinds is a field read.
-pub at-last : {s : List ℕ} {n c i : ℕ} {y : Cell} → Ready s n c i → y ≡ cellAt s i → NoneBelow (y .kind) → ReadyAt s n c i 25
+pub at-last : {s : List ℕ} {n c i : ℕ} {y : Cell} → FindReady s n c i → y ≡ cellAt s i → NoneBelow (y .kind) → ReadyAt s n c i 25
 at-last {y = y} p o r =
     let b : (16 ≤ y .kind) × (y .kind ≤ 25) = rw o (held-kinds (p .holds-term)) in
     let u : y .kind ≡ 20 → ⊥ = λ e. r .0 .0 .0 .1 (inl e) in
@@ -251,7 +251,7 @@ at-last {y = y} p o r =
     at-kind p o (exactly b l)
 
 -- A term of one of two kinds, and of the second where it is not of the first.
-pub at-two : {s : List ℕ} {n c i : ℕ} {y : Cell} → Ready s n c i → y ≡ cellAt s i → (y .kind ≡ 20) ⊎ (y .kind ≡ 22) → ReadyTwo s n c i
+pub at-two : {s : List ℕ} {n c i : ℕ} {y : Cell} → FindReady s n c i → y ≡ cellAt s i → (y .kind ≡ 20) ⊎ (y .kind ≡ 22) → ReadyTwo s n c i
 at-two p o e = record { ready = p; kinds = rw o at e }
 
 pub at-second : {s : List ℕ} {n c i : ℕ} {y : Cell} → ReadyTwo s n c i → y ≡ cellAt s i → (y .kind ≡ 20 → ⊥) → ReadyAt s n c i 22
@@ -266,19 +266,19 @@ pub record AtTerm (m μ : ℕ) : Type 0 where
   pub c : ℕ
   pub i : ℕ
   pub y : Cell
-  pub ready : Ready s n c i
+  pub ready : FindReady s n c i
   pub cell : y ≡ cellAt s i
   pub measure : 4 * i + m ≡ μ
 
 -- A term of kind k is ready at cell i, which was read as y; the measure of its arm is μ.
 pub record Read (s : List ℕ) (n c i k μ : ℕ) (y : Cell) : Type 0 where
-  pub ready : Ready s n c i
+  pub ready : FindReady s n c i
   pub kind : cellAt s i .kind ≡ k
   pub cell : y ≡ cellAt s i
   pub measure : 4 * i ≡ μ
 
-pub reading : {s : List ℕ} {n c i k μ : ℕ} {y : Cell} → ReadyAt s n c i k → 4 * i + 0 ≡ μ → y ≡ cellAt s i → Read s n c i k μ y
-reading p m o = record { ready = p .ready; kind = p .kind; cell = o; measure = omega arith }
+pub as-read : {s : List ℕ} {n c i k μ : ℕ} {y : Cell} → ReadyAt s n c i k → 4 * i + 0 ≡ μ → y ≡ cellAt s i → Read s n c i k μ y
+as-read p m o = record { ready = p .ready; kind = p .kind; cell = o; measure = omega arith }
 
 -- The same, at some cell of some buffer.
 pub record AtCell (k μ : ℕ) : Type 0 where

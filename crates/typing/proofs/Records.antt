@@ -12,7 +12,7 @@ use Rattle.format.specs.Cell.{Cell, cellAt}
 use Rattle.format.specs.Tree.{kindIn}
 use Rattle.format.specs.Terms.{fromType}
 use Rattle.format.specs.Book.{follow}
-use Rattle.outcome.specs.declared.Refusal.the-variants.{Projection}
+use Rattle.answers.specs.declared.Refusal.the-variants.{Projection}
 use Rattle.cells.specs.Held.{HoldsType}
 use Rattle.cells.proofs.Makes.{h-field}
 use Rattle.cells.proofs.Held.{kind-of-held, same-held, same-trans, type-mark}

@@ -15,17 +15,17 @@ use Rattle.calculus.specs.Decide.{below?}
 use Rattle.format.specs.Cell.{cellAt}
 use Rattle.format.specs.Book.{follow}
 use Rattle.answers.specs.Answer.{refused, reasonNumber}
-use Rattle.outcome.specs.Numbers.{refusalAnswer}
-use Rattle.outcome.specs.declared.Refusal.{Refusal}
+use Rattle.answers.specs.Cases.{refusalAnswer}
+use Rattle.answers.specs.declared.Refusal.{Refusal}
 use Rattle.cells.specs.Held.{IsCell, HoldsType, HoldsTerm, HoldsContext, Same}
-use Rattle.types.specs.Says.{TypesAt}
+use Rattle.decisions.specs.Questions.{TypesAt}
 use Rattle.typing.specs.declared.Found.{Found}
 use Rattle.typing.specs.declared.Found.the-variants.{Typed, Refused}
 use Rattle.typing.specs.declared.Bound.{Bound}
 use Rattle.typing.specs.declared.Bound.the-variants.{At, Free}
 
 -- A buffer of 8,192 cells, of which n are used: a context, a term, and room for a cell for each cell of the term.
-pub record Ready (s : List ℕ) (n c i : ℕ) : Type 0 where
+pub record FindReady (s : List ℕ) (n c i : ℕ) : Type 0 where
   pub long : length s ≡ 65536
   pub context : List Ty
   pub holds-context : HoldsContext s c context
@@ -37,16 +37,16 @@ pub record Ready (s : List ℕ) (n c i : ℕ) : Type 0 where
 
 -- The same, at a term of kind k.
 pub record ReadyAt (s : List ℕ) (n c i k : ℕ) : Type 0 where
-  pub ready : Ready s n c i
+  pub ready : FindReady s n c i
   pub kind : cellAt s i .kind ≡ k
 
 -- The same, at an application or a merge.
 pub record ReadyTwo (s : List ℕ) (n c i : ℕ) : Type 0 where
-  pub ready : Ready s n c i
+  pub ready : FindReady s n c i
   pub kinds : (cellAt s i .kind ≡ 20) ⊎ (cellAt s i .kind ≡ 22)
 
 -- What is answered for a found type or a refusal: a cell that holds the type, at most m cells added; or the refusal, at the cell that
--- the way leads to.
+-- the path leads to.
 abbrev pub Answered : (s t : List ℕ) (n m i : ℕ) → Found → Infer.Found → Type 0
 Answered s t n m i r (Infer.found A) =
     (c : ℕ) × (k : ℕ) × (r ≡ Typed c k) × (n ≤ k) × (k ≤ n + m) × Same s t n × (c < k) × HoldsType t c A
@@ -58,7 +58,7 @@ pub record Finds (s t : List ℕ) (n c i : ℕ) (r : Found) : Type 0 where
 
 -- For checking, also a wanted type.
 pub record ReadyFor (s : List ℕ) (n c i w : ℕ) : Type 0 where
-  pub ready : Ready s n c i
+  pub ready : FindReady s n c i
   pub wanted : Ty
   pub holds-wanted : HoldsType s w wanted
   pub wanted-below : w < n

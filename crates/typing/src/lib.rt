@@ -1,12 +1,12 @@
 // Finding a type and checking against one, over a buffer that holds a book's cells and, above them, the type and context cells that
 // typing adds. A found type is a cell number, never a copy. The term's cell number falls from call to call, checking before finding.
+use answers::Refusal;
 use cells::Cell;
 use cells::read_cell;
 use cells::write_cell;
-use outcome::Refusal;
-use types::mergeable;
-use types::subtype;
-ghost use Rattle.typing.specs.Finding.{Ready, ReadyAt, Finds, ReadyFor, Checks, ContextAt, Looks};
+use decisions::mergeable;
+use decisions::subtype;
+ghost use Rattle.typing.specs.Finding.{FindReady, ReadyAt, Finds, ReadyFor, Checks, ContextAt, Looks};
 ghost use Rattle.typing.specs.Finding.{ReadyTwo, RoomFor, Adds, BinderBelow, Binds, TypesBelow, AddsInter};
 
 // A cell that holds the type, and the count of cells used; or why there is none.
@@ -222,7 +222,7 @@ fn find_two(s: &mut [u8], n: usize, c: usize, i: usize) -> Found
 // The left part of an application or a merge. One that is of these kinds itself is asked directly, so that a chain takes no more stack than
 // its own calls.
 fn find_left(s: &mut [u8], n: usize, c: usize, i: usize) -> Found
-    requires { ⌜ Ready (now s) n c i ⌝ }
+    requires { ⌜ FindReady (now s) n c i ⌝ }
     ensures { λ r. ⌜ Finds (now (s .entry)) (now (s .exit)) n c i r ⌝ }
 {
     let t = read_cell(s, i);
@@ -236,7 +236,7 @@ fn find_left(s: &mut [u8], n: usize, c: usize, i: usize) -> Found
 }
 
 pub fn find(s: &mut [u8], n: usize, c: usize, i: usize) -> Found
-    requires { ⌜ Ready (now s) n c i ⌝ }
+    requires { ⌜ FindReady (now s) n c i ⌝ }
     ensures { λ r. ⌜ Finds (now (s .entry)) (now (s .exit)) n c i r ⌝ }
 {
     let t = read_cell(s, i);

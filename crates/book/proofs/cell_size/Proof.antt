@@ -1,4 +1,4 @@
--- `book::cell_size` is the opened size of a cell, capped. Assumes nothing.
+-- `book::cell_size` is the unshared size of a cell, capped. Assumes nothing.
 use native.Mathlib.Omega.{arith}
 use borrow.Author.Needs.{needs}
 use Rattle.book.proofs.Sizes.{Sized, sized}

@@ -1,4 +1,4 @@
--- `book::root_size` is the opened size of the root, capped. The loop's invariant: the sizes of the cells below i are in their
+-- `book::root_size` is the unshared size of the root, capped. The loop's invariant: the sizes of the cells below i are in their
 -- places. Assumes nothing.
 use Prim.Native.Nat.{_≤_, _+_, _-_}
 use mathlib.Core.Path.{_≡_, refl, _∙_}

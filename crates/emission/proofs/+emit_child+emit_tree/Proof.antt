@@ -3,7 +3,7 @@
 use mathlib.Core.Path.{_∙_}
 use borrow.Author.Needs.{needs}
 use Rattle.cells.specs.Coded.{asCell}
-use Rattle.emission.proofs.Ends.{laid-full, laid-next, laid-within, finishes-within}
+use Rattle.emission.proofs.Ends.{emitted-full, emitted-next, emitted-within, finishes-within}
 use Rattle.emission.proofs.Chain.{First, Second, Third, first, none-first, second-space, second, none-second, third-space, third, none-third}
 use Rattle.emission.proofs.Chain.{emitted}
 use Rattle.emission.proofs.Emitting.{Started, less, tree-chain, cell-within, ready-a, each-a, ready-b, each-b, ready-c, each-c, trees}
@@ -86,7 +86,7 @@ module _ (t : ℕ) where
   after-first :
       (c : emit-tree-lts.Else1 (emit-tree-calls t) (emit-tree-at t) emit-tree.Post) →
       let at = at-first c in First (tree-chain (started (at-row at))) (at .emit-child .last .1 .0) (at .emit-child .result)
-  after-first c = let j = started (at-row (at-first c)) in first (tree-chain j) (each-a j (at-first c .emit-child .ensures)) (laid-next (c .if1 .left))
+  after-first c = let j = started (at-row (at-first c)) in first (tree-chain j) (each-a j (at-first c .emit-child .ensures)) (emitted-next (c .if1 .left))
 
   after-second :
       (c : emit-tree-lts.Else2 (emit-tree-calls t) (emit-tree-at t) emit-tree.Post) →
@@ -95,7 +95,7 @@ module _ (t : ℕ) where
       Second (tree-chain (started (at-row at))) (at .emit-child .last .1 .0) (at .emit-child .result) (at-2 .emit-child2 .last .1 .0) (at-2 .emit-child2 .result)
   after-second c =
       let at = first-fits (at-second c) in
-      second (after-first at) (each-b (started (at-row (at-first at))) (at-second c .emit-child2 .ensures)) (laid-next (c .if2 .left))
+      second (after-first at) (each-b (started (at-row (at-first at))) (at-second c .emit-child2 .ensures)) (emitted-next (c .if2 .left))
 
   after-third :
       (c : emit-tree-lts.Else3 (emit-tree-calls t) (emit-tree-at t) emit-tree.Post) →
@@ -107,7 +107,7 @@ module _ (t : ℕ) where
   after-third c =
       let at = second-fits (at-third c) in
       let j = started (at-row (at-first (first-fits (at-second at)))) in
-      third (after-second at) (each-c j (at-third c .emit-child3 .ensures)) (laid-next (c .if3 .left))
+      third (after-second at) (each-c j (at-third c .emit-child3 .ensures)) (emitted-next (c .if3 .left))
 
 emit-child-returns :
     (t : ℕ) →
@@ -115,7 +115,7 @@ emit-child-returns :
     (emit-tree-below t, emit-tree.Post)
     (emit-child-at t)
     emit-child.Post
-emit-child-returns t c = rw (laid-within (c .before .before .before .pre .1 .space .used)) (none-emits (c .before .before .before .args .u) (c .if1 .taken) (c .before .before .before .pre .1 .space .used))
+emit-child-returns t c = rw (emitted-within (c .before .before .before .pre .1 .space .used)) (none-emits (c .before .before .before .args .u) (c .if1 .taken) (c .before .before .before .pre .1 .space .used))
 
 emit-child-emit-tree-requires : (t : ℕ) → emit-child-lts.Need-emit-tree-requires (emit-tree-below t, emit-tree.Post) (emit-child-at t) emit-child.Post
 emit-child-emit-tree-requires t c κs =
@@ -147,7 +147,7 @@ emit-tree-same-length t c = search needs
 emit-tree-returns : (t : ℕ) → emit-tree-lts.Need-returns (emit-tree-calls t) (emit-tree-at t) emit-tree.Post
 emit-tree-returns t c =
     let at = c .before .before .before in
-    let j = started t (at-row t at) in trees (none-first (tree-chain j) (each-a j (at .emit-child .ensures)) (laid-full (c .if1 .taken)))
+    let j = started t (at-row t at) in trees (none-first (tree-chain j) (each-a j (at .emit-child .ensures)) (emitted-full (c .if1 .taken)))
 
 emit-tree-emit-child-requires-2 : (t : ℕ) → emit-tree-lts.Need-emit-child-requires-2 (emit-tree-calls t) (emit-tree-at t) emit-tree.Post
 emit-tree-emit-child-requires-2 t c κs =
@@ -161,7 +161,7 @@ emit-tree-returns-2 : (t : ℕ) → emit-tree-lts.Need-returns-2 (emit-tree-call
 emit-tree-returns-2 t c =
     let at-2 = c .before .before .before in
     let at = first-fits t at-2 in
-    trees (none-second (after-first t at) (each-b (started t (at-row t (at-first t at))) (at-2 .emit-child2 .ensures)) (laid-full (c .if2 .taken)))
+    trees (none-second (after-first t at) (each-b (started t (at-row t (at-first t at))) (at-2 .emit-child2 .ensures)) (emitted-full (c .if2 .taken)))
 
 emit-tree-emit-child-requires-3 : (t : ℕ) → emit-tree-lts.Need-emit-child-requires-3 (emit-tree-calls t) (emit-tree-at t) emit-tree.Post
 emit-tree-emit-child-requires-3 t c κs =
@@ -176,7 +176,7 @@ emit-tree-returns-3 t c =
     let at-3 = c .before .before .before in
     let at = second-fits t at-3 in
     let j = started t (at-row t (at-first t (first-fits t (at-second t at)))) in
-    trees (none-third (after-second t at) (each-c j (at-3 .emit-child3 .ensures)) (laid-full (c .if3 .taken)))
+    trees (none-third (after-second t at) (each-c j (at-3 .emit-child3 .ensures)) (emitted-full (c .if3 .taken)))
 
 emit-tree-finish-row-requires : (t : ℕ) → emit-tree-lts.Need-finish-row-requires (emit-tree-calls t) (emit-tree-at t) emit-tree.Post
 emit-tree-finish-row-requires t c κs = tree-ready _ (after-third t (c .before))

@@ -1,4 +1,4 @@
--- `emission::emit_run` meets its contract: the cells copied so far are those that laying the tree down gives. Assumes nothing.
+-- `emission::emit_run` meets its contract: the cells copied so far are those that encoding the tree gives. Assumes nothing.
 use Prim.Native.Nat.{_-_}
 use native.Mathlib.Omega.{arith}
 use Rattle.emission.proofs.Copies.{forward, run-full, Copying, copying-none, copying-long, cell-ready, copying-more, run-copied}

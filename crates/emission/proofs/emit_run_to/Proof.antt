@@ -5,17 +5,17 @@ use borrow.Author.Needs.{needs}
 use Rattle.emission.proofs.emit_run_to.Statement.{statement}
 use Rattle.emission.proofs.emit_run_to.Tie as tie
 
-begin-of-requires : tie.Need-begin-of-requires
-begin-of-requires c κs =
+start-of-requires : tie.Need-start-of-requires
+start-of-requires c κs =
     c .before .before .pre .from
 
 add-emit-run : tie.Need-add-emit-run
 add-emit-run c =
-    omega (arith, last-within (c .before .before .before .before .pre) (c .before .begin-of .ensures))
+    omega (arith, last-within (c .before .before .before .before .pre) (c .before .start-of .ensures))
 
 emit-run-requires : tie.Need-emit-run-requires
 emit-run-requires c κs =
-    end-ready (c .before .before .before .before .pre) (c .before .begin-of .ensures)
+    end-ready (c .before .before .before .before .pre) (c .before .start-of .ensures)
 
 same-length : tie.Need-same-length
 same-length c = search needs
@@ -23,10 +23,10 @@ same-length c = search needs
 returns : tie.Need-returns
 returns c =
     let at-emit-run = c .before .before in
-    let at-begin-of = at-emit-run .before .before in
-    let at-start = at-begin-of .before .before .before in
-    end-emits (at-start .pre) (at-begin-of .begin-of .ensures) (at-emit-run .emit-run .ensures)
+    let at-start-of = at-emit-run .before .before in
+    let at-start = at-start-of .before .before .before in
+    end-emits (at-start .pre) (at-start-of .start-of .ensures) (at-emit-run .emit-run .ensures)
 
 pub emit-run-to-spec : {M : Type 1} → statement M
 emit-run-to-spec =
-    tie.close (tie.spec begin-of-requires add-emit-run emit-run-requires same-length returns)
+    tie.close (tie.spec start-of-requires add-emit-run emit-run-requires same-length returns)

@@ -11,36 +11,36 @@ find-root-requires c κs = search needs
 enum-known-refusal : tie.Need-enum-known-refusal
 enum-known-refusal c = search needs
 
-turn-back-requires : tie.Need-turn-back-requires
-turn-back-requires c κs = search needs
+refuse-requires : tie.Need-refuse-requires
+refuse-requires c κs = search needs
 
 enum-known-t : tie.Need-enum-known-t
 enum-known-t c = search needs
 
-slice-aggregate-lay-here : tie.Need-slice-aggregate-lay-here
-slice-aggregate-lay-here c = search needs
+slice-aggregate-encode-in-place : tie.Need-slice-aggregate-encode-in-place
+slice-aggregate-encode-in-place c = search needs
 
-lay-here-requires : tie.Need-lay-here-requires
-lay-here-requires c κs =
+encode-in-place-requires : tie.Need-encode-in-place-requires
+encode-in-place-requires c κs =
     type-ready (c .before .before .before .before .before .before .before .before .before .before .before .pre) (λ i. c .before .before .before .before .before .before .before .before .before .before .shared-slice-known .given i .fits) (c .before .before .before .before .before .before .before .find-root .ensures) scratch (c .before .before .before .before .before .before .before .find-root .kept .1 .0) (c .before .before .before .t .given .1)
 
 close-requires : tie.Need-close-requires
 close-requires c κs =
-    type-lain (c .before .before .before .before .before .before .before .before .before .before .before .before .before .before .before .before .pre) (λ i. c .before .before .before .before .before .before .before .before .before .before .before .before .before .before .before .shared-slice-known .given i .fits) (c .before .before .before .before .before .before .before .before .before .before .before .before .find-root .ensures) (c .before .before .before .before .lay-here .kept .1 .0 ∙ c .before .before .before .before .before .before .before .before .before .before .before .before .find-root .kept .1 .0) (c .before .before .before .before .before .before .before .before .t .given .1) (c .before .before .before .before .lay-here .ensures)
+    type-lain (c .before .before .before .before .before .before .before .before .before .before .before .before .before .before .before .before .pre) (λ i. c .before .before .before .before .before .before .before .before .before .before .before .before .before .before .before .shared-slice-known .given i .fits) (c .before .before .before .before .before .before .before .before .before .before .before .before .find-root .ensures) (c .before .before .before .before .encode-in-place .kept .1 .0 ∙ c .before .before .before .before .before .before .before .before .before .before .before .before .find-root .kept .1 .0) (c .before .before .before .before .before .before .before .before .t .given .1) (c .before .before .before .before .encode-in-place .ensures)
 
 same-length : tie.Need-same-length
 same-length c = search needs
 
 returns : tie.Need-returns
 returns c =
-    ill-typed-book (c .before .before .before .before .before .before .before .before .before .before .before .before .before .pre) (λ i. c .before .before .before .before .before .before .before .before .before .before .before .before .shared-slice-known .given i .fits) (c .before .before .before .before .before .before .before .before .before .find-root .ensures) _ (c .before .before .before .before .before .before .before .before .before .find-root .kept .1 .0) (c .before .before .before .before .before .refusal .given .1) (c .before .before .turn-back .ensures)
+    ill-typed-book (c .before .before .before .before .before .before .before .before .before .before .before .before .before .pre) (λ i. c .before .before .before .before .before .before .before .before .before .before .before .before .shared-slice-known .given i .fits) (c .before .before .before .before .before .before .before .before .before .find-root .ensures) _ (c .before .before .before .before .before .before .before .before .before .find-root .kept .1 .0) (c .before .before .before .before .before .refusal .given .1) (c .before .before .refuse .ensures)
 
 same-length-2 : tie.Need-same-length-2
 same-length-2 c = search needs
 
 returns-2 : tie.Need-returns-2
 returns-2 c =
-    check-found (c .before .before .before .before .before .before .before .before .before .before .before .before .before .before .before .before .before .before .before .pre) (λ i. c .before .before .before .before .before .before .before .before .before .before .before .before .before .before .before .before .before .before .shared-slice-known .given i .fits) (c .before .before .before .before .before .before .before .before .before .before .before .before .before .before .before .find-root .ensures) (c .before .before .before .before .before .before .before .before .before .before .before .t .given .1) (c .before .before .before .before .before .before .before .lay-here .ensures) (c .before .before .close .ensures)
+    check-found (c .before .before .before .before .before .before .before .before .before .before .before .before .before .before .before .before .before .before .before .pre) (λ i. c .before .before .before .before .before .before .before .before .before .before .before .before .before .before .before .before .before .before .shared-slice-known .given i .fits) (c .before .before .before .before .before .before .before .before .before .before .before .before .before .before .before .find-root .ensures) (c .before .before .before .before .before .before .before .before .before .before .before .t .given .1) (c .before .before .before .before .before .before .before .encode-in-place .ensures) (c .before .before .close .ensures)
 
 pub check-types-spec : {M : Type 1} → statement M
 check-types-spec =
@@ -48,10 +48,10 @@ check-types-spec =
     (tie.spec
     find-root-requires
     enum-known-refusal
-    turn-back-requires
+    refuse-requires
     enum-known-t
-    slice-aggregate-lay-here
-    lay-here-requires
+    slice-aggregate-encode-in-place
+    encode-in-place-requires
     close-requires
     same-length
     returns

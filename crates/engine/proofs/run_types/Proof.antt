@@ -10,8 +10,8 @@ find-root-requires c κs = search needs
 enum-known-fault : tie.Need-enum-known-fault
 enum-known-fault c = search needs
 
-turn-back-requires : tie.Need-turn-back-requires
-turn-back-requires c κs = search needs
+refuse-requires : tie.Need-refuse-requires
+refuse-requires c κs = search needs
 
 enum-told : tie.Need-enum-told
 enum-told c = search needs
@@ -25,7 +25,7 @@ same-length c = search needs
 
 returns : tie.Need-returns
 returns c =
-    ill-typed-book (c .before .before .before .before .before .before .before .before .before .before .before .before .before .pre) (λ i. c .before .before .before .before .before .before .before .before .before .before .before .before .shared-slice-known .given i .fits) (c .before .before .before .before .before .before .before .before .before .find-root .ensures) _ (c .before .before .before .before .before .before .before .before .before .find-root .kept .1 .0) (c .before .before .before .before .before .fault .given .1) (c .before .before .turn-back .ensures)
+    ill-typed-book (c .before .before .before .before .before .before .before .before .before .before .before .before .before .pre) (λ i. c .before .before .before .before .before .before .before .before .before .before .before .before .shared-slice-known .given i .fits) (c .before .before .before .before .before .before .before .before .before .find-root .ensures) _ (c .before .before .before .before .before .before .before .before .before .find-root .kept .1 .0) (c .before .before .before .before .before .fault .given .1) (c .before .before .refuse .ensures)
 
 same-length-2 : tie.Need-same-length-2
 same-length-2 c = search needs
@@ -40,7 +40,7 @@ run-types-spec =
     (tie.spec
     find-root-requires
     enum-known-fault
-    turn-back-requires
+    refuse-requires
     enum-told
     run-root-requires
     same-length

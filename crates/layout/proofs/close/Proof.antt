@@ -1,11 +1,11 @@
 -- `layout::close` meets its contract. Assumes nothing.
-use Rattle.layout.proofs.Laid.{closed}
+use Rattle.layout.proofs.Encoded.{closed}
 use borrow.Author.Needs.{needs}
 use Rattle.layout.proofs.close.Statement.{statement}
 use Rattle.layout.proofs.close.Tie as tie
 
 sub-clear : tie.Need-sub-clear
-sub-clear c = c .before .before .pre .lies .some
+sub-clear c = c .before .before .pre .encoded .some
 
 write-cell-requires : tie.Need-write-cell-requires
 write-cell-requires c κs = search needs

@@ -1,6 +1,6 @@
 -- `reduction::emit_contractum` meets its contract. Assumes nothing.
 use Rattle.reduction.proofs.Nexts.{redex-within}
-use Rattle.reduction.proofs.Opens.{read-ready, read-emits, at-kind, at-last}
+use Rattle.reduction.proofs.Instances.{read-ready, read-emits, at-kind, at-last}
 use borrow.Author.Needs.{needs}
 use Rattle.reduction.proofs.emit_contractum.Statement.{statement}
 use Rattle.reduction.proofs.emit_contractum.Tie as tie
@@ -9,8 +9,8 @@ read-cell-requires : tie.Need-read-cell-requires
 read-cell-requires c κs =
     redex-within (c .before .before .pre .redex)
 
-emit-reading-requires : tie.Need-emit-reading-requires
-emit-reading-requires c κs =
+emit-value-cast-requires : tie.Need-emit-value-cast-requires
+emit-value-cast-requires c κs =
     let at = c .before .before in read-ready (at .read-cell .ensures) (at .before .before .before .pre) (c .before .match .keys1)
 
 next-apply-requires : tie.Need-next-apply-requires
@@ -29,11 +29,11 @@ same-length c = search needs
 
 returns : tie.Need-returns
 returns c =
-    let at-emit-reading = c .before .before in
-    let at-match = at-emit-reading .before .before in
+    let at-emit-value-cast = c .before .before in
+    let at-match = at-emit-value-cast .before .before in
     let at-read-cell = at-match .before in
     let at-start = at-read-cell .before .before .before in
-    read-emits (at-read-cell .read-cell .ensures) (at-start .pre) (at-match .match .keys1) (at-emit-reading .emit-reading .ensures)
+    read-emits (at-read-cell .read-cell .ensures) (at-start .pre) (at-match .match .keys1) (at-emit-value-cast .emit-value-cast .ensures)
 
 same-length-2 : tie.Need-same-length-2
 same-length-2 c = search needs
@@ -52,7 +52,7 @@ emit-contractum-spec =
     tie.close
     (tie.spec
     read-cell-requires
-    emit-reading-requires
+    emit-value-cast-requires
     next-apply-requires
     next-fix-requires
     same-length

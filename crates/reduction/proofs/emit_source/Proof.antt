@@ -1,13 +1,13 @@
 -- `reduction::emit_source` meets its contract. Assumes nothing.
 use native.Mathlib.Omega.{arith}
 use borrow.Author.Needs.{needs}
-use Rattle.reduction.proofs.Sources.{reading-ready, reading-emits, standing-within, standing-ready, standing-emits}
+use Rattle.reduction.proofs.Sources.{reduct-ready, reduct-emits, standing-within, standing-ready, standing-emits}
 use Rattle.reduction.proofs.emit_source.Statement.{statement}
 use Rattle.reduction.proofs.emit_source.Tie as tie
 
-emit-reading-requires : tie.Need-emit-reading-requires
-emit-reading-requires c κs =
-    let at = c .before in reading-ready (at .if1 .taken) (at .before .before .before .before .pre)
+emit-value-cast-requires : tie.Need-emit-value-cast-requires
+emit-value-cast-requires c κs =
+    let at = c .before in reduct-ready (at .if1 .taken) (at .before .before .before .before .pre)
 
 add-emit-run : tie.Need-add-emit-run
 add-emit-run c =
@@ -23,7 +23,7 @@ same-length c =
 
 returns : tie.Need-returns
 returns c =
-    let at = c .before .before in reading-emits (at .before .before .if1 .taken) (at .emit-reading .ensures)
+    let at = c .before .before in reduct-emits (at .before .before .if1 .taken) (at .emit-value-cast .ensures)
 
 same-length-2 : tie.Need-same-length-2
 same-length-2 c =
@@ -36,4 +36,4 @@ returns-2 c =
 pub emit-source-spec : {M : Type 1} → statement M
 emit-source-spec =
     tie.close
-    (tie.spec emit-reading-requires add-emit-run emit-run-requires same-length returns same-length-2 returns-2)
+    (tie.spec emit-value-cast-requires add-emit-run emit-run-requires same-length returns same-length-2 returns-2)

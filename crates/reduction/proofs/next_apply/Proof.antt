@@ -2,7 +2,7 @@
 use borrow.Author.Needs.{needs}
 use Rattle.cells.specs.Coded.{asCell}
 use Rattle.reduction.proofs.Nexts.{redex-within}
-use Rattle.reduction.proofs.Opens.{first-within, Applying, unit-applied, function-ready, function-emits}
+use Rattle.reduction.proofs.Instances.{first-within, Applying, unit-applied, function-ready, function-emits}
 use Rattle.reduction.proofs.next_apply.Statement.{statement}
 use Rattle.reduction.proofs.next_apply.Tie as tie
 
@@ -31,8 +31,8 @@ returns c =
     let at-if1 = at-top .before .before in
     unit-applied (applying (at-if1 .before .before)) (at-if1 .if1 .taken) (at-top .finish-top .ensures)
 
-emit-opened-requires : tie.Need-emit-opened-requires
-emit-opened-requires c κs =
+emit-instance-requires : tie.Need-emit-instance-requires
+emit-instance-requires c κs =
     let at-if1 = c .before in
     function-ready (applying (at-if1 .before .before)) (at-if1 .if1 .left)
 
@@ -41,9 +41,9 @@ same-length-2 c = search needs
 
 returns-2 : tie.Need-returns-2
 returns-2 c =
-    let at-emit-opened = c .before .before in
-    let at-if1 = at-emit-opened .before .before in
-    function-emits (applying (at-if1 .before .before)) (at-if1 .if1 .left) (at-emit-opened .emit-opened .ensures)
+    let at-emit-instance = c .before .before in
+    let at-if1 = at-emit-instance .before .before in
+    function-emits (applying (at-if1 .before .before)) (at-if1 .if1 .left) (at-emit-instance .emit-instance .ensures)
 
 pub next-apply-spec : {M : Type 1} → statement M
 next-apply-spec =
@@ -54,6 +54,6 @@ next-apply-spec =
     finish-top-requires
     same-length
     returns
-    emit-opened-requires
+    emit-instance-requires
     same-length-2
     returns-2)

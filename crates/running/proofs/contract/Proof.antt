@@ -1,6 +1,6 @@
 -- `running::contract` meets its contract. Assumes nothing.
 use Rattle.running.proofs.Ranges.{redex-within}
-use Rattle.running.proofs.Contracting.{contracts-here}
+use Rattle.running.proofs.Contracting.{contracts-in-place}
 use borrow.Author.Needs.{needs}
 use Rattle.running.proofs.contract.Statement.{statement}
 use Rattle.running.proofs.contract.Tie as tie
@@ -30,7 +30,7 @@ same-length-3 : tie.Need-same-length-3
 same-length-3 c = search needs
 
 returns-2 : tie.Need-returns-2
-returns-2 c = search contracts-here
+returns-2 c = search contracts-in-place
 
 same-length-4 : tie.Need-same-length-4
 same-length-4 c = search needs

@@ -4,8 +4,8 @@ use borrow.Author.Needs.{needs}
 use Rattle.running.proofs.contract_anno.Statement.{statement}
 use Rattle.running.proofs.contract_anno.Tie as tie
 
-read-here-requires : tie.Need-read-here-requires
-read-here-requires c κs = search needs
+cast-in-place-requires : tie.Need-cast-in-place-requires
+cast-in-place-requires c κs = search needs
 
 enum-known-x : tie.Need-enum-known-x
 enum-known-x c = search needs
@@ -35,7 +35,7 @@ pub contract-anno-spec : {M : Type 1} → statement M
 contract-anno-spec =
     tie.close
     (tie.spec
-    read-here-requires
+    cast-in-place-requires
     enum-known-x
     enum-told
     contract-through-requires

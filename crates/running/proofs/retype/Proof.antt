@@ -2,7 +2,7 @@
 use native.Mathlib.Omega.{arith}
 use Rattle.running.proofs.Ranges.{redex-low}
 use Rattle.running.proofs.Projecting.{becomes-at}
-use Rattle.running.proofs.Reading.{type-some, body-low, ends-low, retype-shift, retypes}
+use Rattle.running.proofs.Casting.{type-some, body-low, ends-low, retype-shift, retypes}
 use borrow.Author.Needs.{needs}
 use Rattle.running.proofs.retype.Statement.{statement}
 use Rattle.running.proofs.retype.Tie as tie

@@ -1,7 +1,7 @@
 -- `running::run_on` meets its contract. Assumes nothing.
 use Prim.Native.Nat.{_-_}
 use borrow.Author.Needs.{needs}
-use Rattle.running.proofs.Loop.{AllGoing, going-first, going-ready, going-less, going-next, ending-laying, going-ends}
+use Rattle.running.proofs.Loop.{AllGoing, going-first, going-ready, going-less, going-next, ending-whole, going-ends}
 use Rattle.running.proofs.run_on.Statement.{statement}
 use Rattle.running.proofs.run_on.Tie as tie
 
@@ -36,11 +36,11 @@ enum-known-stop : tie.Need-enum-known-stop Inv-loop μ-loop
 enum-known-stop c =
     search needs
 
-lay-whole-requires : tie.Need-lay-whole-requires Inv-loop μ-loop
-lay-whole-requires c κs =
+encode-whole-requires : tie.Need-encode-whole-requires Inv-loop μ-loop
+encode-whole-requires c κs =
     let at = c .before .before .before in
     let at-step = at .before .before .before .before .before .before in
-    ending-laying (at-step .before .before .before .loop .inv) (at-step .step .kept .0) (at-step .step .ensures) (at .stop .given .1)
+    ending-whole (at-step .before .before .before .loop .inv) (at-step .step .kept .0) (at-step .step .ensures) (at .stop .given .1)
 
 same-length : tie.Need-same-length Inv-loop μ-loop
 same-length c = search needs
@@ -64,7 +64,7 @@ run-on-spec =
     loop-less
     loop-again
     enum-known-stop
-    lay-whole-requires
+    encode-whole-requires
     same-length
     same-length-2
     returns)

@@ -1,5 +1,5 @@
 -- `running::start` meets its contract. Assumes nothing.
-use Rattle.running.proofs.Laying.{place-start, ready-first, starts}
+use Rattle.running.proofs.Encoding.{place-start, ready-first, starts}
 use borrow.Author.Needs.{needs}
 use Rattle.running.proofs.start.Statement.{statement}
 use Rattle.running.proofs.start.Tie as tie

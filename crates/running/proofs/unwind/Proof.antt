@@ -1,6 +1,6 @@
 -- `running::unwind` meets its contract. Assumes nothing.
 use Rattle.running.proofs.Unwinding.{around-low}
-use Rattle.running.proofs.Settling.{Outward, outward, outward-first, mend-ready, outward-next, outward-less, outward-ends}
+use Rattle.running.proofs.Settling.{Outward, outward, outward-first, restore-ready, outward-next, outward-less, outward-ends}
 use Rattle.running.proofs.unwind.Statement.{statement}
 use Rattle.running.proofs.unwind.Tie as tie
 
@@ -15,8 +15,8 @@ abbrev μ-loop : tie.MeasureT-loop
 loop-holds : tie.Need-loop-holds Inv-loop μ-loop
 loop-holds c = search outward-first
 
-mend-requires : tie.Need-mend-requires Inv-loop μ-loop
-mend-requires c κs = search mend-ready
+restore-requires : tie.Need-restore-requires Inv-loop μ-loop
+restore-requires c κs = search restore-ready
 
 loop-less : tie.Need-loop-less Inv-loop μ-loop
 loop-less c = search (outward-less, around-low)
@@ -33,4 +33,4 @@ returns c = search outward-ends
 pub unwind-spec : {M : Type 1} → statement M
 unwind-spec =
     tie.close
-    (tie.spec Inv-loop μ-loop loop-holds mend-requires loop-less loop-again same-length returns)
+    (tie.spec Inv-loop μ-loop loop-holds restore-requires loop-less loop-again same-length returns)

@@ -4,9 +4,9 @@
 use native.Mathlib.Omega.{arith}
 use mathlib.Core.Path.{_∙_}
 use borrow.Author.Needs.{needs}
-use Rattle.typing.proofs.Parts.{at-kind, at-last, at-two, at-second, AtTerm, reading, AtCell, at-cell}
-use Rattle.typing.proofs.Lefts.{app-begins, merge-begins, rcd-begins, proj-begins, merge-sides, right-asks, left-asks, left-refused, left-within}
-use Rattle.typing.proofs.Lefts.{AtLeft, at-left, AtType}
+use Rattle.typing.proofs.Parts.{at-kind, at-last, at-two, at-second, AtTerm, as-read, AtCell, at-cell}
+use Rattle.typing.proofs.FirstParts.{app-first, merge-first, rcd-first, proj-first, merge-sides, right-asks, left-asks, left-refused, left-within}
+use Rattle.typing.proofs.FirstParts.{AtLeft, at-left, AtType}
 use Rattle.typing.proofs.Checking.{check-refused, check-asks, check-found, check-mismatch, AtWanted, anno-asks, anno-finds}
 use Rattle.typing.proofs.Applications.{app-top-right, app-right, app-top, app-else, app-right-refused, app-found}
 use Rattle.typing.proofs.Functions.{lam-binds, lam-asks, lam-refused, lam-within, lam-room, lam-found, fix-binds, fix-asks, fix-finds, AtBody}
@@ -42,8 +42,8 @@ use Rattle.typing.proofs.+check+find+find_anno+find_app+find_fix+find_l
 use Rattle.typing.proofs.find_two.Reads as find-two
 use Rattle.typing.proofs.+check+find+find_anno+find_app+find_fix+find_lam+find_left+find_merge+find_proj+find_rcd+find_two.Lts-find_two as find-two-lts
 use Rattle.cells.proofs.read_cell.Reads as read-cell-reads
-use Rattle.types.proofs.mergeable.Reads as mergeable-reads
-use Rattle.types.proofs.subtype.Reads as subtype-reads
+use Rattle.decisions.proofs.mergeable.Reads as mergeable-reads
+use Rattle.decisions.proofs.subtype.Reads as subtype-reads
 use Rattle.typing.proofs.add.Reads as add-reads
 use Rattle.typing.proofs.add_inter.Reads as add-inter-reads
 use Rattle.typing.proofs.bind.Reads as bind-reads
@@ -126,31 +126,31 @@ left-read t c =
 
 abbrev anno-read : (t : ℕ) → find-anno-lts.After-read-cell (find-anno-calls t) (at 0 find-anno.Pre t) find-anno.Post → AtCell 19 t
 anno-read t c =
-    let start = c .before .before .before in at-cell (reading (start .pre .1) (start .pre .0) (c .read-cell .ensures))
+    let start = c .before .before .before in at-cell (as-read (start .pre .1) (start .pre .0) (c .read-cell .ensures))
 
 abbrev app-read : (t : ℕ) → find-app-lts.After-read-cell (find-app-calls t) (at 0 find-app.Pre t) find-app.Post → AtCell 20 t
 app-read t c =
-    let start = c .before .before .before in at-cell (reading (start .pre .1) (start .pre .0) (c .read-cell .ensures))
+    let start = c .before .before .before in at-cell (as-read (start .pre .1) (start .pre .0) (c .read-cell .ensures))
 
 abbrev fix-read : (t : ℕ) → find-fix-lts.After-read-cell (find-fix-calls t) (at 0 find-fix.Pre t) find-fix.Post → AtCell 23 t
 fix-read t c =
-    let start = c .before .before .before in at-cell (reading (start .pre .1) (start .pre .0) (c .read-cell .ensures))
+    let start = c .before .before .before in at-cell (as-read (start .pre .1) (start .pre .0) (c .read-cell .ensures))
 
 abbrev lam-read : (t : ℕ) → find-lam-lts.After-read-cell (find-lam-calls t) (at 0 find-lam.Pre t) find-lam.Post → AtCell 21 t
 lam-read t c =
-    let start = c .before .before .before in at-cell (reading (start .pre .1) (start .pre .0) (c .read-cell .ensures))
+    let start = c .before .before .before in at-cell (as-read (start .pre .1) (start .pre .0) (c .read-cell .ensures))
 
 abbrev merge-read : (t : ℕ) → find-merge-lts.After-read-cell (find-merge-calls t) (at 0 find-merge.Pre t) find-merge.Post → AtCell 22 t
 merge-read t c =
-    let start = c .before .before .before in at-cell (reading (start .pre .1) (start .pre .0) (c .read-cell .ensures))
+    let start = c .before .before .before in at-cell (as-read (start .pre .1) (start .pre .0) (c .read-cell .ensures))
 
 abbrev proj-read : (t : ℕ) → find-proj-lts.After-read-cell (find-proj-calls t) (at 0 find-proj.Pre t) find-proj.Post → AtCell 25 t
 proj-read t c =
-    let start = c .before .before .before in at-cell (reading (start .pre .1) (start .pre .0) (c .read-cell .ensures))
+    let start = c .before .before .before in at-cell (as-read (start .pre .1) (start .pre .0) (c .read-cell .ensures))
 
 abbrev rcd-read : (t : ℕ) → find-rcd-lts.After-read-cell (find-rcd-calls t) (at 0 find-rcd.Pre t) find-rcd.Post → AtCell 24 t
 rcd-read t c =
-    let start = c .before .before .before in at-cell (reading (start .pre .1) (start .pre .0) (c .read-cell .ensures))
+    let start = c .before .before .before in at-cell (as-read (start .pre .1) (start .pre .0) (c .read-cell .ensures))
 
 abbrev app-left : (t : ℕ) → find-app-lts.After-left (find-app-calls t) (at 0 find-app.Pre t) find-app.Post → AtLeft 20 t
 app-left t c =
@@ -257,12 +257,12 @@ pub +check+find+find-anno+find-app+find-fix+find-lam+find-left+find-merge+find-p
     (λ c. let checked = c .before .before in anno-finds (anno-read t (checked .before .before) .read) (checked .check .ensures)))
     (λ t. find-app-lts.spec (find-app-calls t) (at 0 find-app.Pre t) find-app.Post
     (λ c κs. omega (arith, c .before .before .pre .1 .ready))
-    (λ c κs. left-asks app-begins (app-read t (c .before) .read))
+    (λ c κs. left-asks app-first (app-read t (c .before) .read))
     (λ c. search needs)
     (λ c. search needs)
     (λ c. c .before .before .before .before .find-left .kept .0)
-    (λ c. let asked = c .before .before .before .before in left-refused app-begins (app-read t (asked .before .before) .read) (asked .find-left .ensures) (c .enum-told .given .1))
-    (λ c κs. let p = app-left t (c .before .before) in left-within app-begins (p .at .read) (p .left))
+    (λ c. let asked = c .before .before .before .before in left-refused app-first (app-read t (asked .before .before) .read) (asked .find-left .ensures) (c .enum-told .given .1))
+    (λ c κs. let p = app-left t (c .before .before) in left-within app-first (p .at .read) (p .left))
     (λ c κs. let p = app-type t (c .before .before .before) in app-top-right (p .at .at .read) (p .at .left))
     (λ c. let checked = c .before .before in checked .check .kept .0 ∙ app-type t (checked .before .before .before .before) .at .left .kept)
     (λ c. let checked = c .before .before in let p = app-type t (checked .before .before .before .before) in app-top (p .at .at .read) (p .at .left) (p .type) (checked .before .before .if1 .taken) (checked .check .ensures))
@@ -306,11 +306,11 @@ pub +check+find+find-anno+find-app+find-fix+find-lam+find-left+find-merge+find-p
     (λ c. c .before .before .find .ensures))
     (λ t. find-merge-lts.spec (find-merge-calls t) (at 0 find-merge.Pre t) find-merge.Post
     (λ c κs. omega (arith, c .before .before .pre .1 .ready))
-    (λ c κs. left-asks merge-begins (merge-read t (c .before) .read))
+    (λ c κs. left-asks merge-first (merge-read t (c .before) .read))
     (λ c. search needs)
     (λ c. search needs)
     (λ c. c .before .before .before .before .find-left .kept .0)
-    (λ c. let asked = c .before .before .before .before in left-refused merge-begins (merge-read t (asked .before .before) .read) (asked .find-left .ensures) (c .enum-told .given .1))
+    (λ c. let asked = c .before .before .before .before in left-refused merge-first (merge-read t (asked .before .before) .read) (asked .find-left .ensures) (c .enum-told .given .1))
     (λ c κs. let p = merge-left t (c .before .before) in let v = right-asks merge-sides (p .at .read) (p .left) in (omega (arith, v .0), v .1))
     (λ c. search needs)
     (λ c. search needs)
@@ -324,12 +324,12 @@ pub +check+find+find-anno+find-app+find-fix+find-lam+find-left+find-merge+find-p
     (λ c. let p = merge-both t (c .before .before .before .before) in merge-conflict (p .at .at .read) (p .at .left) (p .right) (c .before .mergeable .ensures) (c .if1 .left)))
     (λ t. find-proj-lts.spec (find-proj-calls t) (at 0 find-proj.Pre t) find-proj.Post
     (λ c κs. omega (arith, c .before .before .pre .1 .ready))
-    (λ c κs. let v = left-asks proj-begins (proj-read t (c .before) .read) in (omega (arith, v .0), v .1))
+    (λ c κs. let v = left-asks proj-first (proj-read t (c .before) .read) in (omega (arith, v .0), v .1))
     (λ c. search needs)
     (λ c. search needs)
     (λ c. c .before .before .before .before .find .kept .0)
-    (λ c. let asked = c .before .before .before .before in left-refused proj-begins (proj-read t (asked .before .before) .read) (asked .find .ensures) (c .enum-told .given .1))
-    (λ c κs. let p = proj-left t (c .before .before) in left-within proj-begins (p .at .read) (p .left))
+    (λ c. let asked = c .before .before .before .before in left-refused proj-first (proj-read t (asked .before .before) .read) (asked .find .ensures) (c .enum-told .given .1))
+    (λ c κs. let p = proj-left t (c .before .before) in left-within proj-first (p .at .read) (p .left))
     (λ c. proj-type t (c .before .before) .at .left .kept)
     (λ c. let p = proj-type t (c .before .before) in proj-top (p .at .at .read) (p .at .left) (p .type) (c .if1 .taken))
     (λ c. proj-type t (c .before .before .before .before .before .before .before) .at .left .kept)
@@ -340,12 +340,12 @@ pub +check+find+find-anno+find-app+find-fix+find-lam+find-left+find-merge+find-p
     (λ c. let p = proj-type t (c .before .before .before .before) in proj-else (p .at .at .read) (p .at .left) (p .type) (c .before .before .if1 .left) (c .if2 .left)))
     (λ t. find-rcd-lts.spec (find-rcd-calls t) (at 0 find-rcd.Pre t) find-rcd.Post
     (λ c κs. omega (arith, c .before .before .pre .1 .ready))
-    (λ c κs. let v = left-asks rcd-begins (rcd-read t (c .before) .read) in (omega (arith, v .0), v .1))
+    (λ c κs. let v = left-asks rcd-first (rcd-read t (c .before) .read) in (omega (arith, v .0), v .1))
     (λ c. search needs)
     (λ c. search needs)
     (λ c. c .before .before .before .before .find .kept .0)
-    (λ c. let asked = c .before .before .before .before in left-refused rcd-begins (rcd-read t (asked .before .before) .read) (asked .find .ensures) (c .enum-told .given .1))
-    (λ c κs. let p = rcd-left t (c .before .before) in left-within rcd-begins (p .at .read) (p .left))
+    (λ c. let asked = c .before .before .before .before in left-refused rcd-first (rcd-read t (asked .before .before) .read) (asked .find .ensures) (c .enum-told .given .1))
+    (λ c κs. let p = rcd-left t (c .before .before) in left-within rcd-first (p .at .read) (p .left))
     (λ c κs. let p = rcd-type t (c .before) in rcd-room (p .at .at .read) (p .at .left) (p .type))
     (λ c. c .before .before .add .kept .0 ∙ rcd-type t (c .before .before .before .before) .at .left .kept)
     (λ c. let p = rcd-type t (c .before .before .before .before) in rcd-found (p .at .at .read) (p .at .left) (p .type) (c .before .before .add .ensures)))

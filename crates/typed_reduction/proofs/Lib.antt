@@ -1,0 +1,5 @@
+pub mod Sizes
+pub mod Single
+pub mod Deciding
+pub mod Casts
+pub mod Emitting
