@@ -200,7 +200,11 @@ fn substitutions() -> Vec<Deep> {
                 let taken = (argument.size() + input.size()) as usize;
                 let body = shape.around(CELLS - taken - 6, |variable| Term::annotation(Term::variable(variable), top()));
                 let name = format!("{name}, {quarter} quarters, into {}", shape.name);
-                books.push(deep("values substituted into bodies", name, Term::application(Term::function(body, input, top()), argument)));
+                books.push(deep(
+                    "values substituted into bodies",
+                    name,
+                    Term::application(Term::function(body, input, top()), argument),
+                ));
             }
         }
     }
