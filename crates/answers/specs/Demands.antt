@@ -37,7 +37,7 @@ pub record TakesSteps (e : Term) (limit : ℕ) (r : Result) : Type 0 where
   pub small : (n : ℕ) (f : Term) → n ≤ steps → Reaches n e f → size f ≤ sizeLimit
   pub why : StopsBy stop limit steps term
 
--- Demand 2, of one book: "A well-formed book of at most 4,095 cells, unshared,
+-- Demand 2, of one book: "A well-formed book of at most 4,095 cells, sharing opened,
 pub record Demand2For (E : Engine) (b : List ℕ) : Type 0 where
   -- is accepted precisely if the typing rules .. derive a type for it;
   pub accepts : Accepts E b ↔ (WellFormed b × ((A : Ty) × Typed [] (rootTerm b) A))
@@ -60,7 +60,7 @@ pub record Agree (limit other : ℕ) (x y : Result) : Type 0 where
   -- and unless that one was stopped for steps, both give the same answer and the same bytes."
   pub same : limit ≤ other → ((n : ℕ) → x .answer ≢ stopped spent n) → x ≡ y
 
--- Demand 3, of one accepted book, whole: "whichever half each merge on the path is read from,
+-- Demand 3, of one accepted book, whole: "whichever half each merge on the way is read from,
 pub record Demand3For (E : Engine) (b : List ℕ) : Type 0 where
   -- every term it reaches after any number of steps, with room for it or without, is the only one reached after that many;
   pub only : (n : ℕ) (f g : Term) → Reaches n (rootTerm b) f → Reaches n (rootTerm b) g → f ≡ g
@@ -68,10 +68,10 @@ pub record Demand3For (E : Engine) (b : List ℕ) : Type 0 where
   pub ends : (n : ℕ) (f : Term) → Reaches n (rootTerm b) f → Ends f
   -- it has a type below the first;
   pub typed : (n : ℕ) (f : Term) → Reaches n (rootTerm b) f → (A : Ty) × (B : Ty) × Typed [] (rootTerm b) A × Typed [] f B × Below B A
-  -- and if its size is within the limit, it is, encoded, an accepted book itself" (by every check with 65,536 bytes).
+  -- and if its size is within the limit, it is, laid down, an accepted book itself" (by every check with 65,536 bytes).
   pub book : (n : ℕ) (f : Term) → Reaches n (rootTerm b) f → size f ≤ sizeLimit → (w : List ℕ) → IsWork w →
       (m : ℕ) × (E .check (termBook f) w .answer ≡ accepted m)
-  -- "And for every two step limits, two laptops running that book agree: each encodes the term reached after the steps it reports;
+  -- "And for every two step limits, two laptops running that book agree: each lays down the term reached after the steps it reports;
   pub encodes : (w : List ℕ) (limit : ℕ) → IsWork w → IsLimit limit →
       (s : Stop) × (n : ℕ) × (f : Term) × Reaches n (rootTerm b) f × (E .run b w limit ≡ result (stopped s n) (padded (termBook f)))
   -- one whose limit is no higher .., and unless that one was stopped for steps, both give the same answer and the same bytes."
