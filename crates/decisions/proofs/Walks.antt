@@ -40,23 +40,20 @@ module _ {X : Type 0} {H : ℕ → X → Type 0} {q : X → X → Bool} where
   walk-starts p = record { at = p; lower = omega arith; on = λ r u. u }
 
   -- the two parts the other way about
-  pub or-swapped : {n a b c d : ℕ} {x y : X} → Splits H q _||_ n a b c d x y → Splits H q _||_ n c d a b x y
-  or-swapped p = record {
+  swapped : (o : Bool → Bool → Bool) → ((p q : Bool) → o p q ≡ o q p) → {n a b c d : ℕ} {x y : X} → Splits H q o n a b c d x y → Splits H q o n c d a b x y
+  swapped o other p = record {
     first = p .second;
     second = p .first;
     first-less = p .second-less;
     second-less = p .first-less;
-    is = p .is ∙ or-other (q (p .first .first) (p .first .second)) (q (p .second .first) (p .second .second));
+    is = p .is ∙ other (q (p .first .first) (p .first .second)) (q (p .second .first) (p .second .second));
   }
 
+  pub or-swapped : {n a b c d : ℕ} {x y : X} → Splits H q _||_ n a b c d x y → Splits H q _||_ n c d a b x y
+  or-swapped = swapped _||_ or-other
+
   pub and-swapped : {n a b c d : ℕ} {x y : X} → Splits H q _&&_ n a b c d x y → Splits H q _&&_ n c d a b x y
-  and-swapped p = record {
-    first = p .second;
-    second = p .first;
-    first-less = p .second-less;
-    second-less = p .first-less;
-    is = p .is ∙ and-other (q (p .first .first) (p .first .second)) (q (p .second .first) (p .second .second));
-  }
+  and-swapped = swapped _&&_ and-other
 
   module _ {a b i j : ℕ} (l : Leads H q a b i j) {c d e f : ℕ} {p : Bool} where
     module _ (w : Whenever H i j (Splits H q _||_ (i + j) c d e f)) (u : PairSays H c d q p) where

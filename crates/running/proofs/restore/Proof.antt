@@ -1,5 +1,6 @@
 -- `running::restore` meets its contract. Assumes nothing.
 use native.Mathlib.Omega.{arith}
+use mathlib.Core.Path.{refl}
 use Rattle.running.proofs.Unwinding.{restore-within}
 use Rattle.running.proofs.Settling.{restore-fits, first-restores, second-restores}
 use borrow.Author.Needs.{needs}
@@ -18,8 +19,12 @@ write-cell-requires c κs =
 same-length : tie.Need-same-length
 same-length c = search needs
 
+-- the premises by name: with another cell written, the fact that fails is the cell
 returns : tie.Need-returns
-returns c = search first-restores
+returns c =
+    let at-write = c .before .before in
+    let at-read = at-write .before .before .before .before in
+    first-restores (at-read .before .before .before .pre) (at-read .read-cell .ensures) (at-write .before .before .if1 .taken) (at-write .write-cell .ensures) refl
 
 write-cell-requires-2 : tie.Need-write-cell-requires-2
 write-cell-requires-2 c κs =
@@ -31,7 +36,10 @@ same-length-2 : tie.Need-same-length-2
 same-length-2 c = search needs
 
 returns-2 : tie.Need-returns-2
-returns-2 c = search second-restores
+returns-2 c =
+    let at-write = c .before .before in
+    let at-read = at-write .before .before .before .before in
+    second-restores (at-read .before .before .before .pre) (at-read .read-cell .ensures) (at-write .before .before .if1 .left) (at-write .write-cell2 .ensures) refl
 
 pub restore-spec : {M : Type 1} → statement M
 restore-spec =
