@@ -69,6 +69,18 @@ pub fn full() -> Vec<Named> {
     books
 }
 
+/// Books with field reads of merges: a record behind many that are top-like, and many reads of one wide type.
+pub fn field_reads() -> Vec<Named> {
+    let mut parts = vec![Term::record(8, Term::top()); 1_364];
+    parts.push(Term::record(8, Term::number(1)));
+    let last =
+        merges(&parts).map(|(way, term)| named(&format!("the last of 1,365 records, merged {way}"), Term::projection(8, term)));
+    let wide = (0..=255).map(|n| Type::record(n, int())).reduce(Type::intersection).expect("a part");
+    let read = |n: usize| Term::annotation(Term::projection(n as u8, Term::variable(0)), top());
+    let reads = Term::function(merged((0..600).map(read)), wide, top());
+    last.into_iter().chain([named("600 reads of a variable of 256 parts", reads)]).collect()
+}
+
 /// Books that are costly to check.
 pub fn costly() -> Vec<Named> {
     let variable = || Term::variable(0);

@@ -204,10 +204,12 @@ fn casts(title: &str) {
 /// A table, from its title on.
 type Table = fn(&str);
 
-const TABLES: [(&str, Table); 10] = [
+const TABLES: [(&str, Table); 12] = [
     ("Small typed books together", small_books),
     ("Books of 4,095 cells: check", |title| table(title, &TWO, Call::Check, &books::full())),
     ("Books of 4,095 cells: run, limit 10,000", |title| table(title, &THREE, DESK, &books::full())),
+    ("Field reads of a merge: check", |title| table(title, &TWO, Call::Check, &books::field_reads())),
+    ("Field reads of a merge: run, limit 10,000", |title| table(title, &THREE, DESK, &books::field_reads())),
     ("Long runs", long_runs),
     ("Costly books: check", |title| table(title, &TWO, Call::Check, &books::costly())),
     ("The sample books: check, and run with limit 10,000", samples),

@@ -8,7 +8,7 @@ use crate::random::Random;
 use evaluator::{kind, successors, Term, Type, TypeShape, SIZE_LIMIT};
 
 /// A term and its type.
-type Typed = (Term, Type);
+pub type Typed = (Term, Type);
 
 fn int() -> Type {
     Type::int()
@@ -83,7 +83,7 @@ fn applied((term, of): Typed, random: &mut Random) -> Typed {
 }
 
 /// The term within so many.
-fn within_many(typed: Typed, count: usize, random: &mut Random) -> Typed {
+pub fn within_many(typed: Typed, count: usize, random: &mut Random) -> Typed {
     (0..count).fold(typed, |typed, place| within(typed, place, random))
 }
 

@@ -1,5 +1,5 @@
 //! The deepest books of every shape, each as deep as 4,095 cells allow: terms in one another, fixpoints that unfold, values substituted in
-//! bodies, and types.
+//! bodies, types, and field reads of merges.
 
 use crate::cells::{encode, Sharing};
 use crate::extremes::times;
@@ -130,7 +130,7 @@ fn holding(inside: Term) -> Term {
 /// All of them, in their groups.
 pub fn deepest() -> Vec<Deep> {
     let terms = [terms(), terms_in_terms(), fixpoints(), fixpoints_within(), substitutions()];
-    let types = [types(), two_types(), cast_values(), equal_values(), many_parts()];
+    let types = [types(), two_types(), cast_values(), equal_values(), many_parts(), field_reads(), reads_within()];
     terms.into_iter().chain(types).flatten().collect()
 }
 
@@ -325,4 +325,72 @@ pub fn merges(parts: &[Term]) -> [(&'static str, Term); 3] {
 fn many_parts() -> Vec<Deep> {
     let parts = vec![Term::annotation(Term::number(1), top()); 1_023];
     merges(&parts).map(|(way, term)| deep("many annotated parts", way.to_string(), term)).into()
+}
+
+/// Where merges and intersections nest.
+const SIDES: [(usize, &str); 2] = [(0, "left"), (1, "right")];
+
+/// A merge of at most so many cells with this part at its far end, the top value in all other places.
+fn far_merge(side: usize, cells: usize, part: Term) -> Term {
+    Shape::at(Place::of(kind::MERGE, side)).around(cells - part.size() as usize, |_| part)
+}
+
+/// An intersection with this type there, and Top in all other places.
+fn far_intersection(side: usize, cells: usize, part: Type) -> Type {
+    let place = Place::of(kind::INTERSECTION, side);
+    let wrap = |t: Type| Type::of(place.node(Part::Type(&t), &top(), &Term::top()));
+    (0..(cells - part.size() as usize) / 2).fold(part, |t, _| wrap(t))
+}
+
+fn a_field() -> Term {
+    Term::record(LABEL, Term::number(1))
+}
+
+/// The field that is read at the far end of a merge, of a variable's type and of a fixpoint's; within fields; and a field with a deep content,
+/// top-like or not.
+fn field_reads() -> Vec<Deep> {
+    let mut books = Vec::new();
+    let mut add = |name: String, term: Term| books.push(deep("field reads", name, term));
+    let read = |e: Term| Term::projection(LABEL, e);
+    for (side, way) in SIDES {
+        let merge = far_merge(side, CELLS - 1, a_field());
+        add(format!("of a merge to the {way}"), read(merge.clone()));
+        add(format!("of a merge to the {way}, of another label"), Term::projection(LABEL + 1, merge));
+        let half = far_intersection(side, CELLS / 2 - 10, Type::record(LABEL, int()));
+        add(format!("of a merge annotated to the {way}"), read(Term::annotation(far_merge(side, CELLS / 2, a_field()), half)));
+        let whole = far_intersection(side, CELLS - 10, Type::record(LABEL, int()));
+        let reader = Term::function(read(Term::variable(0)), whole.clone(), int());
+        add(format!("of a variable to the {way}"), Term::application(reader, a_field()));
+        add(format!("of a fixpoint to the {way}"), read(Term::fixpoint(Term::variable(0), whole)));
+        let within = times(CELLS / 4, Term::number(1), |e| far_merge(side, e.size() as usize + 3, Term::record(LABEL, e)));
+        add(format!("of fields within fields, to the {way}"), times(CELLS / 4, within, read));
+    }
+    for (leaf, of) in [(Term::number(1), "a number"), (Term::top(), "the top value")] {
+        let content = Shape::at(Place::of(kind::RECORD, 0)).around(CELLS - 4, |_| leaf);
+        add(format!("of records round {of}"), read(Term::merge(content, Term::number(2))));
+    }
+    for place in Place::all(Sort::Type) {
+        let function = Term::function(Term::top(), int(), place.around(CELLS - 8, &top()));
+        let merge = Term::merge(Term::record(LABEL, function), Term::number(2));
+        add(format!("of a function to {}", place.name()), read(merge));
+    }
+    books
+}
+
+/// Both within each shape: the typing walks a deep type there, the run a deep merge.
+fn reads_within() -> Vec<Deep> {
+    let mut books = Vec::new();
+    for shape in shapes() {
+        for (side, way) in SIDES {
+            let of = far_intersection(side, CELLS / 2, Type::record(LABEL, int()));
+            let deep_type = Term::fixpoint(Term::variable(0), of);
+            let deep_merge = far_merge(side, CELLS / 2, a_field());
+            for (name, part) in [("deep type", deep_type), ("deep merge", deep_merge)] {
+                let read = Term::annotation(Term::projection(LABEL, part), top());
+                let term = shape.around(CELLS - read.size() as usize, |_| read);
+                books.push(deep("field reads within", format!("a {name} to the {way}, within {}", shape.name), term));
+            }
+        }
+    }
+    books
 }

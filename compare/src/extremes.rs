@@ -1,6 +1,7 @@
 //! The deepest and the widest books.
 
 use crate::cells::{encode, zeroed, Cells, Sharing};
+use crate::deepest;
 use crate::random::Random;
 use crate::samples::{doubled, own_fixpoint};
 use evaluator::{kind, Cell, Term, Type};
@@ -43,7 +44,9 @@ fn function_type(n: usize, last: Type) -> Type {
 }
 
 pub fn extremes() -> Vec<Vec<u8>> {
-    let terms = [deep_terms(), deep_functions(), wide_types(), every_label(), large_bodies(), little_room()].concat();
+    let terms = [deep_terms(), deep_functions(), wide_types(), every_label(), large_bodies(), little_room()];
+    let reads = [deep_reads(), reads_of_every_label(), reads_of_many_variables()];
+    let terms = terms.into_iter().chain(reads).flatten().collect::<Vec<Term>>();
     let mut random = Random::of(0, "", 0);
     let mut books: Vec<Vec<u8>> = Vec::new();
     for term in &terms {
@@ -148,6 +151,55 @@ fn large_bodies() -> Vec<Term> {
         Term::merge(function(300, 1, shown(300)), function(300, 1, shown(300))),
         Term::merge(function(300, 1, shown(300)), function(300, 2, shown(300))),
     ]
+}
+
+/// Fields read of the deepest merges, the record at the far end: found, and not found with and without a top-like part.
+fn deep_reads() -> Vec<Term> {
+    let far = || Term::record(0, number(5));
+    let mut merges = Vec::new();
+    for n in [2_046, 2_047] {
+        for part in [Term::top(), number(1)] {
+            merges.push(times(n, far(), |e| Term::merge(e, part.clone())));
+            merges.push(times(n, far(), |e| Term::merge(part.clone(), e)));
+        }
+    }
+    // Equal records may be merged.
+    let mut parts: Vec<Term> = (0..600).map(|n| Term::record(1 + (n % 255) as u8, number(1))).collect();
+    parts.push(far());
+    merges.extend(deepest::merges(&parts).map(|(_, merge)| merge));
+    let mut terms: Vec<Term> = merges.iter().flat_map(|e| [0, 9].map(|label| Term::projection(label, e.clone()))).collect();
+    // Of a variable whose type is as deep, and of fields within fields.
+    let shown = |side: fn(Type) -> Type| (0..2_043).fold(Type::record(0, int()), |t, _| side(t));
+    for input in [shown(|t| Type::intersection(t, top())), shown(|t| Type::intersection(top(), t))] {
+        let read = Term::function(Term::projection(0, Term::variable(0)), input, int());
+        terms.push(Term::application(read, far()));
+    }
+    let nested = times(1_023, number(5), |e| Term::merge(Term::top(), Term::record(0, e)));
+    terms.push(times(1_023, nested.clone(), |e| Term::projection(0, e)));
+    terms.push(times(1_022, Term::projection(1, nested), |e| Term::projection(0, e)));
+    terms
+}
+
+/// All labels but one merged, some read, and the one that is missing, with and without something top-like.
+fn reads_of_every_label() -> Vec<Term> {
+    let fields: Vec<Term> = (0..255).map(|label| Term::record(label, number(i32::from(label)))).collect();
+    let mut terms = Vec::new();
+    for (_, merge) in deepest::merges(&fields) {
+        let with_top = Term::merge(merge.clone(), Term::function(Term::variable(0), int(), top()));
+        for label in [0, 128, 254, 255] {
+            terms.extend([&merge, &with_top].map(|of| Term::projection(label, of.clone())));
+        }
+    }
+    terms
+}
+
+/// Reads of types that are far larger than the book: of many variables, each with many top-like parts.
+fn reads_of_many_variables() -> Vec<Term> {
+    let wide = left(&Type::record(2, top()), 30);
+    let copies = times(60, Term::record(1, number(5)), |e| Term::merge(e, Term::variable(0)));
+    let read = |label| Term::function(Term::projection(label, copies.clone()), wide.clone(), top());
+    let applied = Term::application(read(1), Term::record(2, number(6)));
+    vec![read(1), read(2), read(3), applied]
 }
 
 /// No room, from every size of the term around.

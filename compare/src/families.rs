@@ -6,6 +6,7 @@ use crate::deepest::deepest;
 use crate::extremes::extremes;
 use crate::maker::{Maker, Weights, EVEN, LABELS};
 use crate::random::Random;
+use crate::reads::reads_of_merges;
 use crate::refusals::refusals;
 use crate::samples::{desk_example, hidden_field, identity, sample_books, samples};
 use evaluator::{kind, Cell, Sort, Term, TermShape, Type, TABLE};
@@ -49,6 +50,7 @@ pub fn families() -> Vec<Family> {
         whole("refusals", refusals),
         random("merges", 12, |r| typed(r, Weights { merge: 8, ..EVEN }.of_type(kind::INTERSECTION, 6), 30)),
         random("hidden fields", 6, hidden_fields),
+        random("reads of merges", 12, reads_of_merges),
         random("duplicates", 8, |r| typed(r, Weights { duplicate: 6, annotation: 4, ..EVEN }.of_type(kind::INTERSECTION, 5), 25)),
         random("several outputs", 6, several_outputs),
         random("top-like functions", 8, |r| {
@@ -81,7 +83,7 @@ fn encoded(term: &Term, sharing: Sharing, random: &mut Random) -> Cells {
 }
 
 /// The term as a book, shared somehow.
-fn one_book(term: &Term, random: &mut Random) -> Vec<Vec<u8>> {
+pub fn one_book(term: &Term, random: &mut Random) -> Vec<Vec<u8>> {
     let sharing = Sharing::any(random);
     vec![encoded(term, sharing, random).bytes()]
 }
@@ -108,7 +110,7 @@ fn typed(random: &mut Random, weights: Weights, fuel: usize) -> Vec<Vec<u8>> {
 /// A typed book of any family that makes them one by one.
 fn typed_any(random: &mut Random) -> Cells {
     let term = match random.lower(4) {
-        0 => hidden_fields_term(random),
+        0 => hidden_fields_term(random, true),
         1 => several_outputs_term(random),
         2 => typed_term(random, Weights { merge: 5, duplicate: 3, ..EVEN }, 20),
         _ => typed_term(random, EVEN, 20),
@@ -117,7 +119,7 @@ fn typed_any(random: &mut Random) -> Cells {
     encoded(&term, sharing, random)
 }
 
-fn merged(parts: Vec<Term>, random: &mut Random) -> Term {
+pub fn merged(parts: Vec<Term>, random: &mut Random) -> Term {
     let mut parts = parts;
     while parts.len() > 1 {
         let at = random.lower(parts.len() - 1);
@@ -133,8 +135,8 @@ fn intersected(parts: Vec<Type>) -> Type {
 }
 
 /// Document 01's hidden field with other labels, more of them, and other contents: an argument has fields that its function's input
-/// type does not show, and the body has fields of its own under the same labels.
-fn hidden_fields_term(random: &mut Random) -> Term {
+/// type does not show, and the body has fields of its own under the same labels. The merge is annotated before it is read, or not.
+pub fn hidden_fields_term(random: &mut Random, annotated: bool) -> Term {
     let mut labels = LABELS.to_vec();
     while labels.len() > 2 && random.once_in(2) {
         let at = random.lower(labels.len());
@@ -153,7 +155,8 @@ fn hidden_fields_term(random: &mut Random) -> Term {
     own.insert(random.between(0, own.len()), Term::variable(0));
     let from = if random.once_in(4) { shown } else { hidden };
     let label = *random.pick(from);
-    let body = Term::annotation(merged(own, random), Type::record(label, content.clone()));
+    let body = merged(own, random);
+    let body = if annotated { Term::annotation(body, Type::record(label, content.clone())) } else { body };
     let function = Term::function(Term::projection(label, body), input.clone(), content);
     // At times the fields are hidden by an annotation first, or the function is applied within another.
     match random.lower(4) {
@@ -167,7 +170,7 @@ fn hidden_fields_term(random: &mut Random) -> Term {
 }
 
 fn hidden_fields(random: &mut Random) -> Vec<Vec<u8>> {
-    let term = hidden_fields_term(random);
+    let term = hidden_fields_term(random, true);
     one_book(&term, random)
 }
 
@@ -273,7 +276,7 @@ fn ignored_arguments(random: &mut Random) -> Vec<Vec<u8>> {
 }
 
 /// One change to a book that keeps the rows 5 to 8.
-fn changed(book: &mut Cells, random: &mut Random) {
+pub fn changed(book: &mut Cells, random: &mut Random) {
     let at = random.lower(book.cells.len());
     let cell = book.cells[at];
     let mut new = cell;
@@ -442,7 +445,7 @@ fn every_byte() -> Vec<Vec<u8>> {
 /// Books cut short at every length, lengthened a little, and with every cell for a root.
 fn cut_short() -> Vec<Vec<u8>> {
     let mut random = Random::of(0, "", 0);
-    let larger = [hidden_field(), hidden_fields_term(&mut random), several_outputs_term(&mut random)];
+    let larger = [hidden_field(), hidden_fields_term(&mut random, true), several_outputs_term(&mut random)];
     let larger = larger.map(|term| encode(&term, Sharing::Sometimes, &mut random).bytes());
     let mut books = Vec::new();
     for book in small_books().into_iter().chain(larger) {

@@ -9,6 +9,7 @@ pub mod extremes;
 pub mod families;
 pub mod maker;
 pub mod random;
+pub mod reads;
 pub mod refusals;
 pub mod reporting;
 pub mod samples;

@@ -155,7 +155,7 @@ fn smaller(comparison: &Comparison, book: Vec<u8>, question: Question) -> String
     format!("made smaller:\n{}", described(&book, question, &difference, comparison.engine))
 }
 
-/// Both sides on document 01's samples, against what it states of them. How many failed.
+/// Both sides on the samples, against what the documents state of them. How many failed.
 fn stated_samples() -> usize {
     let mut failed = 0;
     for sample in samples::samples() {
@@ -165,7 +165,7 @@ fn stated_samples() -> usize {
             let value = sample.value.as_ref().map(encode_term);
             if reply != Ok(sample.answer) || value.is_some_and(|value| work[..value.len()] != value) {
                 failed += 1;
-                println!("FAILED: {}: {} says {reply:?}, document 01 says {:?}", sample.name, side.name(), sample.answer);
+                println!("FAILED: {}: {} says {reply:?}, the document says {:?}", sample.name, side.name(), sample.answer);
             }
         }
     }

@@ -1,4 +1,4 @@
-//! The sample books of document 01 with the answers that it states.
+//! The sample books of document 01 with the answers that it states, and small books for the field reads that document 02 (i) widens.
 
 use crate::cells::{encode, zeroed, Cells, Sharing};
 use crate::engines::Call;
@@ -12,9 +12,9 @@ pub struct Sample {
     pub name: &'static str,
     pub book: Vec<u8>,
     pub call: Call,
-    /// What document 01 says of it.
+    /// What the document says of it.
     pub answer: Answer,
-    /// The value it comes to, where document 01 names one.
+    /// The value it comes to, where the document names one.
     pub value: Option<Term>,
 }
 
@@ -31,9 +31,13 @@ pub fn identity() -> Term {
 }
 
 pub fn hidden_field() -> Term {
+    hidden_field_read(|merge| Term::annotation(merge, Type::record(1, int())))
+}
+
+/// The hidden field, its merge put through `from` before it is read.
+fn hidden_field_read(from: impl FnOnce(Term) -> Term) -> Term {
     let merge = Term::merge(Term::record(1, number(2)), Term::variable(0));
-    let body = Term::projection(1, Term::annotation(merge, Type::record(1, int())));
-    let function = Term::function(body, Type::record(2, int()), int());
+    let function = Term::function(Term::projection(1, from(merge)), Type::record(2, int()), int());
     Term::application(function, Term::merge(Term::record(1, number(1)), Term::record(2, number(9))))
 }
 
@@ -80,6 +84,8 @@ fn books_of(folder: &str) -> BTreeMap<String, Vec<u8>> {
 pub fn samples() -> Vec<Sample> {
     let mut all = samples_by_answer();
     all.extend(samples_by_value());
+    all.extend(refused_reads());
+    all.extend(reads_by_value());
     let value = Some(number(1));
     all.push(Sample {
         name: "the desk example",
@@ -135,5 +141,49 @@ fn samples_by_value() -> Vec<Sample> {
     add("the identity annotated Int to Top", Term::annotation(identity(), to_top), Term::top(), 1);
     add("the top value applied to 3", Term::application(Term::top(), number(3)), Term::top(), 1);
     add("the hidden field", hidden_field(), number(2), 4);
+    list
+}
+
+/// A field and what it holds.
+fn field(label: u8, content: Term) -> Term {
+    Term::record(label, content)
+}
+
+/// Field reads of merges that are refused: 13 names the read, which is the last cell.
+fn refused_reads() -> Vec<Sample> {
+    let mut list = Vec::new();
+    let mut add = |name, number, term: Term| {
+        let answer = Answer::Refused { number, cell: term.size() as usize - 1 };
+        list.push(Sample { name, book: unshared(&term), call: Call::Check, answer, value: None });
+    };
+    let both = |one: Term, other: Term| Term::projection(1, Term::merge(one, other));
+    add("no part of that label", 13, both(field(2, number(5)), field(3, number(6))));
+    add("two parts of that label", 13, both(field(1, number(1)), field(1, number(1))));
+    add("neither a field nor top-like", 13, both(number(3), field(2, number(1))));
+    add("a merge applied", 12, Term::application(Term::merge(identity(), field(1, number(2))), number(1)));
+    list
+}
+
+/// Field reads of merges that run.
+fn reads_by_value() -> Vec<Sample> {
+    let mut list = Vec::new();
+    let mut add = |name, term: Term, value: Term, steps| {
+        let (call, answer) = (Call::Run { limit: 10_000 }, Answer::Value { steps });
+        list.push(Sample { name, book: unshared(&term), call, answer, value: Some(value) });
+    };
+    let read = |label: u8, one: Term, other: Term| Term::projection(label, Term::merge(one, other));
+    let to_top = |input: Type| Term::function(Term::variable(0), input, Type::top());
+    let nothing = || field(1, Term::top());
+    add("the second of two fields", read(2, field(1, number(5)), field(2, number(6))), number(6), 1);
+    add("a field behind a top-like one", read(1, nothing(), field(1, number(5))), number(5), 1);
+    add("two top-like fields", read(1, nothing(), nothing()), Term::top(), 1);
+    add("a top-like field", read(1, field(1, to_top(Type::top())), field(2, number(3))), Term::top(), 1);
+    add("the same field alone", Term::projection(1, field(1, to_top(Type::top()))), to_top(Type::top()), 1);
+    add("a field beside a top-like function", read(9, number(3), to_top(int())), Term::top(), 1);
+    let (left, right) = (Term::merge(number(3), field(1, number(4))), Term::merge(Term::top(), field(2, number(5))));
+    add("a field one level down", read(1, left, right), number(4), 1);
+    add("the hidden field, not annotated", hidden_field_read(|merge| merge), number(2), 3);
+    let annotated = Term::annotation(field(1, number(4)), Type::record(1, int()));
+    add("a field that steps first", read(1, annotated, number(2)), number(4), 2);
     list
 }

@@ -70,10 +70,24 @@ pub enum Fault {
     HalfNamed,
     /// 15 names the annotation, function, fixpoint or application instead of the checked term.
     WholeNamed,
+    /// The first record of that label read although the intersection has a second, neither top-like.
+    FirstOfTwoFields,
+    /// A field that no part has given Top only where a part is exactly Top.
+    TopByTopAlone,
+    /// A field that only top-like records have given its content's type instead of Top.
+    TopLikeContentShown,
+    /// A run that takes the content of a top-like record instead of the top value.
+    TopLikeContentTaken,
+    /// The halves of an intersection taken for its parts.
+    TypePartsOneLevel,
+    /// The halves of a merge taken for its parts.
+    ValuePartsOneLevel,
+    /// A run that takes the first record of that label although it is top-like and another is not.
+    FirstFieldTaken,
 }
 
 impl Fault {
-    pub const ALL: [Fault; 33] = [
+    pub const ALL: [Fault; 40] = [
         Fault::CovariantInputs,
         Fault::ArgumentUncast,
         Fault::RoomOneEarly,
@@ -107,6 +121,13 @@ impl Fault {
         Fault::RightHalfFirst,
         Fault::HalfNamed,
         Fault::WholeNamed,
+        Fault::FirstOfTwoFields,
+        Fault::TopByTopAlone,
+        Fault::TopLikeContentShown,
+        Fault::TopLikeContentTaken,
+        Fault::TypePartsOneLevel,
+        Fault::ValuePartsOneLevel,
+        Fault::FirstFieldTaken,
     ];
 }
 

@@ -1,6 +1,7 @@
 //! Casts and steps, with both halves of every merge open.
 
 use crate::faults::{current, planted, Fault};
+use crate::fields::read_value;
 use crate::terms::{Term, TermShape, Type, TypeShape};
 use crate::typing::{subtype, top_like};
 
@@ -129,12 +130,7 @@ fn contract(e: &Term) -> Vec<Term> {
             TermShape::Top => vec![Term::top()],
             _ => vec![],
         },
-        TermShape::Projection(label, v) => match v.shape() {
-            // "A field read of a record value becomes the content": of the label that is read, as in the source's rule.
-            TermShape::Record(l, content) if l == label => vec![content.clone()],
-            TermShape::Top => vec![Term::top()],
-            _ => vec![],
-        },
+        TermShape::Projection(label, v) => each_once(read_value(v, *label)),
         // "A fixpoint becomes its body with itself put in, annotated with its type."
         TermShape::Fixpoint(body, _) if planted(Fault::FixpointBare) => vec![substitute(body, 0, e)],
         TermShape::Fixpoint(body, t) => vec![Term::annotation(substitute(body, 0, e), t.clone())],

@@ -2,6 +2,7 @@
 
 use crate::book::Refusal;
 use crate::faults::{planted, Fault};
+use crate::fields::read_type;
 use crate::terms::{Term, TermShape, Type, TypeShape};
 
 /// "Top-like: Top; a function type with a top-like output; an intersection of two such; a record type over one."
@@ -56,7 +57,7 @@ pub fn disjoint(a: &Type, b: &Type) -> bool {
 }
 
 /// The type that `infer` gives a typed value, seen from its form: its parts need not be walked again.
-fn type_of_value(v: &Term) -> Type {
+pub fn type_of_value(v: &Term) -> Type {
     match v.shape() {
         TermShape::Number(_) => Type::int(),
         TermShape::Top => Type::top(),
@@ -136,14 +137,11 @@ fn infer_application(binders: &mut Vec<Type>, e: &Term, left: &Term, right: &Ter
     Ok(output)
 }
 
-/// "Field read: the term's type must be a record type of exactly that label, or Top, which gives Top."
+/// "Field read: the term's type must be a record type of exactly that label, or Top, which gives Top", or an intersection as document 02
+/// widens it.
 fn infer_projection(binders: &mut Vec<Type>, e: &Term, label: u8, of: &Term) -> Result<Type, Refusal> {
     let inferred = infer(binders, of)?;
-    match inferred.shape() {
-        TypeShape::Record(l, content) if *l == label => Ok(content.clone()),
-        TypeShape::Top => Ok(inferred),
-        _ => refuse(13, e),
-    }
+    read_type(&inferred, label).map_or_else(|| refuse(13, e), Ok)
 }
 
 /// "Merge: the intersection, if the two types are disjoint, or both halves are closed values and consistent."

@@ -161,6 +161,38 @@ fn the_refused_books_are_those_of_the_definitions() {
     assert_eq!(defined.collect::<Vec<_>>(), shown.collect::<Vec<_>>());
 }
 
+/// A sample of Samples.antt: its book, the limit if it is run, its answer, and the bytes that it leaves.
+fn sample(line: &str, definitions: &str) -> (Vec<u8>, Option<u32>, Answer, Vec<u8>) {
+    let (_, line) = line.rsplit_once("\" ").expect("a name");
+    let (book, line) = line.split_once(' ').expect("a book");
+    let (limit, line) = match line.strip_prefix("(run ") {
+        Some(line) => line.split_once(") (").map(|(limit, line)| (Some(number(limit)), line)).expect("a limit"),
+        None => (None, line.strip_prefix("check (").expect("a check or a run")),
+    };
+    let (shown, left) = line.split_once(") ").expect("an answer");
+    let left = left.strip_prefix('(').and_then(|left| left.strip_suffix(')')).map_or(Vec::new(), |left| bytes(left, definitions));
+    (bytes(book, definitions), limit, answer(shown.trim_start_matches("stopped ")).expect("an answer"), left)
+}
+
+#[test]
+fn the_samples_of_the_definitions_are_answered_as_they_say() {
+    let definitions = text("crates/answers/specs/Samples.antt");
+    for list in ["samples", "fieldReads"] {
+        let (_, lines) = definitions.split_once(&format!("\n{list} =\n")).expect("the list");
+        let lines: Vec<&str> =
+            lines.lines().map_while(|line| line.trim().trim_start_matches("∷ ").strip_prefix("sample ")).collect();
+        assert!(lines.len() > 10, "{list}");
+        for line in lines {
+            let (book, limit, shown, left) = sample(line, &definitions);
+            let got = asked(|work| match limit {
+                Some(limit) => run(&book, work, limit),
+                None => check(&book, work),
+            });
+            assert_eq!(got, (shown, padded(&left)), "{line}");
+        }
+    }
+}
+
 #[test]
 fn refusal_1_is_of_another_length_and_touches_nothing() {
     let section = format().1.remove(0).1;

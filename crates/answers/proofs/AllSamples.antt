@@ -1,4 +1,5 @@
--- All samples marked M hold of the definitions, by one computation, and so do the small books of the refusals; closed facts beside them.
+-- All samples marked M hold of the definitions, by one computation, and so do the books of the field reads and of the refusals; closed facts
+-- beside them.
 -- Assumes nothing.
 use Prim.Native.Nat.{ℕ}
 use mathlib.Core.Path.{_≡_, refl, _∙_}
@@ -7,10 +8,10 @@ use mathlib.Core.Option.{orElse}
 use mathlib.Core.List.{List, [], _∷_, map}
 use native.Mathlib.Decide.{ℕ-discrete}
 use Rattle.calculus.specs.Syntax.{Ty, int, size, size-type, Term, var, anno, fix, substitute}
-use Rattle.calculus.specs.Decide.{topLike?, belowWithin, below?, disjointInt, disjointArrow, disjointField, disjoint?, value?, closed?}
+use Rattle.calculus.specs.Decide.{topLike?, bothParts, fieldPart, typeOf, belowWithin, below?, disjointInt, disjointArrow, disjointField, disjoint?, value?, closed?}
 use Rattle.calculus.specs.Decide.{sameUnder, sameInteger, sameType, sameTerm, eachPart, consistentLit, consistentLam, consistentRcd, consistent?}
-use Rattle.calculus.specs.Infer.{lookup, checked, applied, projected, labelled, mergeable?, merged, infer}
-use Rattle.calculus.specs.Evaluate.{mergeBoth, firstPart, castInt, castArrow, castField, cast, apply, project, next}
+use Rattle.calculus.specs.Infer.{lookup, checked, applied, picked, projected, labelled, mergeable?, merged, infer}
+use Rattle.calculus.specs.Evaluate.{mergeBoth, firstPart, castInt, castArrow, castField, cast, apply, content, topValue, readParts, project, next}
 use Rattle.format.specs.Table.{All, table, rowIn, rowOf}
 use Rattle.format.specs.Cell.{cellAt, cellBytes, signed, unsigned}
 use Rattle.format.specs.Tree.{cells, fieldTree, cellTree, unshareWithin, treeAt, refer, encode}
@@ -24,10 +25,11 @@ use Rattle.answers.specs.Samples as Samples
 use Rattle.answers.specs.Samples.{Call, Sample, called, expected, Meets, samples}
 use Rattle.answers.specs.Samples.{equalNumbers, unequalNumbers, mergedVariable, twiceRead, identityOnMerge, identityUnderTop}
 use Rattle.answers.specs.Samples.{appliedTop, appliedNumber, hiddenField, ownFixpoint, doubled, refusals}
+use Rattle.answers.specs.Samples.{mergedField, missingField, twoFields, topLikeBesideField, topLikeFields, topLikeContent, loneTopLike, topLikeFunction, nestedParts, hiddenUnannotated, laterMerge, fieldReads}
 
 -- to name it on a line is to unfold every definition that a computation of an answer meets, but for the zero tail
 unfoldable pub computing : ℕ
-unfolding size size-type substitute topLike? belowWithin below? disjointInt disjointArrow disjointField disjoint? value? closed? decide sameUnder sameInteger ℕ-discrete sameType sameTerm eachPart consistentLit consistentLam consistentRcd consistent? lookup checked applied projected labelled mergeable? merged infer orElse mergeBoth firstPart castInt castArrow castField cast apply project next table rowIn rowOf cellAt cellBytes signed unsigned cells fieldTree cellTree unshareWithin treeAt refer encode fromType fromTerm plainOf toType toTerm firstBad rowFault cellFault cellsFinding rootFinding cellsForm formFinding follow rootTerm trailer book refusalResult afterTyping afterForm shown full? firstStop evaluate endResult padded
+unfolding size size-type substitute topLike? bothParts fieldPart typeOf belowWithin below? disjointInt disjointArrow disjointField disjoint? value? closed? decide sameUnder sameInteger ℕ-discrete sameType sameTerm eachPart consistentLit consistentLam consistentRcd consistent? lookup checked applied picked projected labelled mergeable? merged infer orElse mergeBoth firstPart castInt castArrow castField cast apply content topValue readParts project next table rowIn rowOf cellAt cellBytes signed unsigned cells fieldTree cellTree unshareWithin treeAt refer encode fromType fromTerm plainOf toType toTerm firstBad rowFault cellFault cellsFinding rootFinding cellsForm formFinding follow rootTerm trailer book refusalResult afterTyping afterForm shown full? firstStop evaluate endResult padded
 computing = 0
 
 -- with a work buffer of 65,536 bytes the rows from 2 on decide
@@ -62,6 +64,13 @@ each (s ∷ ss) e = ((λ w k. as-answered s w k ∙ cc), each ss cc)
 
 pub samples-hold : All (Meets definition) samples
 samples-hold = each samples computed
+
+field-reads-computed : map answered fieldReads ≡ map expected fieldReads
+unfolding computing answered fieldReads mergedField missingField twoFields topLikeBesideField topLikeFields topLikeContent loneTopLike topLikeFunction nestedParts hiddenUnannotated laterMerge
+field-reads-computed = refl
+
+pub field-reads-hold : All (Meets definition) fieldReads
+field-reads-hold = each fieldReads field-reads-computed
 
 refusals-computed : map answered refusals ≡ map expected refusals
 unfolding computing answered refusals unequalNumbers appliedNumber doubled

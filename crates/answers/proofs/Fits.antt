@@ -3,8 +3,9 @@ use Prim.Native.Nat.{ℕ, suc}
 use lib.Dec.{eqb}
 use Rattle.calculus.specs.Syntax.{Ty, Term, var, lit, unit, anno, app, lam, merge, fix, rcd, proj, substitute}
 use Rattle.calculus.specs.TypedReduction.{Cast, c-lit, c-top, c-arrow, c-rcd, c-left, c-right, c-both}
+use Rattle.calculus.specs.Fields.{HasField, f-here, f-left, f-right}
 use Rattle.calculus.specs.Step.{Step, s-app-left, s-app-right, s-merge-left, s-merge-right, s-anno, s-rcd, s-proj, s-cast, s-beta}
-use Rattle.calculus.specs.Step.{s-app-unit, s-proj-unit, s-proj-rcd, s-fix, Reaches, r-zero, r-suc}
+use Rattle.calculus.specs.Step.{s-app-unit, s-proj-unit, s-proj-rcd, s-proj-part, s-proj-none, s-fix, Reaches, r-zero, r-suc}
 use Rattle.calculus.proofs.Bools.{by-test}
 use Rattle.format.specs.Terms.{TypeFits, TermFits}
 
@@ -31,6 +32,12 @@ substitute-fits k s (fix e A) h f = (substitute-fits (suc k) s e h (f .0), f .1)
 substitute-fits k s (rcd l e) h f = (f .0, substitute-fits k s e h (f .1))
 substitute-fits k s (proj l e) h f = (f .0, substitute-fits k s e h (f .1))
 
+-- the content of a part
+content-fits : {l : ℕ} {v x : Term} → HasField l v x → TermFits v → TermFits x
+content-fits (f-here v n) f = f .1
+content-fits (f-left h) f = content-fits h (f .0)
+content-fits (f-right h) f = content-fits h (f .1)
+
 step-fits : {e g : Term} → Step e g → TermFits e → TermFits g
 step-fits (s-app-left s) f = (step-fits s (f .0), f .1)
 step-fits (s-app-right v s) f = (f .0, step-fits s (f .1))
@@ -44,6 +51,8 @@ step-fits (s-beta {e} {v} {x} c) f = (substitute-fits 0 x e (cast-fits c (f .1) 
 step-fits (s-app-unit v) f = tt
 step-fits s-proj-unit f = tt
 step-fits (s-proj-rcd v) f = f .1 .1
+step-fits (s-proj-part v h) f = content-fits h (f .1)
+step-fits (s-proj-none v n t) f = tt
 step-fits (s-fix {e} {A}) f = (substitute-fits 0 (fix e A) e f (f .0), f .1)
 
 pub reaches-fits : {n : ℕ} {e f : Term} → Reaches n e f → TermFits e → TermFits f

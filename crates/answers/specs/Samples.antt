@@ -1,5 +1,5 @@
--- Document 01, "Sample books": those marked M, as one list; and a small book for each row from 2 to 15 of "Where a book is turned back".
--- Bytes, answers and encoded bytes are literals. Assumes nothing.
+-- Document 01, "Sample books": those marked M, as one list; books for the field reads of document 02, (i); and a small book for each row from
+-- 2 to 15 of "Where a book is turned back". Bytes, answers and encoded bytes are literals. Assumes nothing.
 use Prim.Native.Nat.{ℕ}
 use Prim.Native.String.{String}
 use mathlib.Core.Path.{_≡_}
@@ -196,6 +196,170 @@ samples =
     ∷ sample "the fixpoint of its own variable" ownFixpoint check (accepted 1) (line 1 0 0 0 0 0 0 0 ++ line 240 1 1 0 0 0 0 0)
     ∷ sample "the fixpoint of its own variable" ownFixpoint (run 0) (stopped spent 0) (line 16 0 0 0 0 0 0 0 ++ line 1 0 0 0 0 0 0 0 ++ line 23 0 0 0 1 0 0 0 ++ line 240 1 3 0 2 0 0 0)
     ∷ sample "the fixpoint of its own variable" ownFixpoint (run 1) (stopped spent 1) (line 16 0 0 0 0 0 0 0 ++ line 1 0 0 0 0 0 0 0 ++ line 23 0 0 0 1 0 0 0 ++ line 1 0 0 0 0 0 0 0 ++ line 19 0 2 0 3 0 0 0 ++ line 240 1 5 0 4 0 0 0)
+    ∷ []
+
+-- "its content is the type"
+unfoldable pub mergedField : List ℕ
+mergedField =
+    line 17 0 0 0 5 0 0 0
+    ++ line 24 1 0 0 0 0 0 0
+    ++ line 17 0 0 0 6 0 0 0
+    ++ line 24 2 2 0 0 0 0 0
+    ++ line 22 0 1 0 3 0 0 0
+    ++ line 25 2 4 0 0 0 0 0
+    ++ line 240 1 6 0 5 0 0 0
+
+-- "Otherwise 13."
+unfoldable pub missingField : List ℕ
+missingField =
+    line 17 0 0 0 5 0 0 0
+    ++ line 24 1 0 0 0 0 0 0
+    ++ line 17 0 0 0 6 0 0 0
+    ++ line 24 2 2 0 0 0 0 0
+    ++ line 22 0 1 0 3 0 0 0
+    ++ line 25 3 4 0 0 0 0 0
+    ++ line 240 1 6 0 5 0 0 0
+
+-- two parts, though the merge is consistent
+unfoldable pub twoFields : List ℕ
+twoFields =
+    line 17 0 0 0 1 0 0 0
+    ++ line 24 1 0 0 0 0 0 0
+    ++ line 17 0 0 0 1 0 0 0
+    ++ line 24 1 2 0 0 0 0 0
+    ++ line 22 0 1 0 3 0 0 0
+    ++ line 25 1 4 0 0 0 0 0
+    ++ line 240 1 6 0 5 0 0 0
+
+-- "a record of that label and not top-like"
+unfoldable pub topLikeBesideField : List ℕ
+topLikeBesideField =
+    line 18 0 0 0 0 0 0 0
+    ++ line 24 1 0 0 0 0 0 0
+    ++ line 17 0 0 0 5 0 0 0
+    ++ line 24 1 2 0 0 0 0 0
+    ++ line 22 0 1 0 3 0 0 0
+    ++ line 25 1 4 0 0 0 0 0
+    ++ line 240 1 6 0 5 0 0 0
+
+-- "the type is Top"
+unfoldable pub topLikeFields : List ℕ
+topLikeFields =
+    line 18 0 0 0 0 0 0 0
+    ++ line 24 1 0 0 0 0 0 0
+    ++ line 18 0 0 0 0 0 0 0
+    ++ line 24 1 2 0 0 0 0 0
+    ++ line 22 0 1 0 3 0 0 0
+    ++ line 25 1 4 0 0 0 0 0
+    ++ line 240 1 6 0 5 0 0 0
+
+-- the top value, and not the content
+unfoldable pub topLikeContent : List ℕ
+topLikeContent =
+    line 16 0 0 0 0 0 0 0
+    ++ line 2 0 0 0 0 0 0 0
+    ++ line 2 0 0 0 0 0 0 0
+    ++ line 21 0 0 0 1 0 2 0
+    ++ line 24 1 3 0 0 0 0 0
+    ++ line 17 0 0 0 3 0 0 0
+    ++ line 24 2 5 0 0 0 0 0
+    ++ line 22 0 4 0 6 0 0 0
+    ++ line 25 1 7 0 0 0 0 0
+    ++ line 240 1 9 0 8 0 0 0
+
+-- "A record type or Top keeps its rule."
+unfoldable pub loneTopLike : List ℕ
+loneTopLike =
+    line 16 0 0 0 0 0 0 0
+    ++ line 2 0 0 0 0 0 0 0
+    ++ line 2 0 0 0 0 0 0 0
+    ++ line 21 0 0 0 1 0 2 0
+    ++ line 24 1 3 0 0 0 0 0
+    ++ line 25 1 4 0 0 0 0 0
+    ++ line 240 1 6 0 5 0 0 0
+
+-- "some part is top-like", of whatever head
+unfoldable pub topLikeFunction : List ℕ
+topLikeFunction =
+    line 17 0 0 0 3 0 0 0
+    ++ line 16 0 0 0 0 0 0 0
+    ++ line 1 0 0 0 0 0 0 0
+    ++ line 2 0 0 0 0 0 0 0
+    ++ line 21 0 1 0 2 0 3 0
+    ++ line 22 0 0 0 4 0 0 0
+    ++ line 25 9 5 0 0 0 0 0
+    ++ line 240 1 7 0 6 0 0 0
+
+-- "its parts that aren't themselves intersections"
+unfoldable pub nestedParts : List ℕ
+nestedParts =
+    line 17 0 0 0 3 0 0 0
+    ++ line 17 0 0 0 4 0 0 0
+    ++ line 24 1 1 0 0 0 0 0
+    ++ line 22 0 0 0 2 0 0 0
+    ++ line 18 0 0 0 0 0 0 0
+    ++ line 17 0 0 0 5 0 0 0
+    ++ line 24 2 5 0 0 0 0 0
+    ++ line 22 0 4 0 6 0 0 0
+    ++ line 22 0 3 0 7 0 0 0
+    ++ line 25 1 8 0 0 0 0 0
+    ++ line 240 1 10 0 9 0 0 0
+
+-- the hidden field, its annotation left out
+unfoldable pub hiddenUnannotated : List ℕ
+hiddenUnannotated =
+    line 1 0 0 0 0 0 0 0
+    ++ line 5 2 0 0 0 0 0 0
+    ++ line 17 0 0 0 2 0 0 0
+    ++ line 24 1 2 0 0 0 0 0
+    ++ line 16 0 0 0 0 0 0 0
+    ++ line 22 0 3 0 4 0 0 0
+    ++ line 25 1 5 0 0 0 0 0
+    ++ line 21 0 6 0 1 0 0 0
+    ++ line 17 0 0 0 1 0 0 0
+    ++ line 24 1 8 0 0 0 0 0
+    ++ line 17 0 0 0 9 0 0 0
+    ++ line 24 2 10 0 0 0 0 0
+    ++ line 22 0 9 0 11 0 0 0
+    ++ line 20 0 7 0 12 0 0 0
+    ++ line 240 1 14 0 13 0 0 0
+
+-- a merge that is no value yet
+unfoldable pub laterMerge : List ℕ
+laterMerge =
+    line 1 0 0 0 0 0 0 0
+    ++ line 5 1 0 0 0 0 0 0
+    ++ line 17 0 0 0 4 0 0 0
+    ++ line 24 1 2 0 0 0 0 0
+    ++ line 19 0 3 0 1 0 0 0
+    ++ line 17 0 0 0 2 0 0 0
+    ++ line 22 0 4 0 5 0 0 0
+    ++ line 25 1 6 0 0 0 0 0
+    ++ line 240 1 8 0 7 0 0 0
+
+-- The field reads of document 02, (i): the check, and the run with a limit equal to its steps.
+unfoldable pub fieldReads : List Sample
+fieldReads =
+    sample "field 2 of {1 = 5} merged with {2 = 6}" mergedField check (accepted 1) (line 1 0 0 0 0 0 0 0 ++ line 240 1 1 0 0 0 0 0)
+    ∷ sample "field 2 of {1 = 5} merged with {2 = 6}" mergedField (run 1) (stopped value 1) (line 17 0 0 0 6 0 0 0 ++ line 240 1 1 0 0 0 0 0)
+    ∷ sample "field 3 of the same" missingField check (refused 13 5) []
+    ∷ sample "two records of one label" twoFields check (refused 13 5) []
+    ∷ sample "a top-like record beside a proper one of that label" topLikeBesideField check (accepted 1) (line 1 0 0 0 0 0 0 0 ++ line 240 1 1 0 0 0 0 0)
+    ∷ sample "a top-like record beside a proper one of that label" topLikeBesideField (run 1) (stopped value 1) (line 17 0 0 0 5 0 0 0 ++ line 240 1 1 0 0 0 0 0)
+    ∷ sample "only top-like records of that label" topLikeFields check (accepted 1) (line 2 0 0 0 0 0 0 0 ++ line 240 1 1 0 0 0 0 0)
+    ∷ sample "only top-like records of that label" topLikeFields (run 1) (stopped value 1) (line 18 0 0 0 0 0 0 0 ++ line 240 1 1 0 0 0 0 0)
+    ∷ sample "a record of a top-like function beside another label" topLikeContent check (accepted 1) (line 2 0 0 0 0 0 0 0 ++ line 240 1 1 0 0 0 0 0)
+    ∷ sample "a record of a top-like function beside another label" topLikeContent (run 1) (stopped value 1) (line 18 0 0 0 0 0 0 0 ++ line 240 1 1 0 0 0 0 0)
+    ∷ sample "the same record alone" loneTopLike check (accepted 3) (line 2 0 0 0 0 0 0 0 ++ line 2 0 0 0 0 0 0 0 ++ line 3 0 0 0 1 0 0 0 ++ line 240 1 3 0 2 0 0 0)
+    ∷ sample "the same record alone" loneTopLike (run 1) (stopped value 1) (line 16 0 0 0 0 0 0 0 ++ line 2 0 0 0 0 0 0 0 ++ line 2 0 0 0 0 0 0 0 ++ line 21 0 0 0 1 0 2 0 ++ line 240 1 4 0 3 0 0 0)
+    ∷ sample "a number merged with a top-like function" topLikeFunction check (accepted 1) (line 2 0 0 0 0 0 0 0 ++ line 240 1 1 0 0 0 0 0)
+    ∷ sample "a number merged with a top-like function" topLikeFunction (run 1) (stopped value 1) (line 18 0 0 0 0 0 0 0 ++ line 240 1 1 0 0 0 0 0)
+    ∷ sample "parts nested on both sides" nestedParts check (accepted 1) (line 1 0 0 0 0 0 0 0 ++ line 240 1 1 0 0 0 0 0)
+    ∷ sample "parts nested on both sides" nestedParts (run 1) (stopped value 1) (line 17 0 0 0 4 0 0 0 ++ line 240 1 1 0 0 0 0 0)
+    ∷ sample "the hidden field without its annotation" hiddenUnannotated check (accepted 1) (line 1 0 0 0 0 0 0 0 ++ line 240 1 1 0 0 0 0 0)
+    ∷ sample "the hidden field without its annotation" hiddenUnannotated (run 3) (stopped value 3) (line 17 0 0 0 2 0 0 0 ++ line 240 1 1 0 0 0 0 0)
+    ∷ sample "a merge that steps first" laterMerge check (accepted 1) (line 1 0 0 0 0 0 0 0 ++ line 240 1 1 0 0 0 0 0)
+    ∷ sample "a merge that steps first" laterMerge (run 2) (stopped value 2) (line 17 0 0 0 4 0 0 0 ++ line 240 1 1 0 0 0 0 0)
     ∷ []
 
 -- A small book for each row from 2 to 15, with the number and the cell that it is refused with. docs/FORMAT.md has the same books.

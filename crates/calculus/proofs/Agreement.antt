@@ -1,7 +1,9 @@
--- The source's definitions and document 01's lists agree, and the executable functions decide the relations. Assumes nothing.
-use Rattle.calculus.specs.Agreement.{ListsAgree, Decides}
+-- The source's definitions and document 01's lists agree, a field read counts parts as document 02 does, and the executable functions decide the relations. Assumes nothing.
+use Rattle.calculus.specs.Agreement.{ListsAgree, PartsCounted, FieldsKept, Decides}
 use Rattle.calculus.proofs.Disjointness.{list→disjoint, disjoint→list}
 use Rattle.calculus.proofs.Decisions.{topLike?-says, below?-says, disjoint?-says}
+use Rattle.calculus.proofs.Fields.{fields-runtime, one-part-says, top-part-says, no-content, part-unique}
+use Rattle.calculus.proofs.Parts.{one-counted, none-counted, some-counted}
 use Rattle.calculus.proofs.Consistency.{list→consistent, consistent→list}
 use Rattle.calculus.proofs.Tests.{value?-says, consistent?-says}
 use Rattle.calculus.proofs.Typing.{typed-by-list}
@@ -16,10 +18,25 @@ lists-agree =
       typed = λ Γ e A. typed-by-list;
     }
 
+pub parts-counted : PartsCounted
+parts-counted =
+    record {
+      one = one-counted;
+      none = none-counted;
+      some-top-like = some-counted;
+      one-content = λ l v A C. part-unique;
+      no-content = λ l v A n w. no-content n w;
+    }
+
+pub fields-kept : FieldsKept
+fields-kept = record { says = λ l A B. fields-runtime l }
+
 pub decides : Decides
 decides =
     record {
       top-like = topLike?-says;
+      one-field = one-part-says;
+      top-field = top-part-says;
       below = below?-says;
       disjoint = disjoint?-says;
       value = value?-says;

@@ -1,29 +1,30 @@
 -- Closed facts that show what the relations and the functions that decide them say. Each is proved from the definitions alone: no theorem
 -- of the other proofs stands between. Assumes nothing.
-use Prim.Native.Nat.{ℕ}
+use Prim.Native.Nat.{ℕ, zero, suc}
 use mathlib.Core.Path.{_≡_, refl}
 use mathlib.Core.Logic.{_≢_, _⊎_, inl, inr}
 use mathlib.Core.Bool.{true, false, decide}
-use mathlib.Core.Option.{some, orElse}
+use mathlib.Core.Option.{Option, some, orElse, bind}
 use mathlib.Core.List.{[], _∷_, map}
 use lib.IntN.{pos}
 use native.Mathlib.Omega.{arith}
 use native.Mathlib.Decide.{ℕ-discrete}
 use Rattle.calculus.specs.Syntax.{Ty, int, top, arrow, inter, field}
 use Rattle.calculus.specs.Syntax.{Term, var, lit, unit, anno, app, lam, merge, fix, rcd, proj, substitute, size-type}
-use Rattle.calculus.specs.Syntax.{Value, v-lit, v-lam, v-merge, v-rcd}
+use Rattle.calculus.specs.Syntax.{Value, v-lit, v-unit, v-lam, v-merge, v-rcd}
 use Rattle.calculus.specs.Subtyping.{Below, b-int, b-top, b-left, b-right, b-arrow, b-field}
 use Rattle.calculus.specs.Disjointness.{Disjoint, h-int, h-arrow, DisjointByList}
 use Rattle.calculus.specs.Disjointness.{d-heads, d-arrow}
 use Rattle.calculus.specs.TypedReduction.{Cast, c-lit, c-top, c-arrow, c-left, c-right, c-both}
 use Rattle.calculus.specs.Consistency.{Consistent, ConsistentByList, k-disjoint}
-use Rattle.calculus.specs.Typing.{Typed, t-lit, t-anno, t-merge, t-mergev}
-use Rattle.calculus.specs.Step.{Step, s-app-left, s-app-right, s-merge-left, s-merge-right, s-anno, s-rcd, s-cast, s-beta}
-use Rattle.calculus.specs.Decide.{topLike?, belowWithin, below?, disjointInt, disjointArrow, disjoint?, value?, closed?}
-use Rattle.calculus.specs.Decide.{sameUnder, sameInteger, sameType, sameTerm, eachPart, consistentLit, consistentLam, consistent?}
-use Rattle.calculus.specs.Infer.{unbound, not-function, no-field, conflict, mismatch, refused}
-use Rattle.calculus.specs.Infer.{lookup, checked, applied, projected, labelled, mergeable?, merged, infer}
-use Rattle.calculus.specs.Evaluate.{mergeBoth, firstPart, castInt, castArrow, cast, apply, next}
+use Rattle.calculus.specs.Fields.{o-left, o-right, f-here, f-left, f-right}
+use Rattle.calculus.specs.Typing.{p-one, p-none, Typed, t-lit, t-anno, t-merge, t-mergev, t-rcd, t-proj}
+use Rattle.calculus.specs.Step.{Step, s-app-left, s-app-right, s-merge-left, s-merge-right, s-anno, s-rcd, s-cast, s-beta, s-proj, s-proj-part, s-proj-none}
+use Rattle.calculus.specs.Decide.{topLike?, bothParts, fieldPart, belowWithin, below?, disjointInt, disjointArrow, disjointField, disjoint?, value?, typeOf, closed?}
+use Rattle.calculus.specs.Decide.{sameUnder, sameInteger, sameType, sameTerm, eachPart, consistentLit, consistentLam, consistentRcd, consistent?}
+use Rattle.calculus.specs.Infer.{Reason, unbound, not-function, no-field, conflict, mismatch, Found, found, refused}
+use Rattle.calculus.specs.Infer.{lookup, checked, applied, picked, projected, labelled, mergeable?, merged, infer}
+use Rattle.calculus.specs.Evaluate.{mergeBoth, firstPart, castInt, castArrow, castField, cast, apply, content, topValue, readParts, project, next}
 
 abbrev number : ℕ → Term
 number n = lit (pos n)
@@ -230,3 +231,98 @@ places :
     ∷ [])
 unfolding infer lookup checked applied projected labelled merged mergeable? below? belowWithin topLike? size-type disjoint? disjointInt value? closed? consistent? eachPart consistentLit decide sameInteger sameUnder ℕ-discrete
 places = refl
+
+-- ---- Fields found inside a merge: document 02, (i).
+
+-- the term after n steps
+abbrev after : ℕ → Term → Option Term
+after zero e = some e
+after (suc n) e = bind (next e) (after n)
+
+-- e has type A, and after n steps it is v
+abbrev Runs : Term → Ty → ℕ → Term → Type 0
+Runs e A n v = _≡_ {A = Found × Option Term} (infer [] e, after n e) (found A, some v)
+
+-- e is refused for r, which names e itself
+abbrev Refused : Term → Reason → Type 0
+Refused e r = infer [] e ≡ refused r []
+
+-- {l=n}
+abbrev record-of : ℕ → ℕ → Term
+record-of l n = rcd l (number n)
+
+-- {1=1},,{1=1}
+abbrev twice : Term
+twice = merge (record-of 1 1) (record-of 1 1)
+
+-- {1=⊤},,{1=5}
+abbrev one-proper : Term
+one-proper = merge (rcd 1 unit) (record-of 1 5)
+
+-- λ.#0:⊤→⊤
+abbrev anything : Term
+anything = lam (var 0) top top
+
+-- {1=λ.#0:⊤→⊤},,{2=3}
+abbrev function-inside : Term
+function-inside = merge (rcd 1 anything) (record-of 2 3)
+
+fields-found :
+    -- ({1=5},,{2=6}).2 : one part has the field
+    Runs (proj 2 (merge (record-of 1 5) (record-of 2 6))) int 1 (number 6)
+    -- ({1=⊤},,{1=5}).1 and the other way about: of two parts of that label one is top-like
+    × Runs (proj 1 one-proper) int 1 (number 5)
+    × Runs (proj 1 (merge (record-of 1 5) (rcd 1 unit))) int 1 (number 5)
+    -- ({1=⊤},,{1=⊤}).1 : both are
+    × Runs (proj 1 (merge (rcd 1 unit) (rcd 1 unit))) top 1 unit
+    -- ({1=λ.#0:⊤→⊤},,{2=3}).1 : the content of a top-like part is not read
+    × Runs (proj 1 function-inside) top 1 unit
+    -- (3,,(λ.#0:Int→⊤)).9 : this fact and the one before stop "Top only where a part is exactly Top"
+    × Runs (proj 9 (merge (number 3) (lam (var 0) int top))) top 1 unit
+    -- {1=λ.#0:⊤→⊤}.1 : a record keeps its rule
+    × Runs (proj 1 (rcd 1 anything)) (arrow top top) 1 anything
+    -- ((3,,{1=4}),,(⊤,,{2=5})).1 : parts at every depth
+    × Runs (proj 1 (merge (merge (number 3) (record-of 1 4)) (merge unit (record-of 2 5)))) int 1 (number 4)
+    -- ({1=4}:{1:Int},,2).1 : the merge is no value yet
+    × Runs (proj 1 (merge (anno (record-of 1 4) (field 1 int)) (number 2))) int 2 (number 4)
+    -- document 01's hidden field, read without the annotation
+    × Runs (app (lam (proj 1 (merge (record-of 1 2) (var 0))) (field 2 int) int) (merge (record-of 1 1) (record-of 2 9))) int 3 (number 2)
+unfolding infer lookup checked applied projected picked fieldPart bothParts labelled merged mergeable? below? belowWithin topLike? size-type disjoint? disjointInt disjointField next value? bind cast firstPart orElse castInt castField apply substitute project readParts content topValue typeOf
+fields-found = (refl, refl, refl, refl, refl, refl, refl, refl, refl, refl)
+
+fields-refused :
+    -- ({1=5},,{2=6}).3 and (3,,{2=1}).9 : no part has the field, none is top-like
+    Refused (proj 3 (merge (record-of 1 5) (record-of 2 6))) no-field
+    × Refused (proj 9 (merge (number 3) (record-of 2 1))) no-field
+    -- ({1=1},,{1=1}).1 : two parts have it, though the merge is accepted
+    × (infer [] twice ≡ found (inter (field 1 int) (field 1 int)))
+    × Refused (proj 1 twice) no-field
+    -- ((λ.1:Int→Int),,{1=5}) 2 : a merge is not applied
+    × Refused (app (merge (constant 1) (record-of 1 5)) (number 2)) not-function
+unfolding infer checked applied projected picked fieldPart bothParts labelled merged mergeable? below? belowWithin topLike? size-type disjoint? disjointInt disjointArrow disjointField value? closed? consistent? eachPart consistentRcd consistentLit decide sameInteger sameUnder ℕ-discrete
+fields-refused = (refl, refl, refl, refl, refl)
+
+-- No rule types the read of a field that two parts have.
+twice-untyped : (A : Ty) → ¬ Typed [] (proj 1 twice) A
+twice-untyped A (t-proj (t-merge (t-rcd t-lit) (t-rcd t-lit) d) p) = d (field 1 int) (b-field b-int) (b-field b-int)
+twice-untyped A (t-proj (t-mergev (v-rcd v-lit) (v-rcd v-lit) s t k) (p-one (o-left o n))) = n refl
+twice-untyped A (t-proj (t-mergev (v-rcd v-lit) (v-rcd v-lit) s t k) (p-one (o-right n o))) = n refl
+twice-untyped A (t-proj (t-mergev (v-rcd v-lit) (v-rcd v-lit) s t k) (p-none n h)) = n .0 refl
+
+-- The part that is top-like is not read: the one successor is the content of the other, or the top value.
+one-proper-step : Step (proj 1 one-proper) (number 5)
+one-proper-step = s-proj-part (v-merge (v-rcd v-unit) (v-rcd v-lit)) (f-right (f-here v-lit (λ t. t)))
+
+one-proper-only : (f : Term) → Step (proj 1 one-proper) f → f ≡ number 5
+one-proper-only f (s-proj s) = absurd (stays (v-merge (v-rcd v-unit) (v-rcd v-lit)) s)
+one-proper-only f (s-proj-part v (f-left (f-here v-unit n))) = absurd (n tt)
+one-proper-only f (s-proj-part v (f-right (f-here w n))) = refl
+one-proper-only f (s-proj-none (v-merge (v-rcd v-unit) (v-rcd v-lit)) n t) = absurd (n .1 refl)
+
+function-inside-step : Step (proj 1 function-inside) unit
+function-inside-step = s-proj-none (v-merge (v-rcd v-lam) (v-rcd v-lit)) (λ e. tt, λ e. let z : _≡_ {A = ℕ} 1 2 = e in absurd (omega arith)) (inl tt)
+
+function-inside-only : (f : Term) → Step (proj 1 function-inside) f → f ≡ unit
+function-inside-only f (s-proj s) = absurd (stays (v-merge (v-rcd v-lam) (v-rcd v-lit)) s)
+function-inside-only f (s-proj-part v (f-left (f-here v-lam n))) = absurd (n tt)
+function-inside-only f (s-proj-none v n t) = refl

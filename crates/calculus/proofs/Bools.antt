@@ -6,7 +6,7 @@ use native.Mathlib.Nat.{not-le-of-lt}
 use mathlib.Core.Path.{_≡_, refl, sym, subst⁻¹}
 use mathlib.Core.Logic.{_↔_, _⊎_, inl, inr, Iff·rfl, Iff·trans}
 use mathlib.Core.Bool.{Bool, true, false, not, _&&_, _||_, and-false, cond, decide, decide-iff}
-use lib.Dec.{T, not-T, ltb, eqb, ltb→lt, lt→ltb, nltb→le, eqb→eq}
+use lib.Dec.{T, T-not, not-T, ltb, eqb, ltb→lt, lt→ltb, nltb→le, eqb→eq}
 use lib.Ieee.Fits.{eq→eqb}
 
 -- what a test says is decided
@@ -55,6 +55,9 @@ and-exchange true false c d = sym (and-false c)
 pub or-says : {P Q : Type 0} (a b : Bool) → T a ↔ P → T b ↔ Q → T (a || b) ↔ (P ⊎ Q)
 or-says true b f g = (λ t. inl (f .0 tt), λ s. tt)
 or-says false b f g = (λ t. inr (g .0 t), elim [ inl p ↦ absurd (f .1 p) | inr q ↦ g .1 q ])
+
+pub not-says : {P : Type 0} (b : Bool) → T b ↔ P → T (not b) ↔ (¬ P)
+not-says b f = (λ t p. T-not b t (f .1 p), λ n. not-T b (λ t. n (f .0 t)))
 
 pub eqb-says : (m n : ℕ) → T (eqb m n) ↔ (m ≡ n)
 eqb-says m n = (eqb→eq m n, eq→eqb)

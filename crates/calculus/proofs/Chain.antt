@@ -6,8 +6,9 @@ use mathlib.Core.List.{[]}
 use Rattle.calculus.specs.Syntax.{Ty, Term, IsValue}
 use Rattle.calculus.specs.Typing.{Typed}
 use Rattle.calculus.specs.Step.{Step, Reaches, r-zero, r-suc, Stuck, Ends}
+use Rattle.calculus.specs.Runtime.{Runtime, r-refl}
 use Rattle.calculus.specs.Soundness.{Reached}
-use Rattle.calculus.proofs.Runtime.{Runtime, r-refl, runtime-below, runtime-trans}
+use Rattle.calculus.proofs.Runtime.{runtime-below, runtime-trans}
 use Rattle.calculus.proofs.Soundness.{step-typed, value-no-step, progress, step-unique}
 
 -- preservation along the chain

@@ -1,24 +1,26 @@
 -- next answers a successor, wherever there is one; on typed terms it is the only one. Assumes nothing.
 use Prim.Native.Nat.{ℕ}
-use mathlib.Core.Path.{_≡_, refl, _∙_, ap, subst}
+use mathlib.Core.Path.{_≡_, refl, _∙_, ap, ap₂, subst}
 use mathlib.Core.Logic.{_↔_}
-use mathlib.Core.Bool.{Bool, true, false}
+use mathlib.Core.Bool.{Bool, true, false, not, _&&_}
 use mathlib.Core.Option.{Option, some}
 use mathlib.Core.List.{[]}
 use borrow.Author.Tests.{eq-eqb}
 use lib.Dec.{T, eqb, eqb→eq}
-use Rattle.calculus.specs.Syntax.{Ty, Term, var, lit, unit, anno, app, lam, merge, fix, rcd, proj}
+use Rattle.calculus.specs.Syntax.{Ty, inter, field, Term, var, lit, unit, anno, app, lam, merge, fix, rcd, proj}
 use Rattle.calculus.specs.Syntax.{Value, v-lit, v-unit, v-lam, v-merge, v-rcd, IsValue}
 use Rattle.calculus.specs.TypedReduction.{Cast}
+use Rattle.calculus.specs.Fields.{HasField, f-here, f-left, f-right}
 use Rattle.calculus.specs.Typing.{Typed}
 use Rattle.calculus.specs.Step.{Step, s-app-left, s-app-right, s-merge-left, s-merge-right, s-anno, s-rcd, s-proj, s-cast, s-beta}
-use Rattle.calculus.specs.Step.{s-app-unit, s-proj-unit, s-proj-rcd, s-fix}
-use Rattle.calculus.specs.Decide.{value?}
-use Rattle.calculus.specs.Evaluate.{cast, apply, project, next}
+use Rattle.calculus.specs.Step.{s-app-unit, s-proj-unit, s-proj-rcd, s-proj-part, s-proj-none, s-fix}
+use Rattle.calculus.specs.Decide.{topLike?, FieldPart, no-part, top-part, more-parts, one-part, fieldPart, value?, typeOf}
+use Rattle.calculus.specs.Evaluate.{firstPart, cast, apply, content, topValue, readParts, project, next}
 use Rattle.calculus.proofs.Bools.{T-true, T-false}
 use Rattle.calculus.proofs.TypedReduction.{cast-from}
-use Rattle.calculus.proofs.Tests.{value?-says, Answers, nothing, answer, answers-some, answers-within, answers-if, cast-reads, cast-sound}
-use Rattle.calculus.proofs.Tests.{Answered, answered, the-answer, some-within, cast-some, cast-complete}
+use Rattle.calculus.proofs.Fields.{Says, fieldPart-says, top-part-says, fits}
+use Rattle.calculus.proofs.Tests.{value?-says, Answers, nothing, answer, answers-some, answers-within, answers-either, answers-if, cast-reads, cast-sound}
+use Rattle.calculus.proofs.Tests.{Answered, answered, the-answer, some-within, some-left, some-right, cast-some, cast-complete}
 use Rattle.calculus.proofs.Soundness.{self-consistent, value-no-step, step-unique}
 
 answers-map : {P Q : Term → Type 0} {r : Option Term} → ((e : Term) → P e → Q e) → Answers P r → Answers Q r
@@ -42,12 +44,43 @@ apply-answers (v-lam {A}) w = answers-within _ (cast-reads A _ _ w) (λ x. s-bet
 apply-answers (v-merge u v) w = nothing
 apply-answers (v-rcd v) w = nothing
 
+-- the type that a value shows
+typeOf-says : {v : Term} {A : Ty} → Value v A → typeOf v ≡ A
+unfolding typeOf
+typeOf-says v-lit = refl
+typeOf-says v-unit = refl
+typeOf-says v-lam = refl
+typeOf-says (v-merge v w) = ap₂ inter (typeOf-says v) (typeOf-says w)
+typeOf-says (v-rcd {l} v) = ap (field l) (typeOf-says v)
+
+-- of a merge, the content of a part that has the field; the top value
+content-answers : {v : Term} {A : Ty} (l : ℕ) → Value v A → Answers (HasField l v) (firstPart (content l) v)
+unfolding firstPart content
+content-answers l v-lit = nothing
+content-answers l v-unit = nothing
+content-answers l v-lam = nothing
+content-answers l (v-merge v w) = answers-either (content-answers l v) (content-answers l w) (λ x. f-left) (λ x. f-right)
+content-answers l (v-rcd {l = k} {A} v) =
+    rw (typeOf-says v) (answers-if (eqb l k && not (topLike? A)) λ t. let (e, n) = fits l k A .0 t in answer (rw e (f-here v n)))
+
+top-answers : {v w : Term} {A : Ty} (l : ℕ) → Value (merge v w) A → (p : FieldPart) → Says l A p → Answers (Step (proj l (merge v w))) (topValue p)
+unfolding topValue
+top-answers l v no-part h = nothing
+top-answers l v top-part (n, t) = answer (s-proj-none v n t)
+top-answers l v more-parts h = nothing
+top-answers l v (one-part C) o = nothing
+
+merge-answers : {v w : Term} {A : Ty} (l : ℕ) → Value (merge v w) A → Answers (Step (proj l (merge v w))) (readParts l (merge v w))
+unfolding readParts
+merge-answers {A} l v =
+    answers-either (content-answers l v) (rw (typeOf-says v) (top-answers l v (fieldPart l A) (fieldPart-says l A))) (λ x. s-proj-part v) (λ x s. s)
+
 project-answers : {v : Term} {A : Ty} (l : ℕ) → Value v A → Answers (Step (proj l v)) (project l v)
 unfolding project
 project-answers l v-lit = nothing
 project-answers l v-unit = answer s-proj-unit
 project-answers l v-lam = nothing
-project-answers l (v-merge u v) = nothing
+project-answers l (v-merge u v) = merge-answers l (v-merge u v)
 project-answers l (v-rcd {l = k} v) = answers-if (eqb l k) λ t. answer (rw (eqb→eq l k t) (s-proj-rcd v))
 
 next-answers : (e : Term) → Answers (Step e) (next e)
@@ -85,8 +118,15 @@ value-true {v} {A} w = T-true (value?-says v) (A, w)
 step-false : {e f : Term} → Step e f → value? e ≡ false
 step-false {e} s = T-false (value?-says e) (λ v. value-no-step (v .1) s)
 
+-- a part that has the field is found, or another before it
+content-some : {l : ℕ} {v x : Term} → HasField l v x → Answered (firstPart (content l) v)
+unfolding firstPart content
+content-some (f-here {l} {A} v n) = rw (typeOf-says v, T-true {b = eqb l l && not (topLike? A)} (fits l l A) (refl, n)) answered
+content-some (f-left f) = some-left _ (content-some f)
+content-some (f-right f) = some-right _ (content-some f)
+
 next-some : {e f : Term} → Step e f → Answered (next e)
-unfolding next apply project value?
+unfolding next apply project readParts topValue value?
 next-some (s-app-left s) = rw (step-false s, next) (some-within _ (next-some s))
 next-some (s-app-right v s) = rw (value-true v, step-false s, next) (some-within _ (next-some s))
 next-some (s-merge-left s) = rw (step-false s, next) (some-within _ (next-some s))
@@ -99,6 +139,8 @@ next-some (s-beta c) = rw (value-true (cast-from c .1), next) (some-within _ (ca
 next-some (s-app-unit v) = rw (value-true v, next) answered
 next-some s-proj-unit = answered
 next-some (s-proj-rcd {l} v) = rw (value-true v, eq-eqb l l refl, next) answered
+next-some (s-proj-part v f) = rw (value-true v, next) (some-left _ (content-some f))
+next-some (s-proj-none {l} {A} v n t) = rw (value-true v, next) (some-right _ (rw (typeOf-says v, top-part-says l A .1 (n, t)) answered))
 next-some s-fix = answered
 
 pub next-complete : {e f : Term} → Step e f → (g : Term) × (next e ≡ some g)

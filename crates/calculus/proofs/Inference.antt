@@ -12,13 +12,14 @@ use Rattle.calculus.specs.Syntax.{Term, var, lit, unit, anno, app, lam, 
 use Rattle.calculus.specs.Subtyping.{Below}
 use Rattle.calculus.specs.Disjointness.{Disjoint}
 use Rattle.calculus.specs.Consistency.{Consistent}
-use Rattle.calculus.specs.Typing.{Lookup, here, there, Applies, a-arrow, a-top, Projects, p-field, p-top}
+use Rattle.calculus.specs.Typing.{Lookup, here, there, Applies, a-arrow, a-top, Projects, p-field, p-top, p-one, p-none}
 use Rattle.calculus.specs.Typing.{Typed, t-unit, t-lit, t-var, t-anno, t-app, t-lam, t-merge, t-mergev, t-fix, t-rcd, t-proj}
-use Rattle.calculus.specs.Decide.{below?, disjoint?, value?, closed?, consistent?}
-use Rattle.calculus.specs.Infer.{Reason, Found, found, refused, lookup, checked, applied, projected, labelled, mergeable?, merged, infer}
+use Rattle.calculus.specs.Decide.{FieldPart, no-part, top-part, more-parts, one-part, fieldPart, below?, disjoint?, value?, closed?, consistent?}
+use Rattle.calculus.specs.Infer.{Reason, Found, found, refused, lookup, checked, applied, picked, projected, labelled, mergeable?, merged, infer}
 use Rattle.calculus.proofs.Bools.{T-true, by-test, T-and, Test, _and_, _or_}
 use Rattle.calculus.proofs.Disjointness.{disjoint?-means}
 use Rattle.calculus.proofs.Decisions.{below?-says, below?-true}
+use Rattle.calculus.proofs.Fields.{Says, fieldPart-says, one-part-says, top-part-says}
 use Rattle.calculus.proofs.Tests.{value?-says, consistent?-means}
 use Rattle.calculus.proofs.Typing.{typed-value, typed-closed, typed-weaken, typed-strengthen}
 
@@ -60,13 +61,22 @@ gives-applied (finds {A = inter A B} p) q k = refuses
 gives-applied (finds {A = field l A} p) q k = refuses
 gives-applied refuses q k = refuses
 
+gives-picked : {Q : Ty → Type 0} (l : ℕ) (A B : Ty) (p : FieldPart) → Says l (inter A B) p →
+    ((C : Ty) → Projects l (inter A B) C → Q C) → Gives Q (picked p)
+unfolding picked
+gives-picked l A B no-part h k = refuses
+gives-picked l A B top-part (n, t) k = finds (k top (p-none n t))
+gives-picked l A B more-parts h k = refuses
+gives-picked l A B (one-part C) o k = finds (k C (p-one o))
+
 gives-projected : {P Q : Ty → Type 0} {r : Found} (l : ℕ) →
     Gives P r → ((A B : Ty) → P A → Projects l A B → Q B) → Gives Q (projected l r)
 unfolding projected
 gives-projected l (finds {A = int} p) k = refuses
 gives-projected l (finds {A = top} p) k = finds (k top top p p-top)
 gives-projected l (finds {A = arrow A B} p) k = refuses
-gives-projected l (finds {A = inter A B} p) k = refuses
+gives-projected l (finds {A = inter A B} p) k =
+    gives-picked l A B (fieldPart l (inter A B)) (fieldPart-says l (inter A B)) (λ C. k (inter A B) C p)
 gives-projected l (finds {A = field m A} p) k = gives-cond (eqb l m) A _ _ (λ t. k (field m A) A p (rw (← (eqb→eq l m t)) p-field))
 gives-projected l refuses k = refuses
 
@@ -136,9 +146,11 @@ applied-complete a-arrow b = rw (below?-true b)
 applied-complete a-top b = rw (below?-true b)
 
 projected-complete : {l : ℕ} {A B : Ty} → Projects l A B → projected l (found A) ≡ found B
-unfolding projected
+unfolding projected picked
 projected-complete (p-field {l}) = rw (eq-eqb l l refl)
 projected-complete p-top = refl
+projected-complete (p-one {l} {A} {B} {C} o) = rw (one-part-says l (inter A B) C .1 o)
+projected-complete (p-none {l} {A} {B} n t) = rw (top-part-says l (inter A B) .1 (n, t))
 
 infer-complete : (Γ : List Ty) (e : Term) (A : Ty) → Typed Γ e A → infer Γ e ≡ found A
 unfolding infer checked labelled merged

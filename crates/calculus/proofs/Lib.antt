@@ -5,6 +5,8 @@ pub mod Disjointness
 pub mod Runtime
 pub mod Decisions
 pub mod TypedReduction
+pub mod Fields
+pub mod Parts
 pub mod Consistency
 pub mod Tests
 pub mod Typing

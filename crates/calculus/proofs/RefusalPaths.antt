@@ -9,9 +9,9 @@ use lib.Dec.{eqb}
 use lib.ListN.{getElem?}
 use Rattle.calculus.specs.Syntax.{Ty, int, top, arrow, inter, field}
 use Rattle.calculus.specs.Syntax.{Term, var, lit, unit, anno, app, lam, merge, fix, rcd, proj}
-use Rattle.calculus.specs.Decide.{below?}
+use Rattle.calculus.specs.Decide.{FieldPart, no-part, top-part, more-parts, one-part, fieldPart, below?}
 use Rattle.calculus.specs.Infer.{Reason, unbound, not-function, no-field, conflict, mismatch, Found, found, refused}
-use Rattle.calculus.specs.Infer.{lookup, checked, applied, projected, labelled, mergeable?, merged, infer}
+use Rattle.calculus.specs.Infer.{lookup, checked, applied, picked, projected, labelled, mergeable?, merged, infer}
 use Rattle.calculus.specs.RefusalPaths.{At, here, in-anno, in-left, in-right, in-body, in-first, in-second, in-fix, in-content, in-read}
 use Rattle.calculus.specs.RefusalPaths.{ChecksPart, of-anno, of-argument, of-body, of-fix, NamesPart, Place, RefusesAt}
 
@@ -68,12 +68,19 @@ applied-place e d (found (inter A B)) y g h = itself not-function (e, d, refl)
 applied-place e d (found (field l A)) y g h = itself not-function (e, d, refl)
 applied-place e d (refused s q) y g h = given (within (λ q f. in-left) (g s q refl))
 
+picked-place : (l : ℕ) (e : Term) (p : FieldPart) → RefusesAt (proj l e) (picked p)
+unfolding picked
+picked-place l e no-part = itself no-field (l, e, refl)
+picked-place l e top-part = never
+picked-place l e more-parts = itself no-field (l, e, refl)
+picked-place l e (one-part C) = never
+
 projected-place : (l : ℕ) (e : Term) (x : Found) → RefusesAt e x → RefusesAt (proj l e) (projected l x)
 unfolding projected
 projected-place l e (found int) g = itself no-field (l, e, refl)
 projected-place l e (found top) g = never
 projected-place l e (found (arrow A B)) g = itself no-field (l, e, refl)
-projected-place l e (found (inter A B)) g = itself no-field (l, e, refl)
+projected-place l e (found (inter A B)) g = picked-place l e (fieldPart l (inter A B))
 projected-place l e (found (field k A)) g = tested A (eqb l k) (record { part = proj l e; at = here; named = (l, e, refl) })
 projected-place l e (refused s q) g = given (within (λ q f. in-read) (g s q refl))
 

@@ -1,25 +1,15 @@
--- Runtime subtyping: source 001, figure 7, with records. It is what a step may do to a type. Assumes nothing.
+-- Runtime subtyping: what it keeps of subtyping, top-likeness and disjointness. Assumes nothing.
 use Prim.Native.Nat.{ℕ}
 use mathlib.Core.Path.{_≡_, refl, ap, ap₂, fun-ext, sym}
 use mathlib.Core.Bool.{_&&_}
 use Rattle.calculus.specs.Syntax.{Ty, top, arrow, inter, field}
 use Rattle.calculus.specs.Subtyping.{TopLike, Below, b-top, b-left, b-right, b-both, b-arrow, b-field}
 use Rattle.calculus.specs.Disjointness.{Disjoint}
+use Rattle.calculus.specs.Runtime.{Runtime, r-refl, r-top, r-arrow, r-inter, r-field}
 use Rattle.calculus.specs.Decide.{disjoint?, disjointArrow, disjointField}
 use Rattle.calculus.proofs.Subtyping.{topLike-above, below-refl, below-trans}
 use Rattle.calculus.proofs.Disjointness.{disjoint-sym, disjoint?-means}
 use Rattle.calculus.proofs.Decisions.{topLike?-says, disjoint?-topLike-left}
-
-pub data Runtime : Ty → Ty → Type 0 where
-  -- RSUB-Z
-  r-refl : {A : Ty} → Runtime A A
-  -- RSUB-TOP
-  r-top : {A : Ty} → TopLike A → Runtime top A
-  -- RSUB-ARR
-  r-arrow : {A B C D : Ty} → Below C A → Runtime B D → Runtime (arrow A B) (arrow C D)
-  -- RSUB-AND
-  r-inter : {A B C D : Ty} → Runtime A C → Runtime B D → Runtime (inter A B) (inter C D)
-  r-field : {l : ℕ} {A B : Ty} → Runtime A B → Runtime (field l A) (field l B)
 
 pub runtime-below : {A B : Ty} → Runtime A B → Below A B
 runtime-below r-refl = below-refl _

@@ -2,7 +2,7 @@
 -- one successor: source 001, lemmas 5.5, 5.6, 5.7, 5.9, 5.10, theorems 5.1 and 5.3. Assumes nothing.
 use Prim.Native.Nat.{ℕ, _<_, _+_}
 use native.Mathlib.Omega.{arith}
-use mathlib.Core.Path.{_≡_, refl, sym, ap, subst}
+use mathlib.Core.Path.{_≡_, refl, sym, _∙_, ap, subst}
 use mathlib.Core.Logic.{_⊎_, inl, inr, _≢_}
 use mathlib.Core.Bool.{cond}
 use mathlib.Core.List.{List, [], _∷_, _++_}
@@ -15,15 +15,18 @@ use Rattle.calculus.specs.Subtyping.{Below, b-top}
 use Rattle.calculus.specs.Disjointness.{Disjoint, d-top-left}
 use Rattle.calculus.specs.TypedReduction.{Cast, c-lit, c-top, c-arrow, c-rcd, c-left, c-right, c-both}
 use Rattle.calculus.specs.Consistency.{Consistent, ConsistentByList, k-lit, k-lam, k-rcd, k-left, k-right, k-disjoint}
-use Rattle.calculus.specs.Typing.{Lookup, here, there, Applies, a-arrow, a-top, Projects, p-field, p-top, Typed}
+use Rattle.calculus.specs.Fields.{NoField, OneField, HasField, f-here, f-left, f-right}
+use Rattle.calculus.specs.Typing.{Lookup, here, there, Applies, a-arrow, a-top, Projects, p-field, p-top, p-one, p-none, Typed}
 use Rattle.calculus.specs.Typing.{t-unit, t-lit, t-var, t-anno, t-app, t-lam, t-merge, t-mergev, t-fix, t-rcd, t-proj}
 use Rattle.calculus.specs.Step.{Step, s-app-left, s-app-right, s-merge-left, s-merge-right, s-anno, s-rcd, s-proj}
-use Rattle.calculus.specs.Step.{s-cast, s-beta, s-app-unit, s-proj-unit, s-proj-rcd, s-fix}
+use Rattle.calculus.specs.Step.{s-cast, s-beta, s-app-unit, s-proj-unit, s-proj-rcd, s-proj-part, s-proj-none, s-fix}
+use Rattle.calculus.specs.Runtime.{Runtime, r-refl, r-top, r-arrow, r-inter, r-field}
 use Rattle.calculus.proofs.Bools.{by-test, eqb-says}
 use Rattle.calculus.proofs.Subtyping.{below-refl, below-trans}
 use Rattle.calculus.proofs.Disjointness.{disjoint→list}
-use Rattle.calculus.proofs.Runtime.{Runtime, r-refl, r-top, r-arrow, r-inter, r-field, runtime-below, runtime-disjoint}
-use Rattle.calculus.proofs.TypedReduction.{cast-from, cast-to, below-cast, cast-trans}
+use Rattle.calculus.proofs.Runtime.{runtime-below, runtime-disjoint}
+use Rattle.calculus.proofs.TypedReduction.{value-unique, cast-from, cast-to, below-cast, cast-trans}
+use Rattle.calculus.proofs.Fields.{one-not-none, one-not-topLike, runtime-one, runtime-none, no-content, part-unique}
 use Rattle.calculus.proofs.Consistency.{list→consistent, consistent→list, consistent-sym}
 use Rattle.calculus.proofs.Typing.{typed-value, typed-closed, typed-weaken, substitute-closed, lookup-within, lookup-strengthen}
 
@@ -81,6 +84,12 @@ runtime-projects p-field (r-top h) = (top, p-top, r-top h)
 runtime-projects p-field (r-field r) = (_, p-field, r)
 runtime-projects p-top r-refl = (top, p-top, r-refl)
 runtime-projects p-top (r-top h) = (top, p-top, r-refl)
+runtime-projects (p-one o) r-refl = (_, p-one o, r-refl)
+runtime-projects (p-one o) (r-top h) = absurd (one-not-topLike o h)
+runtime-projects (p-one o) (r-inter r s) = let (C, p, q) = runtime-one (r-inter r s) o in (C, p-one p, q)
+runtime-projects (p-none n t) r-refl = (top, p-none n t, r-refl)
+runtime-projects (p-none n t) (r-top h) = (top, p-top, r-refl)
+runtime-projects {l} (p-none n t) (r-inter r s) = let (m, u) = runtime-none l (r-inter r s) (n, t) in (top, p-none m u, r-refl)
 
 -- e has a runtime subtype of A
 abbrev Refines : List Ty → Term → Ty → Type 0
@@ -164,6 +173,33 @@ value-no-step (v-merge v w) (s-merge-left s) = value-no-step v s
 value-no-step (v-merge v w) (s-merge-right p s) = value-no-step w s
 value-no-step (v-rcd v) (s-rcd s) = value-no-step v s
 
+-- the contents of a typed value's parts are typed
+content-typed : {l : ℕ} {v x : Term} {A : Ty} → Typed [] v A → HasField l v x → (B : Ty) × Typed [] x B
+content-typed (t-rcd t) (f-here v n) = (_, t)
+content-typed t (f-left f) = content-typed (typed-halves t .2) f
+content-typed t (f-right f) = content-typed (typed-halves t .3) f
+
+-- the successors of a field read of a merge of values
+reads-one : {l : ℕ} {v w x y : Term} {A C : Ty} → Value (merge v w) A → OneField l A C →
+    ((z : Term) → HasField l (merge v w) z → z ≡ x) → Step (proj l (merge v w)) y → y ≡ x
+reads-one v o k (s-proj s) = absurd (value-no-step v s)
+reads-one v o k (s-proj-part u f) = k _ f
+reads-one {l} v o k (s-proj-none u n t) = absurd (one-not-none o (subst (NoField l) (value-unique u v) n))
+
+reads-none : (l : ℕ) {v w y : Term} {A : Ty} → Value (merge v w) A → NoField l A → Step (proj l (merge v w)) y → y ≡ unit
+reads-none l v n (s-proj s) = absurd (value-no-step v s)
+reads-none l v n (s-proj-part u f) = absurd (no-content n v _ f)
+reads-none l v n (s-proj-none u m t) = refl
+
+-- of a typed merge: no more than one, and it has the type found
+merge-read : {l : ℕ} {v w : Term} {A B : Ty} → Typed [] (merge v w) A → Value (merge v w) A → Projects l A B →
+    (x : Term) × Typed [] x B × ((y : Term) → Step (proj l (merge v w)) y → y ≡ x)
+merge-read t (v-merge v w) (p-one o) =
+    let (x, u, f, k) = part-unique o (v-merge v w) in
+    let (C, s) = content-typed t f in
+    (x, subst (Typed [] x) (typed-value s u) s, λ y. reads-one (v-merge v w) o k)
+merge-read {l} t (v-merge v w) (p-none n h) = (unit, t-unit, λ y. reads-none l (v-merge v w) n)
+
 -- 5.9
 pub step-typed : {e f : Term} {A : Ty} → Typed [] e A → Step e f → (B : Ty) × Typed [] f B × Runtime B A
 step-typed (t-app t a u b) (s-app-left s) = refine-app (step-typed t s) a (exact u) b
@@ -180,6 +216,8 @@ step-typed (t-app (t-lam t b) a-arrow u d) (s-beta c) = let h = cast-typed u c i
 step-typed (t-app t-unit a-top u b) (s-app-unit v) = exact t-unit
 step-typed (t-proj t-unit p-top) s-proj-unit = exact t-unit
 step-typed (t-proj (t-rcd t) p-field) (s-proj-rcd v) = exact t
+step-typed (t-proj t p) (s-proj-part v f) = let (x, s, k) = merge-read t (value-typed t v) p in exact (rw (k _ (s-proj-part v f)) s)
+step-typed (t-proj t p) (s-proj-none v n m) = let (x, s, k) = merge-read t (value-typed t v) p in exact (rw (k _ (s-proj-none v n m)) s)
 step-typed (t-fix t b) s-fix = refine-anno (substitute-typed [] t (t-fix t b) r-refl) b
 
 -- e has a successor
@@ -194,6 +232,8 @@ applies-step a-top v-unit w b = (unit, s-app-unit w)
 projects-step : {l : ℕ} {v : Term} {A B : Ty} → Projects l A B → Value v A → Steps (proj l v)
 projects-step p-field (v-rcd v) = (_, s-proj-rcd v)
 projects-step p-top v-unit = (unit, s-proj-unit)
+projects-step (p-one o) (v-merge v w) = (_, s-proj-part (v-merge v w) (part-unique o (v-merge v w) .2))
+projects-step (p-none n t) (v-merge v w) = (unit, s-proj-none (v-merge v w) n t)
 
 -- a term g with a part e that is evaluated first: what if e is a value, and what if it steps
 progress-part : {e g : Term} → IsValue e ⊎ Steps e → (IsValue e → IsValue g ⊎ Steps g) → ((f : Term) → Step e f → Steps g) → IsValue g ⊎ Steps g
@@ -254,4 +294,8 @@ step-unique (t-proj t p) s-proj-unit (s-proj s) = absurd (value-no-step v-unit s
 step-unique (t-proj t p) s-proj-unit s-proj-unit = refl
 step-unique (t-proj t p) (s-proj-rcd v) (s-proj s) = absurd (value-no-step (v-rcd v) s)
 step-unique (t-proj t p) (s-proj-rcd v) (s-proj-rcd w) = refl
+step-unique (t-proj t p) (s-proj s) (s-proj-part v f) = absurd (value-no-step v s)
+step-unique (t-proj t p) (s-proj s) (s-proj-none v n h) = absurd (value-no-step v s)
+step-unique (t-proj t p) (s-proj-part v f) s = let (x, u, k) = merge-read t (value-typed t v) p in k _ (s-proj-part v f) ∙ sym (k _ s)
+step-unique (t-proj t p) (s-proj-none v n h) s = let (x, u, k) = merge-read t (value-typed t v) p in k _ (s-proj-none v n h) ∙ sym (k _ s)
 step-unique t s-fix s-fix = refl

@@ -93,7 +93,7 @@ pub answers-within : {P Q : Term → Type 0} {r : Option Term} (f : Term → Ter
 answers-within f nothing k = nothing
 answers-within f (answer {e} p) k = answer (k e p)
 
-answers-either : {P Q R : Term → Type 0} {r s : Option Term} → Answers P r → Answers Q s →
+pub answers-either : {P Q R : Term → Type 0} {r s : Option Term} → Answers P r → Answers Q s →
     ((e : Term) → P e → R e) → ((e : Term) → Q e → R e) → Answers R (orElse r s)
 unfolding orElse
 answers-either nothing nothing f g = nothing
@@ -176,11 +176,11 @@ the-answer (answered {e}) = (e, refl)
 pub some-within : {r : Option Term} (f : Term → Term) → Answered r → Answered (Option·map f r)
 some-within f answered = answered
 
-some-left : {r : Option Term} (s : Option Term) → Answered r → Answered (orElse r s)
+pub some-left : {r : Option Term} (s : Option Term) → Answered r → Answered (orElse r s)
 unfolding orElse
 some-left s answered = answered
 
-some-right : (r : Option Term) {s : Option Term} → Answered s → Answered (orElse r s)
+pub some-right : (r : Option Term) {s : Option Term} → Answered s → Answered (orElse r s)
 unfolding orElse
 some-right none h = h
 some-right (some e) h = answered

@@ -11,11 +11,12 @@ use Rattle.calculus.specs.Syntax.{Ty, inter, field, size-type}
 use Rattle.calculus.specs.Syntax.{Term, var, lit, unit, anno, app, lam, merge, fix, rcd, proj, substitute, size}
 use Rattle.calculus.specs.Syntax.{Value, v-lit, v-unit, v-lam, v-merge, v-rcd}
 use Rattle.calculus.specs.Decide.{closed?}
-use Rattle.calculus.specs.Typing.{Lookup, here, there, Applies, a-arrow, a-top, Projects, p-field, p-top, TypedWith, Typed, TypedByList}
+use Rattle.calculus.specs.Typing.{Lookup, here, there, Applies, a-arrow, a-top, Projects, p-field, p-top, p-one, p-none, TypedWith, Typed, TypedByList}
 use Rattle.calculus.specs.Typing.{t-unit, t-lit, t-var, t-anno, t-app, t-lam, t-merge, t-mergev, t-fix, t-rcd, t-proj}
 use Rattle.calculus.proofs.Bools.{T-and, by-test}
 use Rattle.calculus.proofs.Disjointness.{list→disjoint, disjoint→list}
 use Rattle.calculus.proofs.TypedReduction.{value-unique}
+use Rattle.calculus.proofs.Fields.{one-not-none, one-unique, one-size}
 use Rattle.calculus.proofs.Consistency.{list→consistent, consistent→list}
 
 -- typing over other notions of disjoint and consistent, if the first imply them
@@ -61,6 +62,10 @@ applies-unique a-top a-top = refl
 projects-unique : {l : ℕ} {A B C : Ty} → Projects l A B → Projects l A C → B ≡ C
 projects-unique p-field p-field = refl
 projects-unique p-top p-top = refl
+projects-unique (p-one o) (p-one p) = one-unique o p
+projects-unique (p-one o) (p-none n t) = absurd (one-not-none o n)
+projects-unique (p-none n t) (p-one o) = absurd (one-not-none o n)
+projects-unique (p-none n t) (p-none m u) = refl
 
 -- 4.2
 pub typed-unique : {Γ : List Ty} {e : Term} {A B : Ty} → Typed Γ e A → Typed Γ e B → A ≡ B
@@ -181,6 +186,8 @@ projects-size : {l : ℕ} {A B : Ty} → Projects l A B → size-type B ≤ size
 unfolding size-type
 projects-size p-field = omega arith
 projects-size p-top = omega arith
+projects-size (p-one o) = one-size o
+projects-size (p-none n t) = omega arith
 
 -- the type found for a closed term is no larger than the term
 pub typed-size : {e : Term} {A : Ty} → Typed [] e A → size-type A ≤ size e

@@ -1,8 +1,8 @@
--- The executable tests, one a relation: top-like, subtyping, disjoint, value, closed, the same tree, consistent. What each answers
+-- The executable tests, one a relation: top-like, the part that a field read takes, subtyping, disjoint, value, closed, the same tree, consistent. What each answers
 -- is a theorem of proofs/. Assumes nothing.
 use Prim.Native.Nat.{ℕ, zero, suc, _+_}
 use mathlib.Core.Path.{_≡_, sym, ap}
-use mathlib.Core.Bool.{Bool, true, false, not, _&&_, _||_, decide}
+use mathlib.Core.Bool.{Bool, true, false, not, _&&_, _||_, cond, decide}
 use lib.Dec.{eqb, ltb}
 use lib.IntN.{ℤ, pos, negsuc, pos-ne-negsuc}
 use native.Mathlib.Decide.{ℕ-discrete}
@@ -16,6 +16,32 @@ topLike? top = true
 topLike? (arrow A B) = topLike? B
 topLike? (inter A B) = topLike? A && topLike? B
 topLike? (field l A) = topLike? A
+
+-- Which part of a type a field read takes: none, and none is top-like; none, but some part is top-like; one, with its content; more than one.
+pub data FieldPart : Type 0 where
+  no-part top-part more-parts : FieldPart
+  one-part : Ty → FieldPart
+
+-- The same of an intersection, from what its halves say.
+unfoldable pub bothParts : FieldPart → FieldPart → FieldPart
+bothParts no-part q = q
+bothParts top-part no-part = top-part
+bothParts top-part top-part = top-part
+bothParts top-part more-parts = more-parts
+bothParts top-part (one-part D) = one-part D
+bothParts more-parts q = more-parts
+bothParts (one-part C) no-part = one-part C
+bothParts (one-part C) top-part = one-part C
+bothParts (one-part C) more-parts = more-parts
+bothParts (one-part C) (one-part D) = more-parts
+
+-- "look at its parts that aren't themselves intersections"
+unfoldable pub fieldPart : ℕ → Ty → FieldPart
+fieldPart l int = no-part
+fieldPart l top = top-part
+fieldPart l (arrow A B) = cond (topLike? B) top-part no-part
+fieldPart l (inter A B) = bothParts (fieldPart l A) (fieldPart l B)
+fieldPart l (field k A) = cond (topLike? A) top-part (cond (eqb l k) (one-part A) no-part)
 
 -- Subtyping, the right side split first, then the left; n bounds the two sizes.
 unfoldable pub belowWithin : ℕ → Ty → Ty → Bool

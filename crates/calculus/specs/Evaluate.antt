@@ -1,12 +1,12 @@
 -- Typed reduction and the next step, as functions. A merge is read from its left half where that can be, else from its right: on typed
 -- terms the theorems of proofs/ leave no other answer. Assumes nothing.
 use Prim.Native.Nat.{ℕ}
-use mathlib.Core.Bool.{true, false, _&&_, cond}
+use mathlib.Core.Bool.{true, false, not, _&&_, cond}
 use mathlib.Core.Option.{Option, none, some, Option·map, orElse}
 use lib.Dec.{eqb}
 use Rattle.calculus.specs.Syntax.{Ty, int, top, arrow, inter, field}
 use Rattle.calculus.specs.Syntax.{Term, var, lit, unit, anno, app, lam, merge, fix, rcd, proj, substitute, byForm, foldParts}
-use Rattle.calculus.specs.Decide.{topLike?, below?, value?}
+use Rattle.calculus.specs.Decide.{FieldPart, no-part, top-part, more-parts, one-part, topLike?, fieldPart, below?, value?, typeOf}
 
 -- "under an intersection, merge both readings"
 unfoldable pub mergeBoth : Option Term → Option Term → Option Term
@@ -42,9 +42,25 @@ cast (field l A) v = elim (topLike? A) [ true ↦ some unit | false ↦ firstPar
 unfoldable pub apply : Term → Term → Option Term
 apply e v = byForm (λ i. none) (some unit) (λ b A B. Option·map (λ x. anno (substitute 0 x b) B) (cast A v)) (λ l f. none) none e
 
--- "The top value .. with a field read, becomes the top value. A field read of a record value becomes the content."
+-- The content of a part that is a record of that label and whose type is not top-like.
+unfoldable pub content : ℕ → Term → Option Term
+content l e = byForm (λ i. none) none (λ b A B. none) (λ k f. cond (eqb l k && not (topLike? (typeOf f))) (some f) none) none e
+
+-- The top value, where no part has the field but some part is top-like.
+unfoldable pub topValue : FieldPart → Option Term
+topValue no-part = none
+topValue top-part = some unit
+topValue more-parts = none
+topValue (one-part C) = none
+
+-- Of a merge, the content of the first part that has the field: "A run takes that part's content, or the top value."
+unfoldable pub readParts : ℕ → Term → Option Term
+readParts l e = orElse (firstPart (content l) e) (topValue (fieldPart l (typeOf e)))
+
+-- A field read of a value: "The top value .. with a field read, becomes the top value. A field read of a record value becomes the content." A
+-- value that is none of the forms is a merge.
 unfoldable pub project : ℕ → Term → Option Term
-project l e = byForm (λ i. none) (some unit) (λ b A B. none) (λ k f. cond (eqb l k) (some f) none) none e
+project l e = byForm (λ i. none) (some unit) (λ b A B. none) (λ k f. cond (eqb l k) (some f) none) (readParts l e) e
 
 -- The successor, where there is one: "Steps go leftmost first, never under a binder".
 unfoldable pub next : Term → Option Term

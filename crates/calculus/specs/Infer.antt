@@ -8,7 +8,7 @@ use lib.Dec.{eqb}
 use lib.ListN.{getElem?}
 use Rattle.calculus.specs.Syntax.{Ty, int, top, arrow, inter, field}
 use Rattle.calculus.specs.Syntax.{Term, var, lit, unit, anno, app, lam, merge, fix, rcd, proj}
-use Rattle.calculus.specs.Decide.{below?, disjoint?, value?, closed?, consistent?}
+use Rattle.calculus.specs.Decide.{FieldPart, no-part, top-part, more-parts, one-part, fieldPart, below?, disjoint?, value?, closed?, consistent?}
 
 -- Rows 11 to 15 of document 01's table: "variable without binder", "application of something else", "field read of something else",
 -- "merge neither disjoint nor consistent", "type not below the wanted one".
@@ -39,12 +39,19 @@ applied (found (inter A B)) r = refused not-function []
 applied (found (field l A)) r = refused not-function []
 applied (refused r p) s = refused r (0 ∷ p)
 
+-- Of an intersection: "its content is the type", "the type is Top", "Otherwise 13."
+unfoldable pub picked : FieldPart → Found
+picked no-part = refused no-field []
+picked top-part = found top
+picked more-parts = refused no-field []
+picked (one-part C) = found C
+
 -- "Field read: the term's type must be a record type of exactly that label, or Top, which gives Top."
 unfoldable pub projected : ℕ → Found → Found
 projected l (found int) = refused no-field []
 projected l (found top) = found top
 projected l (found (arrow A B)) = refused no-field []
-projected l (found (inter A B)) = refused no-field []
+projected l (found (inter A B)) = picked (fieldPart l (inter A B))
 projected l (found (field k A)) = cond (eqb l k) (found A) (refused no-field [])
 projected l (refused r p) = refused r (0 ∷ p)
 

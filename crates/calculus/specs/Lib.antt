@@ -3,8 +3,10 @@ pub mod Subtyping
 pub mod Disjointness
 pub mod TypedReduction
 pub mod Consistency
+pub mod Fields
 pub mod Typing
 pub mod Step
+pub mod Runtime
 pub mod Soundness
 pub mod Decide
 pub mod Infer

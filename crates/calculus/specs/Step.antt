@@ -1,9 +1,10 @@
--- Steps: source 001, figure 8, with records; and what document 01's "Running" says of them. Assumes nothing.
+-- Steps: source 001, figure 8, with records, their fields read inside a merge too; and what document 01's "Running" says of them. Assumes nothing.
 use Prim.Native.Nat.{ℕ, zero, suc}
 use mathlib.Core.Path.{_≡_}
 use mathlib.Core.Logic.{_⊎_}
 use Rattle.calculus.specs.Syntax.{Ty, Term, unit, anno, app, lam, merge, fix, rcd, proj, Value, IsValue, substitute}
 use Rattle.calculus.specs.TypedReduction.{Cast}
+use Rattle.calculus.specs.Fields.{NoField, SomeTopLike, HasField}
 
 -- Step e f: f is a successor of e.
 pub data Step : Term → Term → Type 0 where
@@ -25,6 +26,9 @@ pub data Step : Term → Term → Type 0 where
   s-proj-unit : {l : ℕ} → Step (proj l unit) unit
   -- "A field read of a record value becomes the content."
   s-proj-rcd : {l : ℕ} {v : Term} {A : Ty} → Value v A → Step (proj l (rcd l v)) v
+  -- Document 02, (i), of a merge: "A run takes that part's content, or the top value."
+  s-proj-part : {l : ℕ} {v w x : Term} {A : Ty} → Value (merge v w) A → HasField l (merge v w) x → Step (proj l (merge v w)) x
+  s-proj-none : {l : ℕ} {v w : Term} {A : Ty} → Value (merge v w) A → NoField l A → SomeTopLike A → Step (proj l (merge v w)) unit
   -- STEP-FIX: "A fixpoint becomes its body with itself put in, annotated with its type."
   s-fix : {e : Term} {A : Ty} → Step (fix e A) (anno (substitute 0 (fix e A) e) A)
 

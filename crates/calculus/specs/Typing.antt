@@ -1,4 +1,4 @@
--- Typing: source 001, figure 4, with document 01's records. One family finds types; checking against B is finding a type below B
+-- Typing: source 001, figure 4, with document 01's records and the field reads of document 02, (i). One family finds types; checking against B is finding a type below B
 -- (TYP-SUB). It is stated over what disjoint and consistent mean: `Typed` takes the source's definitions, `TypedByList` document
 -- 01's lists. Assumes nothing.
 use Prim.Native.Nat.{ℕ, zero, suc}
@@ -8,6 +8,7 @@ use Rattle.calculus.specs.Syntax.{Ty, int, top, arrow, inter, field, Ter
 use Rattle.calculus.specs.Subtyping.{Below}
 use Rattle.calculus.specs.Disjointness.{Disjoint, DisjointByList}
 use Rattle.calculus.specs.Consistency.{Consistent, ConsistentByList}
+use Rattle.calculus.specs.Fields.{NoField, OneField, SomeTopLike}
 
 -- The n-th type of a context, 0 the innermost.
 pub data Lookup : List Ty → ℕ → Ty → Type 0 where
@@ -19,10 +20,14 @@ pub data Applies : Ty → Ty → Ty → Type 0 where
   a-arrow : {A B : Ty} → Applies (arrow A B) A B
   a-top : Applies top top top
 
--- "must be a record type of exactly that label, or Top, which gives Top"
+-- "must be a record type of exactly that label, or Top, which gives Top"; document 02, (i): "A record type or Top keeps its rule."
 pub data Projects : ℕ → Ty → Ty → Type 0 where
   p-field : {l : ℕ} {A : Ty} → Projects l (field l A) A
   p-top : {l : ℕ} → Projects l top top
+  -- "For an intersection ..: If precisely one part is a record of that label and not top-like, its content is the type."
+  p-one : {l : ℕ} {A B C : Ty} → OneField l (inter A B) C → Projects l (inter A B) C
+  -- "If there is no such part but some part is top-like, the type is Top."
+  p-none : {l : ℕ} {A B : Ty} → NoField l (inter A B) → SomeTopLike (inter A B) → Projects l (inter A B) top
 
 -- "Finding a type", with D for disjoint and K for consistent: Γ finds A for e.
 pub data TypedWith (D : Ty → Ty → Type 0) (K : Term → Term → Type 0) : List Ty → Term → Ty → Type 0 where
@@ -44,7 +49,7 @@ pub data TypedWith (D : Ty → Ty → Type 0) (K : Term → Term → Type 0) : L
   t-fix : {Γ : List Ty} {e : Term} {A B : Ty} → TypedWith D K (A ∷ Γ) e B → Below B A → TypedWith D K Γ (fix e A) A
   -- "record a record type"
   t-rcd : {Γ : List Ty} {l : ℕ} {e : Term} {A : Ty} → TypedWith D K Γ e A → TypedWith D K Γ (rcd l e) (field l A)
-  -- "Field read: the term's type must be a record type of exactly that label, or Top"
+  -- "Field read: the term's type must be a record type of exactly that label, or Top"; or an intersection that has the field
   t-proj : {Γ : List Ty} {l : ℕ} {e : Term} {A B : Ty} → TypedWith D K Γ e A → Projects l A B → TypedWith D K Γ (proj l e) B
 
 -- Γ finds A for e, with the source's definitions 3.1 and 3.2.

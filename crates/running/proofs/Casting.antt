@@ -18,17 +18,18 @@ use Rattle.format.specs.Tree.{kindIn}
 use Rattle.format.specs.Terms.{fromType, fromTerm}
 use Rattle.cells.specs.Held.{mark}
 use Rattle.cells.proofs.Held.{kind-of, type-mark}
-use Rattle.emission.specs.Runs.{Run, r-unused, r-refers}
+use Rattle.emission.specs.Runs.{Run, r-refers}
 use Rattle.emission.proofs.Runs.{parts, run-kind, run-type, kept-run}
 use Rattle.moving.specs.Moves.{Kept, Wrote, ShiftReady, Shifts}
 use Rattle.moving.proofs.Runs.{shift-ready, run-shifted}
-use Rattle.running.specs.Places.{RedexParts, of-anno, of-app, of-fix, of-proj, Standing, doneAt, Becomes, RedexAt, TopAt, FunctionAt}
+use Rattle.running.specs.Places.{RedexParts, of-anno, of-app, of-fix, of-proj, Standing, doneAt, Becomes, BecomesTop, RedexAt, TopAt, FunctionAt}
 use Rattle.running.specs.declared.Place.{Place}
+use Rattle.running.specs.declared.Focus.{Focus}
 use Rattle.running.specs.declared.Focus.the-variants.{Redex}
 use Rattle.running.proofs.Going.{ends, nothing, at-run, wrote-run}
 use Rattle.running.proofs.Entering.{Kind, k-lit, k-lam, term-kind}
-use Rattle.running.proofs.Ranges.{last, RedexRange, redex-range, Stored, stored, start-within, kind-at}
-use Rattle.running.proofs.Projecting.{Content, becomes, unchanged}
+use Rattle.running.proofs.Ranges.{last, RedexRange, redex-range, stored, kind-at}
+use Rattle.running.proofs.Projecting.{Reduct, becomes, unchanged}
 
 -- the annotated value, and its type
 pub record Annotated (w : List ℕ) (p : Place) (f : Term) (a b : ℕ) : Type 0 where
@@ -88,9 +89,9 @@ module _ {w : List ℕ} (p : Place) (t : Cell) (d : RedexAt w p t 19) where
   cast-is : {e : Term} (s : Standing w (Redex p) e) {h : Term} → next (s .focus) ≡ some h → cast (annotated s .type) (annotated s .value) ≡ some h
   cast-is s n = let q = annotated s in sym (next-anno (q .value) (q .type) (q .final)) ∙ sym (ap next (q .is)) ∙ n
 
-  sized : {v : List ℕ} {left : ℕ} {e h : Term} (s : Standing w (Redex p) e) → Content v (p .start) left (size (anno (annotated s .value) (annotated s .type))) h →
-      Content v (p .start) left (size (s .focus)) h
-  sized {v} {left} {h = h} s c = subst (λ (n : ℕ). Content v (p .start) left n h) (sym (ap size (annotated s .is))) c
+  sized : {v : List ℕ} {left : ℕ} {e h : Term} (s : Standing w (Redex p) e) → Reduct v (p .start) left (size (anno (annotated s .value) (annotated s .type))) h →
+      Reduct v (p .start) left (size (s .focus)) h
+  sized {v} {left} {h = h} s c = subst (λ (n : ℕ). Reduct v (p .start) left n h) (sym (ap size (annotated s .is))) c
 
 -- ---- the top value
 
@@ -109,37 +110,16 @@ cast-top v e k-arrow k = rw (e, cast) refl
 cast-top v e k-inter k = absurd (k refl)
 cast-top v e k-field k = rw (e, cast) refl
 
-pub casts-top : {w v : List ℕ} {p : Place} {t y : Cell} → TopAt w p t y → v ≡ sets w (8 * p .start) (cellBytes (record { kind = 18; label = 0; a = 0; b = 0; c = 0 })) →
-    Becomes w v p (doneAt p (p .start + 1))
-unfolding value? fromTerm table rowIn rowOf size
-casts-top {w} {v} {p} {t} {y} d o = becomes p kept (omega (arith, r .start, r .apart, r .right)) content
+pub casts-top : {w v : List ℕ} {p : Place} {t y : Cell} {r : Focus} → TopAt w p t y → BecomesTop w v p r → Becomes w v p r
+casts-top {w} {p = p} {t} d o = o .says becomes-top
   where
-    x : Stored w v (p .start) (record { kind = 18; label = 0; a = 0; b = 0; c = 0 })
-    x = stored _ (start-within (d .at .ready .standing)) o
-
-    r : RedexRange p
-    r = redex-range (d .at .ready .standing .at)
-
-    kept : Kept w v (p .start) (suc (p .root))
-    kept =
-        record {
-          long = x .wrote .long;
-          below = λ i h. x .wrote .others i (λ e. absurd (omega (arith, e, h)));
-          above = λ i h. x .wrote .others i (λ e. absurd (omega (arith, e, h, r .start, r .apart, r .right)));
-        }
-
-    top-run : Run true v (p .start) (refers term-sort) (p .start + 1 - 1) (fromTerm unit) (p .start + 1)
-    top-run = at-run refl (omega arith) (omega arith) (r-refers (x .there) refl refl r-unused r-unused r-unused refl (refl, tt))
-
-    content : (e : Term) (s : Standing w (Redex p) e) (h : Term) → next (s .focus) ≡ some h → Content v (p .start) (p .start + 1) (size (s .focus)) h
-    content e s h n =
+    becomes-top : (e : Term) (s : Standing w (Redex p) e) (h : Term) → next (s .focus) ≡ some h → unit ≡ h
+    becomes-top e s h n =
         let q = annotated p t (d .at) s in
         let A = q .type in
         let m : mark A ≡ 1 = sym (type-mark (run-type A (q .under))) ∙ sym (ap (λ (z : Cell). z .c) (d .type)) ∙ d .top-like in
         let k : cellAt w (t .b) .kind ≡ 4 → ⊥ = λ h. d .no-intersection (ap (λ (z : Cell). z .kind) (d .type) ∙ h) in
-        let u : unit ≡ h = Option·some-injective unit h (sym (cast-top (q .value) (marked-top A m) (kind-type A (q .under)) k) ∙ cast-is p t (d .at) s n) in
-        sized p t (d .at) s
-        (subst (Content v (p .start) (p .start + 1) (size (anno (q .value) A))) u (record { final = refl; run = top-run; small = omega arith }))
+        Option·some-injective unit h (sym (cast-top (q .value) (marked-top A m) (kind-type A (q .under)) k) ∙ cast-is p t (d .at) s n)
 
 -- ---- a number
 
@@ -156,14 +136,14 @@ casts-number {w} {p} {t} d i o x y = becomes p (unchanged p) (omega (arith, r .a
     r : RedexRange p
     r = redex-range (d .ready .standing .at)
 
-    content : (e : Term) (s : Standing w (Redex p) e) (h : Term) → next (s .focus) ≡ some h → Content w (p .start) (p .left) (size (s .focus)) h
+    content : (e : Term) (s : Standing w (Redex p) e) (h : Term) → next (s .focus) ≡ some h → Reduct w (p .start) (p .left) (size (s .focus)) h
     content e s h n =
         let q = annotated p t d s in
         let k = term-kind (q .value) (q .run) (kind-at i x) in
         let l = subst (λ (n : ℕ). TypeKind n (q .type)) (kind-at o y) (kind-type (q .type) (q .under)) in
         let u : q .value ≡ h = number-read h k l (cast-is p t d s n) in
         sized p t d s
-        (subst (Content w (p .start) (p .left) (size (anno (q .value) (q .type)))) u
+        (subst (Reduct w (p .start) (p .left) (size (anno (q .value) (q .type)))) u
         (record { final = q .final; run = at-run refl (omega (arith, ends (q .run))) refl (q .run); small = omega arith }))
 
 -- ---- a function
@@ -361,9 +341,9 @@ module _ {w : List ℕ} (p : Place) (t v y : Cell) (d : FunctionAt w p t v y) wh
     unfolding size size-type value?
     retypes i = subst (λ (n : ℕ). Becomes w z p (doneAt p n)) (sym i) (becomes p kept (omega (arith, places)) content)
       where
-        content : (e : Term) (s : Standing w (Redex p) e) (h : Term) → next (s .focus) ≡ some h → Content z (p .start) (v .b + 1 + (y .b - y .a) + 1) (size (s .focus)) h
+        content : (e : Term) (s : Standing w (Redex p) e) (h : Term) → next (s .focus) ≡ some h → Reduct z (p .start) (v .b + 1 + (y .b - y .a) + 1) (size (s .focus)) h
         content e s h n =
             let q = retyped s in
             let k : size (s .focus) ≡ size (anno (lam (q .body) (q .input) (q .output)) (arrow (q .first) (q .second))) = ap size (q .is) in
-            subst (Content z (p .start) (v .b + 1 + (y .b - y .a) + 1) (size (s .focus))) (read-is s q n)
+            subst (Reduct z (p .start) (v .b + 1 + (y .b - y .a) + 1) (size (s .focus))) (read-is s q n)
             (record { final = refl; run = at-run refl (omega arith) (omega arith) (retyped-run s q); small = omega (arith, k) })

@@ -18,3 +18,4 @@ pub mod Loop
 pub mod Casting
 pub mod Halving
 pub mod Sizes
+pub mod MergeReads

@@ -1,4 +1,5 @@
--- A field read of a value has its successor in place: the top value stays, a record loses its last cell. Assumes nothing.
+-- A redex that has become a value in place. A field read of the top value or of a record: the top value stays, the record loses its last cell. Assumes
+-- nothing.
 use Prim.Native.Nat.{ℕ, suc, _+_, _*_, _-_, _≤_, _<_}
 use native.Mathlib.Omega.{arith}
 use mathlib.Core.Path.{_≡_, refl, sym, ap, _∙_, subst}
@@ -7,31 +8,32 @@ use mathlib.Core.List.{List}
 use mathlib.Core.Option.{none, some, Option·some-injective, Option·none-ne-some}
 use lib.Dec.{eqb}
 use lib.ListN.{length}
+use lib.Seq.{sets}
 use Rattle.calculus.specs.Syntax.{Ty, Term, unit, rcd, proj, Value, v-lit, v-unit, v-lam, v-merge, v-rcd, size}
 use Rattle.calculus.specs.Decide.{value?}
 use Rattle.calculus.specs.Evaluate.{next, project}
 use Rattle.calculus.proofs.Bools.{true-says}
 use Rattle.calculus.proofs.Tests.{value?-says}
 use Rattle.format.specs.Table.{term-sort, refers, rowOf, rowIn, table}
-use Rattle.format.specs.Cell.{Cell, cellAt}
+use Rattle.format.specs.Cell.{Cell, cellAt, cellBytes}
 use Rattle.format.specs.Tree.{kindIn}
 use Rattle.format.specs.Terms.{fromTerm}
 use Rattle.format.proofs.Trees.{term-cells}
 use Rattle.cells.proofs.Held.{kind-of}
-use Rattle.emission.specs.Runs.{Run}
+use Rattle.emission.specs.Runs.{Run, r-unused, r-refers}
 use Rattle.emission.proofs.Runs.{parts, run-kind}
 use Rattle.moving.specs.Moves.{Kept}
 use Rattle.running.specs.Waiting.{Waits, around}
 use Rattle.running.specs.Contexts.{Around, whole, frames}
-use Rattle.running.specs.Places.{RedexParts, of-anno, of-app, of-fix, of-proj, Standing, doneAt, Becomes, RedexAt}
+use Rattle.running.specs.Places.{RedexParts, of-anno, of-app, of-fix, of-proj, Standing, doneAt, AtRedex, Becomes, BecomesTop, RedexAt}
 use Rattle.running.specs.declared.Place.{Place}
 use Rattle.running.specs.declared.Focus.{Focus}
 use Rattle.running.specs.declared.Focus.the-variants.{Redex}
 use Rattle.running.proofs.Contexts.{next-inside, framed}
 use Rattle.running.proofs.Waiting.{filled, kept-waits}
-use Rattle.running.proofs.Going.{ends, nothing, at-run}
+use Rattle.running.proofs.Going.{ends, nothing, at-run, wrote-kept}
 use Rattle.running.proofs.Entering.{Kind, k-unit, term-kind}
-use Rattle.running.proofs.Ranges.{redex-range, redex-low, kind-at, kind-not}
+use Rattle.running.proofs.Ranges.{RedexRange, redex-range, redex-low, Stored, stored, start-within, kind-at, kind-not}
 
 -- the size of the whole term: the cells around the focus, and the focus
 pub size-whole : (K : List Around) (f : Term) → size (whole K f) ≡ around (frames K) + size f
@@ -46,22 +48,30 @@ redex-value (of-app c v u a b e) = refl
 redex-value (of-fix e r) = refl
 redex-value (of-proj c v a e) = refl
 
--- the field read, its value's cell at a
-pub record Read (w : List ℕ) (p : Place) (f : Term) (a : ℕ) : Type 0 where
-  pub label : ℕ
-  pub value : Term
-  pub is : f ≡ proj label value
-  pub final : value? value ≡ true
-  pub run : Run true w (p .start) (refers term-sort) a (fromTerm value) (p .left)
+-- and has a cell
+redex-some : {w : List ℕ} {p : Place} {f : Term} → RedexParts w p f → 1 ≤ size f
+unfolding size
+redex-some (of-anno c v a b) = omega arith
+redex-some (of-app c v u a b e) = omega arith
+redex-some (of-fix e r) = omega arith
+redex-some (of-proj c v a e) = omega arith
 
-pub read-of : {w : List ℕ} (p : Place) {f : Term} (t : Cell) → RedexParts w p f → t ≡ cellAt w (p .root) → t .kind ≡ 25 → Read w p f (t .a)
+-- the field read of cell t, and its value
+pub record Read (w : List ℕ) (p : Place) (f : Term) (t : Cell) : Type 0 where
+  pub value : Term
+  pub is : f ≡ proj (t .label) value
+  pub final : value? value ≡ true
+  pub run : Run true w (p .start) (refers term-sort) (t .a) (fromTerm value) (p .left)
+
+pub read-of : {w : List ℕ} (p : Place) {f : Term} (t : Cell) → RedexParts w p f → t ≡ cellAt w (p .root) → t .kind ≡ 25 → Read w p f t
 unfolding fromTerm table rowIn rowOf
 read-of p t (of-anno c v a b) e k = absurd (omega (arith, k, ap (λ (c : Cell). c .kind) e, kind-of c))
 read-of p t (of-app c v u a b r) e k = absurd (omega (arith, k, ap (λ (c : Cell). c .kind) e, kind-of c))
 read-of p t (of-fix r x) e k = absurd (omega (arith, k, ap (λ (c : Cell). c .kind) e, kind-of (parts x refl .cell)))
-read-of {w} p t (of-proj {l = l} {v = v} c f r i) e k =
+read-of {w} p t (of-proj {v = v} c f r i) e k =
     let a : t .a ≡ _ = ap (λ (c : Cell). c .a) (e ∙ c .is) in
-    record { label = l; value = v; is = refl; final = f; run = at-run refl (sym a) refl r }
+    let l : t .label ≡ _ = ap (λ (c : Cell). c .label) (e ∙ c .is) in
+    record { value = v; is = ap (λ (n : ℕ). proj n v) (sym l); final = f; run = at-run refl (sym a) refl r }
 
 -- a field read of a value, by the rule
 next-proj : (l : ℕ) (v : Term) → value? v ≡ true → next (proj l v) ≡ project l v
@@ -73,14 +83,14 @@ inside true x h e = Option·some-injective x h e
 inside false x h e = absurd (Option·none-ne-some h e)
 
 -- a value of at most n cells that runs from start and ends before left
-pub record Content (w : List ℕ) (start left n : ℕ) (h : Term) : Type 0 where
+pub record Reduct (w : List ℕ) (start left n : ℕ) (h : Term) : Type 0 where
   pub final : value? h ≡ true
   pub run : Run true w start (refers term-sort) (left - 1) (fromTerm h) left
   pub small : size h ≤ n
 
 -- a redex that has become such a value in place
 pub becomes : {w v : List ℕ} (p : Place) {left : ℕ} → Kept w v (p .start) (suc (p .root)) → left ≤ p .root →
-    ((e : Term) (s : Standing w (Redex p) e) (h : Term) → next (s .focus) ≡ some h → Content v (p .start) left (size (s .focus)) h) → Becomes w v p (doneAt p left)
+    ((e : Term) (s : Standing w (Redex p) e) (h : Term) → next (s .focus) ≡ some h → Reduct v (p .start) left (size (s .focus)) h) → Becomes w v p (doneAt p left)
 becomes {w} {v} p {left} k l c = record { says = λ e g s r n. go s n }
   where
     go : {e g : Term} → Standing w (Redex p) e → next e ≡ some g → Standing v (doneAt p left) g × (size g ≤ size e)
@@ -112,36 +122,58 @@ becomes-at {w} {v} {p} e b = subst (Becomes w v p) (sym e) b
 pub unchanged : {w : List ℕ} (p : Place) → Kept w w (p .start) (suc (p .root))
 unchanged p = record { long = refl; below = λ i h. refl; above = λ i h. refl }
 
+-- the top value, written where the redex begins
+pub becomes-top : {w v : List ℕ} {p : Place} {f : Focus} → AtRedex w p → v ≡ sets w (8 * p .start) (cellBytes (record { kind = 18; label = 0; a = 0; b = 0; c = 0 })) →
+    f ≡ doneAt p (p .start + 1) → BecomesTop w v p f
+unfolding value? fromTerm table rowIn rowOf size
+becomes-top {w} {v} {p} d o is =
+    record {
+      says = λ i. becomes-at is (becomes p kept (omega (arith, r .start, r .apart, r .right))
+          (λ e s h n. subst (Reduct v (p .start) (p .start + 1) (size (s .focus))) (i e s h n) (record { final = refl; run = top-run; small = redex-some (s .at .parts) })));
+    }
+  where
+    x : Stored w v (p .start) (record { kind = 18; label = 0; a = 0; b = 0; c = 0 })
+    x = stored _ (start-within (d .standing)) o
+
+    r : RedexRange p
+    r = redex-range (d .standing .at)
+
+    kept : Kept w v (p .start) (suc (p .root))
+    kept = wrote-kept (x .wrote) (omega arith) (omega (arith, r .start, r .apart, r .right))
+
+    top-run : Run true v (p .start) (refers term-sort) (p .start + 1 - 1) (fromTerm unit) (p .start + 1)
+    top-run = at-run refl (omega arith) (omega arith) (r-refers (x .there) refl refl r-unused r-unused r-unused refl (refl, tt))
+
 module _ {w : List ℕ} {start left a : ℕ} (l : ℕ) where
-  content-top : {v : Term} (h : Term) → Run true w start (refers term-sort) a (fromTerm v) left → Kind 18 v → project l v ≡ some h →
-      Content w start left (size (proj l v)) h
+  reduct-top : {v : Term} (h : Term) → Run true w start (refers term-sort) a (fromTerm v) left → Kind 18 v → project l v ≡ some h →
+      Reduct w start left (size (proj l v)) h
   unfolding project value? size
-  content-top h r k-unit n =
-      subst (Content w start left 2) (Option·some-injective unit h n)
+  reduct-top h r k-unit n =
+      subst (Reduct w start left 2) (Option·some-injective unit h n)
       (record { final = refl; run = at-run refl (omega (arith, ends r)) refl r; small = omega arith })
 
-  content-record : {v : Term} {A : Ty} (h : Term) → Value v A → value? v ≡ true → Run true w start (refers term-sort) a (fromTerm v) left → (cellAt w a .kind ≡ 18 → ⊥) → project l v ≡ some h →
-      Content w start (left - 1) (size (proj l v)) h
+  reduct-record : {v : Term} {A : Ty} (h : Term) → Value v A → value? v ≡ true → Run true w start (refers term-sort) a (fromTerm v) left → (cellAt w a .kind ≡ 18 → ⊥) →
+      (cellAt w a .kind ≡ 22 → ⊥) → project l v ≡ some h → Reduct w start (left - 1) (size (proj l v)) h
   unfolding project value? size kindIn fromTerm table rowIn rowOf
-  content-record h v-unit f r k n = absurd (k (run-kind r))
-  content-record h (v-rcd {l = m} {v = x} _) f r k n =
+  reduct-record h v-unit f r k m n = absurd (k (run-kind r))
+  reduct-record h (v-rcd {l = i} {v = x} _) f r k m n =
       let q = parts r refl in
       let y : q .y ≡ a = nothing (q .second) ∙ nothing (q .third) in
-      subst (Content w start (left - 1) (size (proj l (rcd m x)))) (inside (eqb l m) x h n)
+      subst (Reduct w start (left - 1) (size (proj l (rcd i x)))) (inside (eqb l i) x h n)
       (record {
         final = f;
         run = at-run refl (omega (arith, ends (q .first), y, q .last)) (omega (arith, y, q .last)) (q .first);
         small = omega arith;
       })
-  content-record h v-lit f r k n = absurd (Option·none-ne-some h n)
-  content-record h v-lam f r k n = absurd (Option·none-ne-some h n)
-  content-record h (v-merge _ _) f r k n = absurd (Option·none-ne-some h n)
+  reduct-record h v-lit f r k m n = absurd (Option·none-ne-some h n)
+  reduct-record h v-lam f r k m n = absurd (Option·none-ne-some h n)
+  reduct-record h (v-merge _ _) f r k m n = absurd (m (run-kind r))
 
 pub redex-root : {w : List ℕ} {p : Place} {t : Cell} {k : ℕ} → RedexAt w p t k → p .root < 8192
 redex-root d = redex-low (d .ready .standing .at)
 
 module _ {w : List ℕ} (p : Place) (t : Cell) (d : RedexAt w p t 25) where
-  field-read : {e : Term} (s : Standing w (Redex p) e) → Read w p (s .focus) (t .a)
+  pub field-read : {e : Term} (s : Standing w (Redex p) e) → Read w p (s .focus) t
   field-read s = read-of p t (s .at .parts) (d .cell) (d .kind)
 
   pub value-within : 8 * t .a + 8 ≤ length w
@@ -157,20 +189,20 @@ module _ {w : List ℕ} (p : Place) (t : Cell) (d : RedexAt w p t 25) where
   left-low = let r = redex-range (d .ready .standing .at) in omega (arith, r .apart, r .right)
 
   -- what the read becomes, by the rule
-  project-is : {e : Term} (s : Standing w (Redex p) e) {h : Term} → next (s .focus) ≡ some h → project (field-read s .label) (field-read s .value) ≡ some h
-  project-is s n = let q = field-read s in sym (next-proj (q .label) (q .value) (q .final)) ∙ sym (ap next (q .is)) ∙ n
+  pub project-is : {e : Term} (s : Standing w (Redex p) e) {h : Term} → next (s .focus) ≡ some h → project (t .label) (field-read s .value) ≡ some h
+  project-is s n = let q = field-read s in sym (next-proj (t .label) (q .value) (q .final)) ∙ sym (ap next (q .is)) ∙ n
 
-  sized : {v : List ℕ} {left : ℕ} {e h : Term} (s : Standing w (Redex p) e) → Content v (p .start) left (size (proj (field-read s .label) (field-read s .value))) h →
-      Content v (p .start) left (size (s .focus)) h
-  sized {v} {left} {h = h} s c = subst (λ (n : ℕ). Content v (p .start) left n h) (sym (ap size (field-read s .is))) c
+  sized : {v : List ℕ} {left : ℕ} {e h : Term} (s : Standing w (Redex p) e) → Reduct v (p .start) left (size (proj (t .label) (field-read s .value))) h →
+      Reduct v (p .start) left (size (s .focus)) h
+  sized {v} {left} {h = h} s c = subst (λ (n : ℕ). Reduct v (p .start) left n h) (sym (ap size (field-read s .is))) c
 
   pub projects-top : {v : Cell} → v ≡ cellAt w (t .a) → v .kind ≡ 18 → Becomes w w p (doneAt p (p .left))
   projects-top i k =
       becomes p (unchanged p) left-low
-      (λ e s h n. sized s (content-top (field-read s .label) h (field-read s .run) (term-kind (field-read s .value) (field-read s .run) (kind-at i k)) (project-is s n)))
+      (λ e s h n. let q = field-read s in sized s (reduct-top (t .label) h (q .run) (term-kind (q .value) (q .run) (kind-at i k)) (project-is s n)))
 
-  pub projects-record : {v : Cell} → v ≡ cellAt w (t .a) → (v .kind ≡ 18 → ⊥) → Becomes w w p (doneAt p (p .left - 1))
-  projects-record i k =
+  pub projects-record : {v : Cell} → v ≡ cellAt w (t .a) → (v .kind ≡ 18 → ⊥) → (v .kind ≡ 22 → ⊥) → Becomes w w p (doneAt p (p .left - 1))
+  projects-record i k m =
       becomes p (unchanged p) (omega (arith, left-low))
       (λ e s h n. let q = field-read s in
-      sized s (content-record (q .label) h (value?-says (q .value) .0 (true-says _ .1 (q .final)) .1) (q .final) (q .run) (kind-not i k) (project-is s n)))
+      sized s (reduct-record (t .label) h (value?-says (q .value) .0 (true-says _ .1 (q .final)) .1) (q .final) (q .run) (kind-not i k) (kind-not i m) (project-is s n)))

@@ -7,7 +7,7 @@ use mathlib.Core.Logic.{_⊎_}
 use mathlib.Core.List.{List, []}
 use mathlib.Core.Option.{some}
 use lib.ListN.{length}
-use Rattle.calculus.specs.Syntax.{Ty, Term, anno, app, fix, proj, size}
+use Rattle.calculus.specs.Syntax.{Ty, Term, unit, anno, app, fix, proj, size}
 use Rattle.calculus.specs.Typing.{Typed}
 use Rattle.calculus.specs.Decide.{value?}
 use Rattle.calculus.specs.Evaluate.{next}
@@ -180,11 +180,24 @@ doneAt p left = Done (record { left = left; start = p .start; right = p .root + 
 pub record Becomes (w v : List ℕ) (p : Place) (r : Focus) : Type 0 where
   pub says : (e g : Term) → Standing w (Redex p) e → Runnable e → next e ≡ some g → Standing v r g × (size g ≤ size e)
 
+-- The focus is a redex.
+abbrev pub AtRedex : List ℕ → Place → Type 0
+AtRedex w p = FocusReady w (Redex p)
+
+-- The top value is done in its place: the redex has become it, if it becomes nothing else.
+pub record BecomesTop (w v : List ℕ) (p : Place) (r : Focus) : Type 0 where
+  pub says : ((e : Term) (s : Standing w (Redex p) e) (h : Term) → next (s .focus) ≡ some h → unit ≡ h) → Becomes w v p r
+
 -- A redex whose cell t is of kind k.
 pub record RedexAt (w : List ℕ) (p : Place) (t : Cell) (k : ℕ) : Type 0 where
   pub ready : FocusReady w (Redex p)
   pub cell : t ≡ cellAt w (p .root)
   pub kind : t .kind ≡ k
+
+-- A field read of a merge.
+pub record MergeAt (w : List ℕ) (p : Place) (t : Cell) : Type 0 where
+  pub at : RedexAt w p t 25
+  pub merged : cellAt w (t .a) .kind ≡ 22
 
 -- A value annotated with the type whose cell is y: one that is top-like and no intersection;
 pub record TopAt (w : List ℕ) (p : Place) (t y : Cell) : Type 0 where

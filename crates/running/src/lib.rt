@@ -11,12 +11,14 @@ use layout::encode_in_place;
 use moving::copy;
 use moving::place;
 use moving::shift;
+use projection::Content;
+use projection::value_part;
 use reduction::emit_contractum;
 ghost use mathlib.Core.Path.{_≡_};
 ghost use Prim.Native.Nat.{_<_};
 ghost use Rattle.cells.specs.Coded.{asCell};
 ghost use Rattle.running.specs.Places.{Taking, Descending, Entering, Enters, Leaving, Leaves, WaitingOne, WaitingFirst, WaitingSecond, FocusReady, Settles};
-ghost use Rattle.running.specs.Places.{doneAt, Becomes, RedexAt, TopAt, FunctionAt, CastsInPlace};
+ghost use Rattle.running.specs.Places.{doneAt, AtRedex, Becomes, BecomesTop, RedexAt, MergeAt, TopAt, FunctionAt, CastsInPlace};
 ghost use Rattle.running.specs.Places.{Installing, Halving, Installs, Contracting, ContractingAnno, Emitting, Contracts};
 ghost use Rattle.running.specs.Places.{Unwinding, Unwinds, RestoreReady, Restores, Rebuilds};
 ghost use Rattle.running.specs.Turns.{StepReady, Starts, TurnReady, Steps, WholeReady, EncodesWhole, Runs};
@@ -277,22 +279,10 @@ fn became(p: Place, left: usize) -> Focus
     })
 }
 
-// A field read of a value, t: the top value stays, of a record the content.
-fn project(w: &[u8], p: Place, t: Cell) -> Focus
-    requires { ⌜ RedexAt (now w) p (asCell t) 25 ⌝ }
-    ensures { λ r. ⌜ Becomes (now (w .entry)) (now (w .entry)) p r ⌝ }
-{
-    let v = read_cell(w, t.a);
-    if v.kind == 18 {
-        return became(p, p.left);
-    }
-    became(p, p.left - 1)
-}
-
-// A value under a top-like type y that is no intersection: the top value.
-fn cast_top(w: &mut [u8], p: Place, t: Cell, y: Cell) -> Focus
-    requires { ⌜ TopAt (now w) p (asCell t) (asCell y) ⌝ }
-    ensures { λ r. ⌜ Becomes (now (w .entry)) (now (w .exit)) p r ⌝ }
+// The top value takes the place of the redex.
+fn become_top(w: &mut [u8], p: Place) -> Focus
+    requires { ⌜ AtRedex (now w) p ⌝ }
+    ensures { λ r. ⌜ BecomesTop (now (w .entry)) (now (w .exit)) p r ⌝ }
 {
     write_cell(
         w,
@@ -306,6 +296,42 @@ fn cast_top(w: &mut [u8], p: Place, t: Cell, y: Cell) -> Focus
         },
     );
     became(p, p.start + 1)
+}
+
+// A field read of a merge, t: the content of the first part that has the field moves to where the merge begins. If no part has it, the top value.
+fn project_merge(w: &mut [u8], p: Place, t: Cell) -> Focus
+    requires { ⌜ MergeAt (now w) p (asCell t) ⌝ }
+    ensures { λ r. ⌜ Becomes (now (w .entry)) (now (w .exit)) p r ⌝ }
+{
+    let Content::Cells(x, end) = value_part(w, p.start, t.a, t.label) else {
+        return become_top(w, p);
+    };
+    let n = end - x;
+    shift(w, x, p.start, n);
+    became(p, p.start + n)
+}
+
+// A field read of a value, t: the top value stays, of a record the content, of a merge that of a part.
+fn project(w: &mut [u8], p: Place, t: Cell) -> Focus
+    requires { ⌜ RedexAt (now w) p (asCell t) 25 ⌝ }
+    ensures { λ r. ⌜ Becomes (now (w .entry)) (now (w .exit)) p r ⌝ }
+{
+    let v = read_cell(w, t.a);
+    if v.kind == 18 {
+        return became(p, p.left);
+    }
+    if v.kind == 22 {
+        return project_merge(w, p, t);
+    }
+    became(p, p.left - 1)
+}
+
+// A value under a top-like type y that is no intersection: the top value.
+fn cast_top(w: &mut [u8], p: Place, t: Cell, y: Cell) -> Focus
+    requires { ⌜ TopAt (now w) p (asCell t) (asCell y) ⌝ }
+    ensures { λ r. ⌜ Becomes (now (w .entry)) (now (w .exit)) p r ⌝ }
+{
+    become_top(w, p)
 }
 
 // The function v under the function type y: body and input stay, the output's cells come behind them, and the last cell is written anew.

@@ -7,16 +7,17 @@ use mathlib.Core.Bool.{Bool, true, false, cond}
 use mathlib.Core.List.{List, [], _∷_}
 use Rattle.calculus.specs.Syntax.{Ty, Term, size}
 use Rattle.calculus.specs.Infer as Infer
-use Rattle.calculus.specs.Infer.{Reason, mismatch, checked, infer}
-use Rattle.calculus.specs.Decide.{below?}
+use Rattle.calculus.specs.Infer.{Reason, mismatch, checked, picked, infer}
+use Rattle.calculus.specs.Decide.{fieldPart, below?}
 use Rattle.format.specs.Book.{follow}
 use Rattle.answers.specs.Answer.{refused, reasonNumber}
 use Rattle.answers.specs.Cases.{refusalAnswer}
 use Rattle.answers.specs.declared.Refusal.{Refusal}
 use Rattle.cells.specs.Held.{HoldsType, HoldsTerm, HoldsContext, Same}
+use Rattle.cells.proofs.Held.{same-trans}
 use Rattle.typing.specs.declared.Found.{Found}
 use Rattle.typing.specs.declared.Found.the-variants.{Typed, Refused}
-use Rattle.typing.specs.Finding.{Answered, Finds, checkedHere, Checks}
+use Rattle.typing.specs.Finding.{Answered, Finds, checkedHere, Checks, FindsField}
 use Rattle.typing.proofs.Paths.{follow-same, Leads}
 
 -- An answer, as a record.
@@ -30,6 +31,9 @@ finding {Γ = Γ} {e = e} f g h = record { says = f .says Γ e g h }
 pub checking : {s t : List ℕ} {n c i w : ℕ} {r : Found} {Γ : List Ty} {e : Term} {A : Ty} → Checks s t n c i w r → HoldsContext s c Γ →
     HoldsTerm s i e → HoldsType s w A → Answer s t n (size e) i r (checkedHere (infer Γ e) A)
 checking {Γ = Γ} {e = e} {A = A} f g h a = record { says = f .says Γ e A g h a }
+
+pub fielding : {s t : List ℕ} {n a l i : ℕ} {r : Found} {A : Ty} → FindsField s t n a l i r → HoldsType s a A → Answer s t n 1 i r (picked (fieldPart l A))
+fielding {A = A} f h = record { says = f .says A h }
 
 -- An answer that is a type's cell x, with k cells used.
 pub record IsFound (s t : List ℕ) (n m x k : ℕ) (F : Infer.Found) : Type 0 where
@@ -74,6 +78,15 @@ refused-by {s} {t} {n} {m} {i} {q} {r} {F} a e = go F (a .says)
 pub handed : {s u : List ℕ} {n i f j : ℕ} {q : Refusal} {r : Found} {F : Infer.Found} → Leads s i f j → i < n → Same s u n → r ≡ Refused q →
     (a : IsRefused u j q F) → Answered s u n n i r (Infer.refused (a .reason) (f ∷ a .path))
 handed {j = j} {q = q} l b p e a = (q, e, a .says ∙ ap (refused (reasonNumber (a .reason))) (follow-same p (a .path) j (omega (arith, l .lower)) ∙ sym (l .path (a .path))))
+
+-- An answer in a later buffer, with k cells used, is one in the buffer as it was with n: these are the same.
+pub later : {s u v : List ℕ} {n k j i : ℕ} {r : Found} {F : Infer.Found} (m : ℕ) → Answer u v k j i r F → Same s u n → n ≤ k → k + j ≤ n + m → i < n →
+    Answer s v n m i r F
+later {s} {u} {v} {n} {k} {j} {i} {r} {F} m a q l b o = record { says = go F (a .says) }
+  where
+    go : (G : Infer.Found) → Answered u v k j i r G → Answered s v n m i r G
+    go (Infer.found A) h = (h .0, h .1, h .2, omega (arith, h .3), omega (arith, h .4), same-trans q (h .5) l, h .6, h .7)
+    go (Infer.refused w p) h = (h .0, h .1, h .2 ∙ ap (refused (reasonNumber w)) (follow-same q p i o))
 
 -- What was found for a part at field f that is checked, carried to the whole, of type B.
 abbrev pub carried : ℕ → Ty → Infer.Found → Infer.Found

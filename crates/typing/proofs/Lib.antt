@@ -8,3 +8,4 @@ pub mod Functions
 pub mod Merges
 pub mod Records
 pub mod Leaves
+pub mod Fields

@@ -10,8 +10,8 @@ use mathlib.Core.List.{List, [], _∷_}
 use lib.ListN.{length, getElem?}
 use Rattle.calculus.specs.Syntax.{Ty, inter, Term, size}
 use Rattle.calculus.specs.Infer as Infer
-use Rattle.calculus.specs.Infer.{mismatch, infer}
-use Rattle.calculus.specs.Decide.{below?}
+use Rattle.calculus.specs.Infer.{mismatch, picked, infer}
+use Rattle.calculus.specs.Decide.{fieldPart, below?}
 use Rattle.format.specs.Cell.{cellAt}
 use Rattle.format.specs.Book.{follow}
 use Rattle.answers.specs.Answer.{refused, reasonNumber}
@@ -19,6 +19,7 @@ use Rattle.answers.specs.Cases.{refusalAnswer}
 use Rattle.answers.specs.declared.Refusal.{Refusal}
 use Rattle.cells.specs.Held.{IsCell, HoldsType, HoldsTerm, HoldsContext, Same}
 use Rattle.decisions.specs.Questions.{TypesAt}
+use Rattle.projection.specs.Parts.{TypeAt}
 use Rattle.typing.specs.declared.Found.{Found}
 use Rattle.typing.specs.declared.Found.the-variants.{Typed, Refused}
 use Rattle.typing.specs.declared.Bound.{Bound}
@@ -128,3 +129,14 @@ pub record AddsInter (s t : List ℕ) (n a b : ℕ) (r : Found) : Type 0 where
   pub answers : r ≡ Typed n (n + 1)
   pub same : Same s t n
   pub holds : (A B : Ty) → HoldsType s a A → HoldsType s b B → HoldsType t n (inter A B)
+
+-- A type below n, and room for a cell.
+pub record FieldReady (s : List ℕ) (n a : ℕ) : Type 0 where
+  pub long : length s ≡ 65536
+  pub type : TypeAt s a
+  pub below : a < n
+  pub room : n < 8192
+
+-- A read of the field of label l, at cell i: the type that the part of the type at a gives it, at most one cell added; or that there is none.
+pub record FindsField (s t : List ℕ) (n a l i : ℕ) (r : Found) : Type 0 where
+  pub says : (A : Ty) → HoldsType s a A → Answered s t n 1 i r (picked (fieldPart l A))

@@ -6,8 +6,10 @@ use cells::read_cell;
 use cells::write_cell;
 use decisions::mergeable;
 use decisions::subtype;
+use projection::FieldPart;
+use projection::type_part;
 ghost use Rattle.typing.specs.Finding.{FindReady, ReadyAt, Finds, ReadyFor, Checks, ContextAt, Looks};
-ghost use Rattle.typing.specs.Finding.{ReadyTwo, RoomFor, Adds, BinderBelow, Binds, TypesBelow, AddsInter};
+ghost use Rattle.typing.specs.Finding.{ReadyTwo, RoomFor, Adds, BinderBelow, Binds, TypesBelow, AddsInter, FieldReady, FindsField};
 
 // A cell that holds the type, and the count of cells used; or why there is none.
 pub enum Found {
@@ -186,6 +188,20 @@ fn find_rcd(s: &mut [u8], n: usize, c: usize, i: usize) -> Found
     Found::Typed(m, add(s, m, 5, t.label, a, 0, content.c))
 }
 
+// A field read at i over the intersection at a: the content's type where one part has the field; Top, in a cell more, where none has it
+// and some part is top-like.
+fn find_field(s: &mut [u8], n: usize, a: usize, label: u8, i: usize) -> Found
+    requires { ⌜ FieldReady (now s) n a ⌝ }
+    ensures { λ r. ⌜ FindsField (now (s .entry)) (now (s .exit)) n a label i r ⌝ }
+{
+    let part = type_part(s, a, label);
+    match part {
+        FieldPart::One(b) => Found::Typed(b, n),
+        FieldPart::TopLike => Found::Typed(n, add(s, n, 2, 0, 0, 0, 1)),
+        _ => Found::Refused(Refusal::Projection(i)),
+    }
+}
+
 fn find_proj(s: &mut [u8], n: usize, c: usize, i: usize) -> Found
     requires { ⌜ ReadyAt (now s) n c i 25 ⌝ }
     ensures { λ r. ⌜ Finds (now (s .entry)) (now (s .exit)) n c i r ⌝ }
@@ -198,6 +214,9 @@ fn find_proj(s: &mut [u8], n: usize, c: usize, i: usize) -> Found
     let content = read_cell(s, a);
     if content.kind == 2 {
         return Found::Typed(a, m);
+    }
+    if content.kind == 4 {
+        return find_field(s, m, a, t.label, i);
     }
     if content.kind == 5 {
         if content.label == t.label {

@@ -1,27 +1,18 @@
 -- `running::cast_top` meets its contract. Assumes nothing.
-use native.Mathlib.Omega.{arith}
-use Rattle.running.proofs.Ranges.{redex-start, redex-low, start-within}
-use Rattle.running.proofs.Projecting.{becomes-at}
 use Rattle.running.proofs.Casting.{casts-top}
 use borrow.Author.Needs.{needs}
 use Rattle.running.proofs.cast_top.Statement.{statement}
 use Rattle.running.proofs.cast_top.Tie as tie
 
-write-cell-requires : tie.Need-write-cell-requires
-write-cell-requires c κs = (search start-within, omega arith)
-
-add-became : tie.Need-add-became
-add-became c = omega (arith, redex-start)
-
-became-requires : tie.Need-became-requires
-became-requires c κs = search redex-low
+become-top-requires : tie.Need-become-top-requires
+become-top-requires c κs = search
 
 same-length : tie.Need-same-length
 same-length c = search needs
 
 returns : tie.Need-returns
-returns c = search (becomes-at, casts-top)
+returns c = search casts-top
 
 pub cast-top-spec : {M : Type 1} → statement M
 cast-top-spec =
-    tie.close (tie.spec write-cell-requires add-became became-requires same-length returns)
+    tie.close (tie.spec become-top-requires same-length returns)

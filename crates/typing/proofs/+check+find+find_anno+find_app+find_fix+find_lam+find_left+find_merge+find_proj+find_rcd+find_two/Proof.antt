@@ -12,7 +12,7 @@ use Rattle.typing.proofs.Applications.{app-top-right, app-right, app-to
 use Rattle.typing.proofs.Functions.{lam-binds, lam-asks, lam-refused, lam-within, lam-room, lam-found, fix-binds, fix-asks, fix-finds, AtBody}
 use Rattle.typing.proofs.Merges.{merge-right-refused, merge-asks, merge-adds, merge-conflict, merge-found, AtBoth}
 use Rattle.typing.proofs.Records.{rcd-room, rcd-found}
-use Rattle.typing.proofs.Records.{proj-top, proj-found, proj-other, proj-else}
+use Rattle.typing.proofs.Records.{proj-top, proj-asks, proj-inter, proj-found, proj-other, proj-else}
 use Prim.Native.Nat.{_+_, _*_}
 use Prim.Native.Nat.{ℕ, _<_}
 use borrow.Fn.Kinds.{In}
@@ -47,6 +47,7 @@ use Rattle.decisions.proofs.subtype.Reads as subtype-reads
 use Rattle.typing.proofs.add.Reads as add-reads
 use Rattle.typing.proofs.add_inter.Reads as add-inter-reads
 use Rattle.typing.proofs.bind.Reads as bind-reads
+use Rattle.typing.proofs.find_field.Reads as find-field-reads
 use Rattle.typing.proofs.find_lit.Reads as find-lit-reads
 use Rattle.typing.proofs.find_unit.Reads as find-unit-reads
 use Rattle.typing.proofs.find_var.Reads as find-var-reads
@@ -104,7 +105,7 @@ abbrev find-merge-calls : ℕ → find-merge-lts.Claims
 find-merge-calls t = (read-cell-reads.Asked, read-cell-reads.Learnt, below 3 find-left.Pre t, find-left.Post, below 2 find.Pre t, find.Post, mergeable-reads.Asked, mergeable-reads.Learnt, add-inter-reads.Asked, add-inter-reads.Learnt)
 
 abbrev find-proj-calls : ℕ → find-proj-lts.Claims
-find-proj-calls t = (read-cell-reads.Asked, read-cell-reads.Learnt, below 2 find.Pre t, find.Post)
+find-proj-calls t = (read-cell-reads.Asked, read-cell-reads.Learnt, below 2 find.Pre t, find.Post, find-field-reads.Asked, find-field-reads.Learnt)
 
 abbrev find-rcd-calls : ℕ → find-rcd-lts.Claims
 find-rcd-calls t = (read-cell-reads.Asked, read-cell-reads.Learnt, below 2 find.Pre t, find.Post, add-reads.Asked, add-reads.Learnt)
@@ -332,12 +333,15 @@ pub +check+find+find-anno+find-app+find-fix+find-lam+find-left+find-merge+find-p
     (λ c κs. let p = proj-left t (c .before .before) in left-within proj-first (p .at .read) (p .left))
     (λ c. proj-type t (c .before .before) .at .left .kept)
     (λ c. let p = proj-type t (c .before .before) in proj-top (p .at .at .read) (p .at .left) (p .type) (c .if1 .taken))
-    (λ c. proj-type t (c .before .before .before .before .before .before .before) .at .left .kept)
-    (λ c. let p = proj-type t (c .before .before .before .before .before .before .before) in proj-found (p .at .at .read) (p .at .left) (p .type) (c .before .before .before .if2 .taken) (c .if3 .taken))
-    (λ c. proj-type t (c .before .before .before .before .before .before .before) .at .left .kept)
-    (λ c. let p = proj-type t (c .before .before .before .before .before .before .before) in proj-other (p .at .at .read) (p .at .left) (p .type) (c .before .before .before .if2 .taken) (c .if3 .left))
-    (λ c. proj-type t (c .before .before .before .before) .at .left .kept)
-    (λ c. let p = proj-type t (c .before .before .before .before) in proj-else (p .at .at .read) (p .at .left) (p .type) (c .before .before .if1 .left) (c .if2 .left)))
+    (λ c κs. let p = proj-type t (c .before .before .before .before .before) in proj-asks (p .at .at .read) (p .at .left) (p .type))
+    (λ c. c .before .before .find-field .kept .0 ∙ proj-type t (c .before .before .before .before .before .before .before .before) .at .left .kept)
+    (λ c. let p = proj-type t (c .before .before .before .before .before .before .before .before) in proj-inter (p .at .at .read) (p .at .left) (p .type) (c .before .before .before .before .if2 .taken) (c .before .before .find-field .ensures))
+    (λ c. proj-type t (c .before .before .before .before .before .before .before .before .before) .at .left .kept)
+    (λ c. let p = proj-type t (c .before .before .before .before .before .before .before .before .before) in proj-found (p .at .at .read) (p .at .left) (p .type) (c .before .before .before .if3 .taken) (c .if4 .taken))
+    (λ c. proj-type t (c .before .before .before .before .before .before .before .before .before) .at .left .kept)
+    (λ c. let p = proj-type t (c .before .before .before .before .before .before .before .before .before) in proj-other (p .at .at .read) (p .at .left) (p .type) (c .before .before .before .if3 .taken) (c .if4 .left))
+    (λ c. proj-type t (c .before .before .before .before .before .before) .at .left .kept)
+    (λ c. let p = proj-type t (c .before .before .before .before .before .before) in proj-else (p .at .at .read) (p .at .left) (p .type) (c .before .before .before .before .if1 .left) (c .before .before .if2 .left) (c .if3 .left)))
     (λ t. find-rcd-lts.spec (find-rcd-calls t) (at 0 find-rcd.Pre t) find-rcd.Post
     (λ c κs. omega (arith, c .before .before .pre .1 .ready))
     (λ c κs. let v = left-asks rcd-first (rcd-read t (c .before) .read) in (omega (arith, v .0), v .1))
