@@ -12,7 +12,7 @@ pub struct Sample {
     pub name: &'static str,
     pub book: Vec<u8>,
     pub call: Call,
-    /// What the document says of it.
+    /// What the document says of it, or what follows from its words.
     pub answer: Answer,
     /// The value it comes to, where the document names one.
     pub value: Option<Term>,

@@ -83,7 +83,8 @@ pub fn read_value(v: &Term, label: u8) -> Vec<Term> {
     }
 }
 
-/// "A run takes that part's content, or the top value." That a part is not top-like is said of the type that it shows.
+/// "A run takes that part's content, or the top value." That a part is not top-like is said of the type that it shows. A merge that has neither
+/// such a part nor a top-like one is not typed, and nothing is said of it; here it becomes the top value too.
 fn read_value_parts(parts: &[&Term], label: u8) -> Vec<Term> {
     let content = |part: &&Term| match part.shape() {
         TermShape::Record(l, content) if *l == label => Some(content.clone()),

@@ -25,7 +25,7 @@ use Rattle.answers.specs.Samples as Samples
 use Rattle.answers.specs.Samples.{Call, Sample, called, expected, Meets, samples}
 use Rattle.answers.specs.Samples.{equalNumbers, unequalNumbers, mergedVariable, twiceRead, identityOnMerge, identityUnderTop}
 use Rattle.answers.specs.Samples.{appliedTop, appliedNumber, hiddenField, ownFixpoint, doubled, refusals}
-use Rattle.answers.specs.Samples.{mergedField, missingField, twoFields, topLikeBesideField, topLikeFields, topLikeContent, loneTopLike, topLikeFunction, nestedParts, hiddenUnannotated, laterMerge, fieldReads}
+use Rattle.answers.specs.Samples.{mergedField, missingField, twoFields, topLikeBesideField, topLikeFields, topLikeContent, loneTopLike, topLikeFunction, nestedParts, hiddenUnannotated, laterMerge, twoFieldsBesideTop, topLikeOtherLabel, topPart, loneFunction, loneOtherLabel, fieldReads}
 
 -- to name it on a line is to unfold every definition that a computation of an answer meets, but for the zero tail
 unfoldable pub computing : ℕ
@@ -66,7 +66,7 @@ pub samples-hold : All (Meets definition) samples
 samples-hold = each samples computed
 
 field-reads-computed : map answered fieldReads ≡ map expected fieldReads
-unfolding computing answered fieldReads mergedField missingField twoFields topLikeBesideField topLikeFields topLikeContent loneTopLike topLikeFunction nestedParts hiddenUnannotated laterMerge
+unfolding computing answered fieldReads twoFieldsBesideTop topLikeOtherLabel topPart loneFunction loneOtherLabel mergedField missingField twoFields topLikeBesideField topLikeFields topLikeContent loneTopLike topLikeFunction nestedParts hiddenUnannotated laterMerge
 field-reads-computed = refl
 
 pub field-reads-hold : All (Meets definition) fieldReads

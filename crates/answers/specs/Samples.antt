@@ -231,6 +231,19 @@ twoFields =
     ++ line 25 1 4 0 0 0 0 0
     ++ line 240 1 6 0 5 0 0 0
 
+-- two parts, whatever stands beside them
+unfoldable pub twoFieldsBesideTop : List ℕ
+twoFieldsBesideTop =
+    line 17 0 0 0 1 0 0 0
+    ++ line 24 1 0 0 0 0 0 0
+    ++ line 17 0 0 0 1 0 0 0
+    ++ line 24 1 2 0 0 0 0 0
+    ++ line 22 0 1 0 3 0 0 0
+    ++ line 18 0 0 0 0 0 0 0
+    ++ line 22 0 4 0 5 0 0 0
+    ++ line 25 1 6 0 0 0 0 0
+    ++ line 240 1 8 0 7 0 0 0
+
 -- "a record of that label and not top-like"
 unfoldable pub topLikeBesideField : List ℕ
 topLikeBesideField =
@@ -278,6 +291,24 @@ loneTopLike =
     ++ line 25 1 4 0 0 0 0 0
     ++ line 240 1 6 0 5 0 0 0
 
+-- only Top itself is read where there are no parts
+unfoldable pub loneFunction : List ℕ
+loneFunction =
+    line 16 0 0 0 0 0 0 0
+    ++ line 1 0 0 0 0 0 0 0
+    ++ line 2 0 0 0 0 0 0 0
+    ++ line 21 0 0 0 1 0 2 0
+    ++ line 25 9 3 0 0 0 0 0
+    ++ line 240 1 5 0 4 0 0 0
+
+-- and only a record of that label
+unfoldable pub loneOtherLabel : List ℕ
+loneOtherLabel =
+    line 18 0 0 0 0 0 0 0
+    ++ line 24 2 0 0 0 0 0 0
+    ++ line 25 9 1 0 0 0 0 0
+    ++ line 240 1 3 0 2 0 0 0
+
 -- "some part is top-like", of whatever head
 unfoldable pub topLikeFunction : List ℕ
 topLikeFunction =
@@ -289,6 +320,25 @@ topLikeFunction =
     ++ line 22 0 0 0 4 0 0 0
     ++ line 25 9 5 0 0 0 0 0
     ++ line 240 1 7 0 6 0 0 0
+
+-- a top-like record of another label
+unfoldable pub topLikeOtherLabel : List ℕ
+topLikeOtherLabel =
+    line 17 0 0 0 3 0 0 0
+    ++ line 18 0 0 0 0 0 0 0
+    ++ line 24 2 1 0 0 0 0 0
+    ++ line 22 0 0 0 2 0 0 0
+    ++ line 25 9 3 0 0 0 0 0
+    ++ line 240 1 5 0 4 0 0 0
+
+-- a part that is Top
+unfoldable pub topPart : List ℕ
+topPart =
+    line 17 0 0 0 3 0 0 0
+    ++ line 18 0 0 0 0 0 0 0
+    ++ line 22 0 0 0 1 0 0 0
+    ++ line 25 9 2 0 0 0 0 0
+    ++ line 240 1 4 0 3 0 0 0
 
 -- "its parts that aren't themselves intersections"
 unfoldable pub nestedParts : List ℕ
@@ -344,6 +394,7 @@ fieldReads =
     ∷ sample "field 2 of {1 = 5} merged with {2 = 6}" mergedField (run 1) (stopped value 1) (line 17 0 0 0 6 0 0 0 ++ line 240 1 1 0 0 0 0 0)
     ∷ sample "field 3 of the same" missingField check (refused 13 5) []
     ∷ sample "two records of one label" twoFields check (refused 13 5) []
+    ∷ sample "two records of one label, and the top value" twoFieldsBesideTop check (refused 13 7) []
     ∷ sample "a top-like record beside a proper one of that label" topLikeBesideField check (accepted 1) (line 1 0 0 0 0 0 0 0 ++ line 240 1 1 0 0 0 0 0)
     ∷ sample "a top-like record beside a proper one of that label" topLikeBesideField (run 1) (stopped value 1) (line 17 0 0 0 5 0 0 0 ++ line 240 1 1 0 0 0 0 0)
     ∷ sample "only top-like records of that label" topLikeFields check (accepted 1) (line 2 0 0 0 0 0 0 0 ++ line 240 1 1 0 0 0 0 0)
@@ -352,8 +403,14 @@ fieldReads =
     ∷ sample "a record of a top-like function beside another label" topLikeContent (run 1) (stopped value 1) (line 18 0 0 0 0 0 0 0 ++ line 240 1 1 0 0 0 0 0)
     ∷ sample "the same record alone" loneTopLike check (accepted 3) (line 2 0 0 0 0 0 0 0 ++ line 2 0 0 0 0 0 0 0 ++ line 3 0 0 0 1 0 0 0 ++ line 240 1 3 0 2 0 0 0)
     ∷ sample "the same record alone" loneTopLike (run 1) (stopped value 1) (line 16 0 0 0 0 0 0 0 ++ line 2 0 0 0 0 0 0 0 ++ line 2 0 0 0 0 0 0 0 ++ line 21 0 0 0 1 0 2 0 ++ line 240 1 4 0 3 0 0 0)
+    ∷ sample "a top-like function alone" loneFunction check (refused 13 4) []
+    ∷ sample "a top-like record of another label alone" loneOtherLabel check (refused 13 2) []
     ∷ sample "a number merged with a top-like function" topLikeFunction check (accepted 1) (line 2 0 0 0 0 0 0 0 ++ line 240 1 1 0 0 0 0 0)
     ∷ sample "a number merged with a top-like function" topLikeFunction (run 1) (stopped value 1) (line 18 0 0 0 0 0 0 0 ++ line 240 1 1 0 0 0 0 0)
+    ∷ sample "a number merged with a top-like record" topLikeOtherLabel check (accepted 1) (line 2 0 0 0 0 0 0 0 ++ line 240 1 1 0 0 0 0 0)
+    ∷ sample "a number merged with a top-like record" topLikeOtherLabel (run 1) (stopped value 1) (line 18 0 0 0 0 0 0 0 ++ line 240 1 1 0 0 0 0 0)
+    ∷ sample "a number merged with the top value" topPart check (accepted 1) (line 2 0 0 0 0 0 0 0 ++ line 240 1 1 0 0 0 0 0)
+    ∷ sample "a number merged with the top value" topPart (run 1) (stopped value 1) (line 18 0 0 0 0 0 0 0 ++ line 240 1 1 0 0 0 0 0)
     ∷ sample "parts nested on both sides" nestedParts check (accepted 1) (line 1 0 0 0 0 0 0 0 ++ line 240 1 1 0 0 0 0 0)
     ∷ sample "parts nested on both sides" nestedParts (run 1) (stopped value 1) (line 17 0 0 0 4 0 0 0 ++ line 240 1 1 0 0 0 0 0)
     ∷ sample "the hidden field without its annotation" hiddenUnannotated check (accepted 1) (line 1 0 0 0 0 0 0 0 ++ line 240 1 1 0 0 0 0 0)

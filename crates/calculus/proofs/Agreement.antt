@@ -1,13 +1,14 @@
--- The source's definitions and document 01's lists agree, a field read counts parts as document 02 does, and the executable functions decide the relations. Assumes nothing.
+-- The source's definitions and document 01's lists agree, a field read counts parts as document 02 does, and the executable functions decide the
+-- relations. Assumes nothing.
 use Rattle.calculus.specs.Agreement.{ListsAgree, PartsCounted, FieldsKept, Decides}
 use Rattle.calculus.proofs.Disjointness.{list→disjoint, disjoint→list}
 use Rattle.calculus.proofs.Decisions.{topLike?-says, below?-says, disjoint?-says}
 use Rattle.calculus.proofs.Fields.{fields-runtime, one-part-says, top-part-says, no-content, part-unique}
-use Rattle.calculus.proofs.Parts.{one-counted, none-counted, some-counted}
+use Rattle.calculus.proofs.Parts.{one-counted, none-counted, some-counted, projects-single, projects-inter}
 use Rattle.calculus.proofs.Consistency.{list→consistent, consistent→list}
 use Rattle.calculus.proofs.Tests.{value?-says, consistent?-says}
 use Rattle.calculus.proofs.Typing.{typed-by-list}
-use Rattle.calculus.proofs.Inference.{infer-says}
+use Rattle.calculus.proofs.Inference.{no-field-refused, infer-says}
 use Rattle.calculus.proofs.Evaluation.{cast-says, next-says}
 
 pub lists-agree : ListsAgree
@@ -21,9 +22,12 @@ lists-agree =
 pub parts-counted : PartsCounted
 parts-counted =
     record {
+      keeps = projects-single;
+      reads = projects-inter;
       one = one-counted;
       none = none-counted;
       some-top-like = some-counted;
+      otherwise = no-field-refused;
       one-content = λ l v A C. part-unique;
       no-content = λ l v A n w. no-content n w;
     }

@@ -279,6 +279,9 @@ fields-found :
     × Runs (proj 1 function-inside) top 1 unit
     -- (3,,(λ.#0:Int→⊤)).9 : this fact and the one before stop "Top only where a part is exactly Top"
     × Runs (proj 9 (merge (number 3) (lam (var 0) int top))) top 1 unit
+    -- (3,,{2=⊤}).9 and (3,,⊤).9 : a top-like record of another label, and a part that is Top
+    × Runs (proj 9 (merge (number 3) (rcd 2 unit))) top 1 unit
+    × Runs (proj 9 (merge (number 3) unit)) top 1 unit
     -- {1=λ.#0:⊤→⊤}.1 : a record keeps its rule
     × Runs (proj 1 (rcd 1 anything)) (arrow top top) 1 anything
     -- ((3,,{1=4}),,(⊤,,{2=5})).1 : parts at every depth
@@ -288,7 +291,7 @@ fields-found :
     -- document 01's hidden field, read without the annotation
     × Runs (app (lam (proj 1 (merge (record-of 1 2) (var 0))) (field 2 int) int) (merge (record-of 1 1) (record-of 2 9))) int 3 (number 2)
 unfolding infer lookup checked applied projected picked fieldPart bothParts labelled merged mergeable? below? belowWithin topLike? size-type disjoint? disjointInt disjointField next value? bind cast firstPart orElse castInt castField apply substitute project readParts content topValue typeOf
-fields-found = (refl, refl, refl, refl, refl, refl, refl, refl, refl, refl)
+fields-found = (refl, refl, refl, refl, refl, refl, refl, refl, refl, refl, refl, refl)
 
 fields-refused :
     -- ({1=5},,{2=6}).3 and (3,,{2=1}).9 : no part has the field, none is top-like
@@ -297,10 +300,15 @@ fields-refused :
     -- ({1=1},,{1=1}).1 : two parts have it, though the merge is accepted
     × (infer [] twice ≡ found (inter (field 1 int) (field 1 int)))
     × Refused (proj 1 twice) no-field
+    -- (({1=1},,{1=1}),,⊤).1 : whatever stands beside them
+    × Refused (proj 1 (merge twice unit)) no-field
+    -- (λ.#0:Int→⊤).9 and {2=⊤}.9 : what is no intersection keeps its rule, top-like or not
+    × Refused (proj 9 (lam (var 0) int top)) no-field
+    × Refused (proj 9 (rcd 2 unit)) no-field
     -- ((λ.1:Int→Int),,{1=5}) 2 : a merge is not applied
     × Refused (app (merge (constant 1) (record-of 1 5)) (number 2)) not-function
-unfolding infer checked applied projected picked fieldPart bothParts labelled merged mergeable? below? belowWithin topLike? size-type disjoint? disjointInt disjointArrow disjointField value? closed? consistent? eachPart consistentRcd consistentLit decide sameInteger sameUnder ℕ-discrete
-fields-refused = (refl, refl, refl, refl, refl)
+unfolding infer lookup checked applied projected picked fieldPart bothParts labelled merged mergeable? below? belowWithin topLike? size-type disjoint? disjointInt disjointArrow disjointField value? closed? consistent? eachPart consistentRcd consistentLit decide sameInteger sameUnder ℕ-discrete
+fields-refused = (refl, refl, refl, refl, refl, refl, refl, refl)
 
 -- No rule types the read of a field that two parts have.
 twice-untyped : (A : Ty) → ¬ Typed [] (proj 1 twice) A

@@ -4,7 +4,7 @@ use mathlib.Core.Path.{_≡_, refl, subst}
 use mathlib.Core.Logic.{_↔_, _⊎_, inl, inr, Iff·rfl, Iff·trans}
 use mathlib.Core.Bool.{Bool, cond}
 use mathlib.Core.List.{List, [], _∷_}
-use borrow.Author.Tests.{eq-eqb}
+use borrow.Author.Tests.{eq-eqb, ne-eqb}
 use lib.Dec.{T, eqb, eqb→eq}
 use lib.ListN.{getElem?}
 use Rattle.calculus.specs.Syntax.{Ty, int, top, arrow, inter, field}
@@ -15,7 +15,7 @@ use Rattle.calculus.specs.Consistency.{Consistent}
 use Rattle.calculus.specs.Typing.{Lookup, here, there, Applies, a-arrow, a-top, Projects, p-field, p-top, p-one, p-none}
 use Rattle.calculus.specs.Typing.{Typed, t-unit, t-lit, t-var, t-anno, t-app, t-lam, t-merge, t-mergev, t-fix, t-rcd, t-proj}
 use Rattle.calculus.specs.Decide.{FieldPart, no-part, top-part, more-parts, one-part, fieldPart, below?, disjoint?, value?, closed?, consistent?}
-use Rattle.calculus.specs.Infer.{Reason, Found, found, refused, lookup, checked, applied, picked, projected, labelled, mergeable?, merged, infer}
+use Rattle.calculus.specs.Infer.{Reason, no-field, Found, found, refused, lookup, checked, applied, picked, projected, labelled, mergeable?, merged, infer}
 use Rattle.calculus.proofs.Bools.{T-true, by-test, T-and, Test, _and_, _or_}
 use Rattle.calculus.proofs.Disjointness.{disjoint?-means}
 use Rattle.calculus.proofs.Decisions.{below?-says, below?-true}
@@ -171,6 +171,26 @@ infer-complete Γ (merge e f) A (t-mergev {A = B} {B = C} v w s t k) =
 infer-complete Γ (fix e B) A (t-fix {B = C} t b) = rw (infer-complete (B ∷ Γ) e C t, below?-true b)
 infer-complete Γ (rcd l e) A (t-rcd {A = B} t) = rw (infer-complete Γ e B t)
 infer-complete Γ (proj l e) A (t-proj {A = B} t p) = rw (infer-complete Γ e B t) (projected-complete p)
+
+-- "Otherwise 13."
+picked-none : (l : ℕ) (A B : Ty) (p : FieldPart) → Says l (inter A B) p → ((C : Ty) → ¬ Projects l (inter A B) C) → picked p ≡ refused no-field []
+unfolding picked
+picked-none l A B no-part h n = refl
+picked-none l A B top-part (m, t) n = absurd (n top (p-none m t))
+picked-none l A B more-parts h n = refl
+picked-none l A B (one-part C) o n = absurd (n C (p-one o))
+
+projected-none : (l : ℕ) (A : Ty) → ((C : Ty) → ¬ Projects l A C) → projected l (found A) ≡ refused no-field []
+unfolding projected
+projected-none l int n = refl
+projected-none l top n = absurd (n top p-top)
+projected-none l (arrow A B) n = refl
+projected-none l (inter A B) n = picked-none l A B (fieldPart l (inter A B)) (fieldPart-says l (inter A B)) n
+projected-none l (field k A) n = rw (ne-eqb l k (λ e. n A (rw (← e) p-field))) refl
+
+pub no-field-refused : (Γ : List Ty) (l : ℕ) (e : Term) (A : Ty) → Typed Γ e A → ((C : Ty) → ¬ Projects l A C) → infer Γ (proj l e) ≡ refused no-field []
+unfolding infer
+no-field-refused Γ l e A t n = rw (infer-complete Γ e A t) (projected-none l A n)
 
 pub infer-says : (Γ : List Ty) (e : Term) (A : Ty) → (infer Γ e ≡ found A) ↔ Typed Γ e A
 infer-says Γ e A = (λ h. found-gives (subst (Gives (Typed Γ e)) h (infer-sound Γ e)), infer-complete Γ e A)

@@ -3,11 +3,12 @@ use Prim.Native.Nat.{ℕ}
 use native.Mathlib.Omega.{arith}
 use mathlib.Core.Path.{_≡_, refl, sym, _∙_, ap, subst, subst-refl}
 use mathlib.Core.HLevel.{hedberg, Σ-prop-path}
-use mathlib.Core.Logic.{_↔_, _≢_, inl, inr, by-cases}
+use mathlib.Core.Logic.{_↔_, _≢_, _⊎_, inl, inr, by-cases}
 use native.Mathlib.Decide.{ℕ-discrete}
 use Rattle.calculus.specs.Syntax.{Ty, int, top, arrow, inter, field, Ty-discrete}
 use Rattle.calculus.specs.Subtyping.{TopLike, Ordinary}
 use Rattle.calculus.specs.Fields.{NoField, OneField, o-here, o-left, o-right, SomeTopLike}
+use Rattle.calculus.specs.Typing.{Projects, p-field, p-top, p-one, p-none}
 use Rattle.calculus.specs.Agreement.{Occurs, occurs-here, occurs-left, occurs-right, FieldIn}
 use Rattle.calculus.proofs.Subtyping.{topLike-dec}
 
@@ -118,3 +119,30 @@ only-from {l} {C} (occurs-right {A} o) n k =
 
 pub one-counted : (l : ℕ) (A C : Ty) → OneField l A C ↔ ((o : Occurs A (field l C)) × (¬ TopLike C) × Only l A (C, o))
 one-counted l A C = (only-to, λ h. only-from (h .0) (h .1) (h .2))
+
+-- ---- what a field read takes, by the head of the type
+
+pub projects-single : (l : ℕ) (A C : Ty) → Ordinary A → Projects l A C ↔ ((A ≡ field l C) ⊎ ((A ≡ top) × (C ≡ top)))
+projects-single l A C o = (to o, from)
+  where
+    to : {A C : Ty} → Ordinary A → Projects l A C → (A ≡ field l C) ⊎ ((A ≡ top) × (C ≡ top))
+    to o p-field = inl refl
+    to o p-top = inr (refl, refl)
+    to o (p-one f) = absurd o
+    to o (p-none n t) = absurd o
+
+    from : (A ≡ field l C) ⊎ ((A ≡ top) × (C ≡ top)) → Projects l A C
+    from (inl e) = rw e p-field
+    from (inr (e, f)) = rw (e, f) p-top
+
+pub projects-inter : (l : ℕ) (A B C : Ty) →
+    Projects l (inter A B) C ↔ (OneField l (inter A B) C ⊎ (NoField l (inter A B) × SomeTopLike (inter A B) × (C ≡ top)))
+projects-inter l A B C = (to, from)
+  where
+    to : {C : Ty} → Projects l (inter A B) C → OneField l (inter A B) C ⊎ (NoField l (inter A B) × SomeTopLike (inter A B) × (C ≡ top))
+    to (p-one o) = inl o
+    to (p-none n t) = inr (n, t, refl)
+
+    from : OneField l (inter A B) C ⊎ (NoField l (inter A B) × SomeTopLike (inter A B) × (C ≡ top)) → Projects l (inter A B) C
+    from (inl o) = p-one o
+    from (inr (n, t, e)) = rw e (p-none n t)

@@ -2,21 +2,21 @@
 -- count parts as document 02 does, and the executable functions decide the relations. Assumes nothing.
 use Prim.Native.Nat.{ℕ}
 use mathlib.Core.Path.{_≡_}
-use mathlib.Core.Logic.{_↔_}
+use mathlib.Core.Logic.{_↔_, _⊎_}
 use mathlib.Core.Option.{some}
 use mathlib.Core.List.{List, []}
 use lib.Dec.{T}
-use Rattle.calculus.specs.Syntax.{Ty, inter, field, Term, Value, IsValue}
+use Rattle.calculus.specs.Syntax.{Ty, top, inter, field, Term, proj, Value, IsValue}
 use Rattle.calculus.specs.Subtyping.{TopLike, Ordinary, Below}
 use Rattle.calculus.specs.Disjointness.{Disjoint, DisjointByList}
 use Rattle.calculus.specs.TypedReduction.{Cast}
 use Rattle.calculus.specs.Consistency.{Consistent, ConsistentByList}
 use Rattle.calculus.specs.Fields.{NoField, OneField, SomeTopLike, HasField}
-use Rattle.calculus.specs.Typing.{Typed, TypedByList}
+use Rattle.calculus.specs.Typing.{Projects, Typed, TypedByList}
 use Rattle.calculus.specs.Runtime.{Runtime}
 use Rattle.calculus.specs.Step.{Step}
 use Rattle.calculus.specs.Decide.{topLike?, FieldPart, no-part, top-part, more-parts, one-part, fieldPart, below?, disjoint?, value?, consistent?}
-use Rattle.calculus.specs.Infer.{found, infer}
+use Rattle.calculus.specs.Infer.{no-field, found, refused, infer}
 use Rattle.calculus.specs.Evaluate.{cast, next}
 
 -- "This list decides; the source's definition by all readings has to agree with it on typed values." Here on all values; and so do disjoint
@@ -36,13 +36,19 @@ pub data Occurs : Ty → Ty → Type 0 where
 abbrev pub FieldIn : ℕ → Ty → Type 0
 FieldIn l A = (C : Ty) × Occurs A (field l C)
 
--- Document 02, (i), in its words: "precisely one part is a record of that label and not top-like"; "there is no such part"; "some part is
--- top-like". "A run takes that part's content": a value of such a type has one, which shows the type found, and one without such a part has none.
+-- Document 02, (i), in its words: "A record type or Top keeps its rule"; of an intersection, "its content is the type" or "the type is Top", as the
+-- parts decide: "precisely one part is a record of that label and not top-like"; "there is no such part"; "some part is top-like"; "Otherwise 13.",
+-- which names the field read. "A run takes that part's content": a value of such a type has one, which shows the type found, and one without such a
+-- part has none.
 pub record PartsCounted : Type 0 where
+  pub keeps : (l : ℕ) (A C : Ty) → Ordinary A → Projects l A C ↔ ((A ≡ field l C) ⊎ ((A ≡ top) × (C ≡ top)))
+  pub reads : (l : ℕ) (A B C : Ty) →
+      Projects l (inter A B) C ↔ (OneField l (inter A B) C ⊎ (NoField l (inter A B) × SomeTopLike (inter A B) × (C ≡ top)))
   pub one : (l : ℕ) (A C : Ty) →
       OneField l A C ↔ ((o : Occurs A (field l C)) × (¬ TopLike C) × ((q : FieldIn l A) → ¬ TopLike (q .0) → _≡_ {A = FieldIn l A} q (C, o)))
   pub none : (l : ℕ) (A : Ty) → NoField l A ↔ ((q : FieldIn l A) → TopLike (q .0))
   pub some-top-like : (A : Ty) → SomeTopLike A ↔ ((P : Ty) × Occurs A P × TopLike P)
+  pub otherwise : (Γ : List Ty) (l : ℕ) (e : Term) (A : Ty) → Typed Γ e A → ((C : Ty) → ¬ Projects l A C) → infer Γ (proj l e) ≡ refused no-field []
   pub one-content : (l : ℕ) (v : Term) (A C : Ty) → OneField l A C → Value v A →
       (x : Term) × Value x C × HasField l v x × ((y : Term) → HasField l v y → y ≡ x)
   pub no-content : (l : ℕ) (v : Term) (A : Ty) → NoField l A → Value v A → (x : Term) → ¬ HasField l v x
@@ -54,7 +60,8 @@ pub data SamePart : FieldPart → FieldPart → Type 0 where
   same-one : {C D : Ty} → Runtime C D → SamePart (one-part C) (one-part D)
   same-more : SamePart more-parts more-parts
 
--- A step keeps it: a value below the type in the source's sense has the field in the same part, both ways about.
+-- A step keeps it: a type, and a runtime subtype of it, which a value below it in the source's sense shows, have the field in the same part, both
+-- ways about.
 pub record FieldsKept : Type 0 where
   pub says : (l : ℕ) (A B : Ty) → Runtime A B → SamePart (fieldPart l A) (fieldPart l B)
 

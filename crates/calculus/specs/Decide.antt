@@ -1,5 +1,5 @@
--- The executable tests, one a relation: top-like, the part that a field read takes, subtyping, disjoint, value, closed, the same tree, consistent. What each answers
--- is a theorem of proofs/. Assumes nothing.
+-- The executable tests, one a relation: top-like, the part that a field read takes, subtyping, disjoint, value, closed, the same tree, consistent.
+-- What each answers is a theorem of proofs/. Assumes nothing.
 use Prim.Native.Nat.{ℕ, zero, suc, _+_}
 use mathlib.Core.Path.{_≡_, sym, ap}
 use mathlib.Core.Bool.{Bool, true, false, not, _&&_, _||_, cond, decide}

@@ -46,7 +46,7 @@ picked top-part = found top
 picked more-parts = refused no-field []
 picked (one-part C) = found C
 
--- "Field read: the term's type must be a record type of exactly that label, or Top, which gives Top."
+-- "Field read: the term's type must be a record type of exactly that label, or Top, which gives Top"; "For an intersection, look at its parts".
 unfoldable pub projected : ℕ → Found → Found
 projected l (found int) = refused no-field []
 projected l (found top) = found top

@@ -1,6 +1,6 @@
--- Typing: source 001, figure 4, with document 01's records and the field reads of document 02, (i). One family finds types; checking against B is finding a type below B
--- (TYP-SUB). It is stated over what disjoint and consistent mean: `Typed` takes the source's definitions, `TypedByList` document
--- 01's lists. Assumes nothing.
+-- Typing: source 001, figure 4, with document 01's records and the field reads of document 02, (i): "Accepted books are now compared with this
+-- wider calculus". One family finds types; checking against B is finding a type below B (TYP-SUB). It is stated over what disjoint and
+-- consistent mean: `Typed` takes the source's definitions, `TypedByList` document 01's lists. Assumes nothing.
 use Prim.Native.Nat.{ℕ, zero, suc}
 use mathlib.Core.List.{List, [], _∷_}
 use lib.IntN.{ℤ}
@@ -24,7 +24,7 @@ pub data Applies : Ty → Ty → Ty → Type 0 where
 pub data Projects : ℕ → Ty → Ty → Type 0 where
   p-field : {l : ℕ} {A : Ty} → Projects l (field l A) A
   p-top : {l : ℕ} → Projects l top top
-  -- "For an intersection ..: If precisely one part is a record of that label and not top-like, its content is the type."
+  -- Of an intersection: "If precisely one part is a record of that label and not top-like, its content is the type."
   p-one : {l : ℕ} {A B C : Ty} → OneField l (inter A B) C → Projects l (inter A B) C
   -- "If there is no such part but some part is top-like, the type is Top."
   p-none : {l : ℕ} {A B : Ty} → NoField l (inter A B) → SomeTopLike (inter A B) → Projects l (inter A B) top

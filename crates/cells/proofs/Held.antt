@@ -1,15 +1,17 @@
 -- Laws of what cells hold: inversion by kind, framing, and a cell that was written. Assumes nothing.
 use Prim.Native.Nat.{ℕ, suc, _+_, _*_, _≤_, _<_}
 use native.Mathlib.Omega.{arith}
-use mathlib.Core.Path.{_≡_, refl, sym, _∙_, ap, subst⁻¹}
-use mathlib.Core.Bool.{Bool, true, false, _&&_}
+use mathlib.Core.Path.{_≡_, refl, sym, _∙_, ap, subst, subst⁻¹}
+use mathlib.Core.Bool.{Bool, true, false, _&&_, cond}
 use mathlib.Core.List.{List, [], _∷_, append-assoc}
-use lib.Dec.{T}
+use lib.Dec.{T, eqb}
 use mathlib.Core.Option.{some, Option·some-injective}
 use lib.ListN.{length, take, drop, set}
 use lib.Seq.{sets, length-sets, sets-eq, length-take-le, take-set-le, take-take, getD-take}
+use borrow.Author.Tests.{eq-eqb, ne-eqb}
 use Rattle.calculus.specs.Syntax.{Ty, int, top, arrow, inter}
 use Rattle.calculus.specs.Syntax.{Term, var, lit, unit, anno, app, merge, fix, rcd, proj}
+use Rattle.calculus.specs.Decide.{topLike?}
 use Rattle.calculus.proofs.Bools.{T-and, Test, _and_, at-most}
 use Rattle.format.specs.Table.{Sort, type-sort, term-sort, Use, plain, refers, Row, table, rowIn, rowOf}
 use Rattle.format.specs.Cell.{byte, pair, Cell, cellAt, cellBytes, half, signed}
@@ -97,6 +99,28 @@ held-one {o = o} h k = h .is ∙ ap (thing o) (field-one (h .held) (k .held)) �
 
 pub type-mark : {s : List ℕ} {i : ℕ} {A : Ty} → HoldsType s i A → cellAt s i .c ≡ mark A
 type-mark h = row-at (h .held) .marked .1 ∙ ap mark (sym (h .is))
+
+pub mark-one : (A : Ty) → mark A ≤ 1
+mark-one A = go (topLike? A)
+  where
+    go : (b : Bool) → cond b 1 0 ≤ 1
+    go true = omega arith
+    go false = omega arith
+
+-- of a type's cell that was read as x, field c is 1 exactly where the type is top-like
+module _ {s : List ℕ} {i : ℕ} {A : Ty} (h : HoldsType s i A) (x : Cell) (e : x ≡ cellAt s i) where
+  pub mark-test : eqb (x .c) 1 ≡ topLike? A
+  mark-test = rw (e, type-mark h) (go (topLike? A))
+    where
+      go : (b : Bool) → eqb (cond b 1 0) 1 ≡ b
+      go true = refl
+      go false = refl
+
+  pub top-like : x .c ≡ 1 → T (topLike? A)
+  top-like m = subst T (sym (eq-eqb (x .c) 1 m) ∙ mark-test) tt
+
+  pub not-top-like : (x .c ≡ 1 → ⊥) → topLike? A ≡ false
+  not-top-like n = sym mark-test ∙ ne-eqb (x .c) 1 n
 
 -- ---- inversion by the kind of the cell: the row, and what toType and toTerm compute for it
 
@@ -267,6 +291,10 @@ pub kind-of-held : {s : List ℕ} {i : ℕ} {o : Sort} {x : Thing o} → Holds s
 kind-of-held {s} {i} {o} h =
     let w = row-at (h .held) in
     sym (ap (kindOf o) (h .is ∙ ap (thing o) (whole h .is)) ∙ kind-back (cellAt s i .kind) (w .row) (w .found) (w .marked .0) _ _ _ _)
+
+-- and of the cell as it was read
+pub read-kind : {s : List ℕ} {i : ℕ} {o : Sort} {x : Thing o} {y : Cell} → y ≡ cellAt s i → Holds s o i x → y .kind ≡ kindOf o x
+read-kind e h = ap (λ (c : Cell). c .kind) e ∙ kind-of-held h
 
 -- framing: what lies in cells that are the same stays held
 pub kept-cell : {s t : List ℕ} {i k l a b c : ℕ} → length t ≡ length s → cellAt t i ≡ cellAt s i → IsCell s i k l a b c → IsCell t i k l a b c

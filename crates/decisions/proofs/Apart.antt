@@ -11,10 +11,10 @@ use Rattle.calculus.specs.Decide.{disjoint?, disjointInt}
 use Rattle.calculus.proofs.Decisions.{disjoint?-topLike-left, disjoint?-topLike-right, disjoint?-heads, disjoint?-inter-left, disjoint?-inter-right, disjoint?-arrow, disjoint?-field}
 use Rattle.format.specs.Cell.{Cell, cellAt}
 use Rattle.cells.specs.Held.{HoldsType}
-use Rattle.cells.proofs.Held.{arrow-at}
+use Rattle.cells.proofs.Held.{top-like, arrow-at}
 use Rattle.decisions.proofs.Parts.{Passes, Splits}
 use Rattle.decisions.proofs.Forms.{Types, right-inter, left-inter, contents, labels, kind-first, kind-second}
-use Rattle.decisions.proofs.Heads.{top-like, first-head, second-head, heads-differ, two-numbers}
+use Rattle.decisions.proofs.Heads.{first-head, second-head, heads-differ, two-numbers}
 
 pub left-top : {s : List ℕ} {a : ℕ} {A : Ty} (B : Ty) → HoldsType s a A → (x : Cell) → x ≡ cellAt s a → x .c ≡ 1 → true ≡ disjoint? A B
 left-top {A} B h x e m = sym (disjoint?-topLike-left A B (top-like h x e m))

@@ -13,11 +13,11 @@ use Rattle.calculus.specs.Decide.{topLike?, below?, belowWithin}
 use Rattle.calculus.proofs.Decisions.{below?-true, below?-topLike, below?-from-topLike, below?-inter-right, below?-inter-left, below?-arrow, below?-field, below?-heads}
 use Rattle.format.specs.Cell.{Cell, cellAt}
 use Rattle.cells.specs.Held.{HoldsType}
-use Rattle.cells.proofs.Held.{arrow-at, held-one}
+use Rattle.cells.proofs.Held.{top-like, not-top-like, arrow-at, held-one}
 use Rattle.decisions.specs.Questions.{TypesAt, UnderPlain}
 use Rattle.decisions.proofs.Parts.{Passes, Splits, Whenever}
 use Rattle.decisions.proofs.Forms.{Types, read, right-inter, left-inter, contents, labels, kind-first, kind-second}
-use Rattle.decisions.proofs.Heads.{kindFor, top-like, not-top-like, head-at, head-ordinary, first-head, second-head, heads-differ, two-numbers}
+use Rattle.decisions.proofs.Heads.{kindFor, head-at, head-ordinary, first-head, second-head, heads-differ, two-numbers}
 
 -- a type is below itself
 pub one-cell : {s : List ℕ} {a b : ℕ} {A B : Ty} → a ≡ b → HoldsType s a A → HoldsType s b B → true ≡ below? A B

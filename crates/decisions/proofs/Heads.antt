@@ -1,8 +1,8 @@
--- A held type that is no intersection and not top-like, by its head; and what field c of its cell says. Assumes nothing.
+-- A held type that is no intersection and not top-like, by its head. Assumes nothing.
 use Prim.Native.Nat.{ℕ}
 use mathlib.Core.Path.{_≡_, refl, ap, sym, subst, _∙_}
 use mathlib.Core.Logic.{_≢_}
-use mathlib.Core.Bool.{Bool, true, false, cond}
+use mathlib.Core.Bool.{false}
 use mathlib.Core.List.{List}
 use native.Mathlib.Omega.{arith}
 use lib.Dec.{T}
@@ -16,7 +16,7 @@ use Rattle.format.specs.Cell.{Cell, cellAt}
 use Rattle.format.specs.Tree.{kindIn}
 use Rattle.format.specs.Terms.{fromType}
 use Rattle.cells.specs.Held.{HoldsType}
-use Rattle.cells.proofs.Held.{type-mark, kindOf, kind-of-held}
+use Rattle.cells.proofs.Held.{not-top-like, kindOf, read-kind}
 use Rattle.decisions.proofs.Forms.{Types}
 
 -- the kind of a head's cell
@@ -24,21 +24,6 @@ abbrev pub kindFor : Head → ℕ
 kindFor number = 1
 kindFor function = 3
 kindFor record-type = 5
-
-marked : (t : Bool) → _≡_ {A = ℕ} (cond t 1 0) 1 → T t
-marked true e = tt
-marked false e = absurd (omega arith)
-
-unmarked : (t : Bool) → (_≡_ {A = ℕ} (cond t 1 0) 1 → ⊥) → t ≡ false
-unmarked true e = absurd (e refl)
-unmarked false e = refl
-
-module _ {s : List ℕ} {i : ℕ} {A : Ty} (h : HoldsType s i A) (x : Cell) (e : x ≡ cellAt s i) where
-  pub top-like : x .c ≡ 1 → T (topLike? A)
-  top-like m = marked (topLike? A) (sym (type-mark h) ∙ sym (ap (λ (t : Cell). t .c) e) ∙ m)
-
-  pub not-top-like : (x .c ≡ 1 → ⊥) → topLike? A ≡ false
-  not-top-like n = unmarked (topLike? A) (λ m. n (ap (λ (t : Cell). t .c) e ∙ type-mark h ∙ m))
 
 pub record HeadAt (x : Cell) (A : Ty) : Type 0 where
   pub head : Head
@@ -55,7 +40,7 @@ head-of (field l A) n t = (record-type, (D.h-field, refl))
 
 pub head-at : {s : List ℕ} {i : ℕ} {A : Ty} → HoldsType s i A → (x : Cell) → x ≡ cellAt s i → (x .kind ≡ 4 → ⊥) → topLike? A ≡ false → HeadAt x A
 head-at {A = A} h x e n t =
-    let k = ap (λ (t : Cell). t .kind) e ∙ kind-of-held h in
+    let k = read-kind e h in
     let w = head-of A (λ m. n (k ∙ m)) t in
     record { head = w .0; has = w .1 .0; kind = k ∙ w .1 .1 }
 

@@ -27,8 +27,7 @@ use Rattle.emission.specs.declared.Emitted.the-variants.{Next, Full}
 use Rattle.emission.proofs.Compose.{behind}
 use Rattle.cells.proofs.Rows.{Uses, uses}
 use Rattle.emission.proofs.Emitting.{Read, read-fits}
-use Rattle.emission.proofs.Runs.{grows, counts}
-use Rattle.emission.proofs.RunParts.{ends, whole}
+use Rattle.emission.proofs.Runs.{grows, ends, whole, counts}
 
 -- ---- a field
 

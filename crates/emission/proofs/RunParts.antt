@@ -14,16 +14,8 @@ use Rattle.cells.specs.Held.{Thing, Holds}
 use Rattle.cells.proofs.Held as Held
 use Rattle.cells.proofs.Shapes as Shapes
 use Rattle.cells.proofs.Shapes.{Two, TermAndType}
-use Rattle.emission.specs.Runs.{Run, r-refers, RunsType, RunsTerm}
-use Rattle.emission.proofs.Runs.{parts, holds-type, holds-term}
-
--- a run ends with the cell that refers to it
-pub ends : {q : Bool} {s : List ℕ} {x n e : ℕ} {o : Sort} {t : Tree} → Run q s x (refers o) n t e → e ≡ suc n
-ends (r-refers p k m f g h z _) = z
-
--- the same run, as it ends with its cell
-pub whole : {q : Bool} {s : List ℕ} {x n e : ℕ} {o : Sort} {t : Tree} → Run q s x (refers o) n t e → Run q s x (refers o) n t (suc n)
-whole r = rw (ends r) at r
+use Rattle.emission.specs.Runs.{Run, RunsType, RunsTerm}
+use Rattle.emission.proofs.Runs.{ends, whole, parts, holds-type, holds-term}
 
 pub runs-type : {s : List ℕ} {x n e : ℕ} {A : Ty} → Run true s x (refers type-sort) n (fromType A) e → RunsType s n A
 runs-type {x = x} r = record { start = x; run = whole r }
@@ -32,14 +24,14 @@ pub runs-term : {s : List ℕ} {x n e : ℕ} {t : Term} → TermFits t → Run t
 runs-term {x = x} f r = record { start = x; run = whole r; fits = f }
 
 -- the fields of the cell i
-record Fields (s : List ℕ) (x i : ℕ) (f g h : Tree) (r : Row) : Type 0 where
-  y : ℕ
-  z : ℕ
-  first : Run true s x (r .a) (cellAt s i .a) f y
-  second : Run true s y (r .b) (cellAt s i .b) g z
-  third : Run true s z (r .c) (cellAt s i .c) h i
+pub record Fields (q : Bool) (s : List ℕ) (x i : ℕ) (f g h : Tree) (r : Row) : Type 0 where
+  pub y : ℕ
+  pub z : ℕ
+  pub first : Run q s x (r .a) (cellAt s i .a) f y
+  pub second : Run q s y (r .b) (cellAt s i .b) g z
+  pub third : Run q s z (r .c) (cellAt s i .c) h i
 
-fields : {s : List ℕ} {x i e k m : ℕ} {o : Sort} {f g h : Tree} {r : Row} → Run true s x (refers o) i (node k m f g h) e → rowOf k ≡ some r → Fields s x i f g h r
+pub fields : {q : Bool} {s : List ℕ} {x i e k m : ℕ} {o : Sort} {f g h : Tree} {r : Row} → Run q s x (refers o) i (node k m f g h) e → rowOf k ≡ some r → Fields q s x i f g h r
 fields t w =
     let p = parts t w in
     let c = p .cell .is in
@@ -143,11 +135,14 @@ module _ {s : List ℕ} {i : ℕ} {e : Term} (r : RunsTerm s i e) where
       record { term = w .term; is = w .is; lower = w .lower; holds = runs-term (t .fits .1) (p .first) }
 
 -- the second part begins behind the first
+pub behind : {q : Bool} {s : List ℕ} {x y z n m : ℕ} {o u : Sort} {f g : Tree} → Run q s x (refers o) n f y → Run q s y (refers u) m g z → Run q s (suc n) (refers u) m g (suc m)
+behind r t = rw (ends r) at (whole t)
+
 module _ {s : List ℕ} {i : ℕ} where
   pub arrow-second : {A B : Ty} → RunsType s i (arrow A B) → Run true s (suc (cellAt s i .a)) (refers type-sort) (cellAt s i .b) (fromType B) (suc (cellAt s i .b))
   unfolding fromType table rowIn rowOf
-  arrow-second r = let p = fields (r .run) refl in rw (ends (p .first)) at (whole (p .second))
+  arrow-second r = let p = fields (r .run) refl in behind (p .first) (p .second)
 
   pub lam-second : {e : Term} {A B : Ty} → RunsTerm s i (lam e A B) → Run true s (suc (cellAt s i .a)) (refers type-sort) (cellAt s i .b) (fromType A) (suc (cellAt s i .b))
   unfolding fromTerm table rowIn rowOf
-  lam-second r = let p = fields (r .run) refl in rw (ends (p .first)) at (whole (p .second))
+  lam-second r = let p = fields (r .run) refl in behind (p .first) (p .second)

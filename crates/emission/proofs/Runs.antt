@@ -1,5 +1,5 @@
 -- Runs: how long they are, what they hold, what leaves them as they are. Over kind and field. Assumes nothing.
-use Prim.Native.Nat.{ℕ, suc, _+_, _-_, _≤_, _<_}
+use Prim.Native.Nat.{ℕ, suc, _+_, _*_, _≤_, _<_}
 use native.Mathlib.Omega.{arith}
 use mathlib.Core.Bool.{Bool, true, false}
 use mathlib.Core.Path.{_≡_, refl, sym, subst}
@@ -7,7 +7,7 @@ use mathlib.Core.List.{List}
 use mathlib.Core.Option.{some}
 use lib.ListN.{length}
 use Rattle.calculus.specs.Syntax.{Ty, Term}
-use Rattle.format.specs.Table.{Sort, type-sort, Use, plain, refers, Row, rowOf}
+use Rattle.format.specs.Table.{Sort, type-sort, Use, unused, plain, refers, Row, rowOf}
 use Rattle.format.specs.Cell.{cellAt}
 use Rattle.format.specs.Tree.{Tree, raw, node, kindIn, cells}
 use Rattle.format.specs.Terms.{fromType, fromTerm}
@@ -20,6 +20,28 @@ pub grows : {q : Bool} {s : List ℕ} {x n e : ℕ} {u : Use} {t : Tree} → Run
 grows r-unused = omega arith
 grows r-plain = omega arith
 grows (r-refers p k m f g h z _) = omega (arith, grows f, grows g, grows h, z)
+
+-- a field that the row does not name has no cells
+pub nothing : {q : Bool} {s : List ℕ} {x n e : ℕ} {t : Tree} → Run q s x unused n t e → x ≡ e
+nothing r-unused = refl
+
+-- what is referred to has a last cell, which lies within the buffer and ends the run
+pub last : {q : Bool} {s : List ℕ} {x n e : ℕ} {o : Sort} {t : Tree} → Run q s x (refers o) n t e → x ≤ n
+last (r-refers p k m f g h z _) = omega (arith, grows f, grows g, grows h)
+
+pub run-within : {q : Bool} {s : List ℕ} {x n e : ℕ} {o : Sort} {t : Tree} → Run q s x (refers o) n t e → 8 * n + 8 ≤ length s
+run-within (r-refers p k m f g h z _) = p .within
+
+pub ends : {q : Bool} {s : List ℕ} {x n e : ℕ} {o : Sort} {t : Tree} → Run q s x (refers o) n t e → e ≡ suc n
+ends (r-refers p k m f g h z _) = z
+
+-- the same run, as it ends with its cell
+pub whole : {q : Bool} {s : List ℕ} {x n e : ℕ} {o : Sort} {t : Tree} → Run q s x (refers o) n t e → Run q s x (refers o) n t (suc n)
+whole r = rw (ends r) at r
+
+-- the same run, its numbers told otherwise
+pub at-run : {q : Bool} {s : List ℕ} {x y n m d e : ℕ} {u : Use} {t : Tree} → x ≡ y → n ≡ m → d ≡ e → Run q s x u n t d → Run q s y u m t e
+at-run a b c r = rw (sym a, sym b, sym c) r
 
 -- its cells are as many as the tree has
 pub counts : {q : Bool} {s : List ℕ} {x n e : ℕ} {u : Use} {t : Tree} → Run q s x u n t e → e ≡ x + cells t

@@ -21,10 +21,10 @@ use Rattle.cells.specs.Coded.{CellFits, rowFrom}
 use Rattle.cells.specs.declared.Cell.{Cell as Struct}
 use Rattle.cells.specs.declared.Entry.{Entry}
 use Rattle.cells.specs.Held.{mark, labelBy, MarkIs, HeldField, f-unused, f-plain, f-refers, Fields, Same}
-use Rattle.cells.proofs.Held.{same-cell, same-field, below, row-passes, Written, written}
+use Rattle.cells.proofs.Held.{mark-one, same-cell, same-field, below, row-passes, Written, written}
 use Rattle.loading.specs.Marks.{markBy, MarkReady}
 use Rattle.loading.specs.Loaded.{Loadable, Loaded, LoadsNext}
-use Rattle.loading.proofs.Marking.{Names, marked, small, mark-ready}
+use Rattle.loading.proofs.Marking.{Names, marked, mark-ready}
 
 -- a field, by its use: it holds what it decodes to in the book
 held : {b s : List ℕ} {i : ℕ} → Loaded b s i → (u : Use) (x : ℕ) → FieldOk b i u x → HeldField true s i u x (fieldTree (treeAt b) i u x)
@@ -165,7 +165,7 @@ module _ {b s : List ℕ} {i : ℕ} {t : Cell} {y : Entry} (n : Read b s i t y) 
   fields-fit = rw (n .cell) (cell-fits b (n .bytes) i)
 
   third-fits : {c : ℕ} → NewThird s t y c → c < 65536
-  third-fits (of-type q h) = omega (arith, small (toType (treeAt b i)), type-marked q h)
+  third-fits (of-type q h) = omega (arith, mark-one (toType (treeAt b i)), type-marked q h)
   third-fits (of-term q h) = rw h (fields-fit .3)
 
   third-kept : {c : ℕ} → NewThird s t y c → Kept (ok .row .c) c (cellAt b i .c)

@@ -8,7 +8,6 @@ use mathlib.Core.Option.{some, Option·some-injective}
 use mathlib.Core.List.{List}
 use lib.Dec.{eqb}
 use borrow.Author.Tests.{eq-eqb, ne-eqb}
-use Rattle.calculus.specs.Syntax.{Ty}
 use Rattle.calculus.specs.Decide.{topLike?}
 use Rattle.format.specs.Table.{Sort, type-sort, refers, Row, table, rowIn, rowOf}
 use Rattle.format.specs.Cell.{IsBytes, Cell, cellAt}
@@ -52,13 +51,6 @@ marked (suc (suc (suc (suc zero)))) h f =
     rw (w .is, part-mark (w .held-a), part-mark (w .held-b)) (both-marked (topLike? (toType (w .a))) (topLike? (toType (w .b))))
 marked (suc (suc (suc (suc (suc zero))))) h f = let w = fields 5 _ h f refl in rw (w .is, part-mark (w .held-a))
 marked {t = t} (suc (suc (suc (suc (suc (suc k)))))) h f = absurd (omega (arith, f, in-range (t .kind) (h .row) (h .found) (h .sort)))
-
-one-or-none : (p : Bool) → cond p 1 0 ≤ 1
-one-or-none true = omega arith
-one-or-none false = omega arith
-
-pub small : (A : Ty) → mark A ≤ 1
-small A = one-or-none (topLike? A)
 
 -- the cells that are read lie within the buffer
 pub mark-ready : {s : List ℕ} {i : ℕ} {t : Cell} {x : Tree} → Names s i type-sort t x → MarkReady s t

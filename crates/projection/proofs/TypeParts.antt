@@ -15,8 +15,7 @@ use Rattle.format.specs.Cell.{Cell, cellAt}
 use Rattle.format.specs.Tree.{kindIn}
 use Rattle.format.specs.Terms.{fromType}
 use Rattle.cells.specs.Held.{HoldsType}
-use Rattle.cells.proofs.Held.{TwoTypes, kind-of-held, inter-at, field-at}
-use Rattle.decisions.proofs.Heads.{top-like, not-top-like}
+use Rattle.cells.proofs.Held.{TwoTypes, top-like, not-top-like, kind-of-held, read-kind, inter-at, field-at}
 use Rattle.projection.specs.declared.FieldPart.{FieldPart}
 use Rattle.projection.specs.declared.FieldPart.the-variants.{Absent, TopLike, One, More}
 use Rattle.projection.specs.Parts.{TypeAt, PartIs, Joins, FindsFieldPart}
@@ -46,6 +45,9 @@ pub record LowerType (s : List ℕ) (a b : ℕ) : Type 0 where
   pub less : b < a
   pub at : TypeAt s b
 
+lower-type : {s : List ℕ} {a b : ℕ} {A : Ty} → b < a → HoldsType s b A → LowerType s a b
+lower-type {A = A} l h = record { less = l; at = record { type = A; holds = h } }
+
 module _ {s : List ℕ} {a : ℕ} {x : Cell} (o : x ≡ cellAt s a) where
   -- a top-like type
   pub marked : {l : ℕ} → x .c ≡ 1 → FindsFieldPart s a l TopLike
@@ -56,11 +58,8 @@ module _ {s : List ℕ} {a : ℕ} {x : Cell} (o : x ≡ cellAt s a) where
     two : {A : Ty} → HoldsType s a A → TwoTypes s a inter A
     two h = inter-at h (rw o at k)
 
-    pub first-asks : TypeAt s a → LowerType s a (x .a)
-    first-asks p = rw o (let v = two (p .holds) in record { less = v .first-lower; at = record { type = v .first; holds = v .holds-first } })
-
-    pub second-asks : TypeAt s a → LowerType s a (x .b)
-    second-asks p = rw o (let v = two (p .holds) in record { less = v .second-lower; at = record { type = v .second; holds = v .holds-second } })
+    pub asks : TypeAt s a → LowerType s a (x .a) × LowerType s a (x .b)
+    asks p = rw o (let v = two (p .holds) in (lower-type (v .first-lower) (v .holds-first), lower-type (v .second-lower) (v .holds-second)))
 
     pub halves : {l : ℕ} {p q r : FieldPart} → FindsFieldPart s (x .a) l p → FindsFieldPart s (x .b) l q → Joins p q r → FindsFieldPart s a l r
     unfolding fieldPart
@@ -93,8 +92,8 @@ module _ {s : List ℕ} {a : ℕ} {x : Cell} (o : x ≡ cellAt s a) where
         go int h t = refl
         go top h t = absurd (subst T t tt)
         go (arrow A B) h t = rw t refl
-        go (inter A B) h t = absurd (u (ap (λ (z : Cell). z .kind) o ∙ kind-of-held h))
+        go (inter A B) h t = absurd (u (read-kind o h))
         go (field k A) h t =
             let v = field-at h (kind-of-held h) in
-            let d : ¬ (l ≡ k) = λ e. w (ap (λ (z : Cell). z .kind) o ∙ kind-of-held h) (cc (o, v .is)) in
+            let d : ¬ (l ≡ k) = λ e. w (read-kind o h) (cc (o, v .is)) in
             rw (t, ne-eqb l k d) refl

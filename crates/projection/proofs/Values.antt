@@ -12,17 +12,15 @@ use borrow.Author.Tests.{eq-eqb, ne-eqb}
 use Rattle.calculus.specs.Syntax.{Ty, Term, lit, unit, lam, merge, rcd, Value, v-lit, v-unit, v-lam, v-merge, v-rcd}
 use Rattle.calculus.specs.Decide.{topLike?, value?, typeOf}
 use Rattle.calculus.specs.Evaluate.{firstPart, content}
-use Rattle.calculus.proofs.Bools.{true-says}
+use Rattle.calculus.proofs.Bools.{true-says, and-says}
 use Rattle.calculus.proofs.Tests.{value?-says}
-use Rattle.format.specs.Table.{Sort, term-sort, unused, refers, rowOf, rowIn, table}
+use Rattle.format.specs.Table.{term-sort, rowOf, rowIn, table}
 use Rattle.format.specs.Cell.{Cell, cellAt}
-use Rattle.format.specs.Tree.{Tree, kindIn}
+use Rattle.format.specs.Tree.{kindIn}
 use Rattle.format.specs.Terms.{fromTerm}
 use Rattle.cells.specs.Held.{HoldsType}
-use Rattle.cells.proofs.Held.{kindOf, type-mark, held-within}
-use Rattle.emission.specs.Runs.{Run, r-unused, r-refers}
-use Rattle.emission.proofs.Runs.{grows, parts, run-kind, run-type}
-use Rattle.emission.proofs.RunParts.{ends, whole}
+use Rattle.cells.proofs.Held.{kindOf, mark-test, held-within}
+use Rattle.emission.proofs.Runs.{nothing, last, ends, whole, at-run, parts, run-kind, run-type}
 use Rattle.projection.specs.Parts.{IsValueFrom, ValueFrom, ValueAt, ShowsTopLike, ContentIs, FindsContent}
 use Rattle.projection.specs.declared.Content.{Content}
 use Rattle.projection.specs.declared.Content.the-variants.{Cells, Nothing}
@@ -36,20 +34,6 @@ pub data Shape (s : List ℕ) (start v : ℕ) (t : Cell) : ℕ → Term → Type
   is-merge : {e f : Term} → IsValueFrom s start (t .a) e → IsValueFrom s (t .a + 1) (t .b) f → start ≤ t .a → t .a < t .b → t .b < v → Shape s start v t 22 (merge e f)
   is-rcd : {l : ℕ} {e : Term} → l ≡ t .label → IsValueFrom s start (t .a) e → start ≤ t .a → v ≡ suc (t .a) → Shape s start v t 24 (rcd l e)
 
-nothing : {q : Bool} {s : List ℕ} {x n e : ℕ} {t : Tree} → Run q s x unused n t e → x ≡ e
-nothing r-unused = refl
-
-first-cell : {q : Bool} {s : List ℕ} {x n e : ℕ} {o : Sort} {t : Tree} → Run q s x (refers o) n t e → x ≤ n
-first-cell (r-refers p k m f g h z d) = omega (arith, grows f, grows g, grows h)
-
-behind : {s : List ℕ} {x y n e : ℕ} {o : Sort} {t : Tree} → x ≡ y → Run true s x (refers o) n t e → Run true s y (refers o) n t (suc n)
-behind i r = rw i at (whole r)
-
-halves-final : (p q : Bool) → (p && q) ≡ true → (p ≡ true) × (q ≡ true)
-halves-final true true e = (refl, refl)
-halves-final true false e = let z : _≡_ {A = ℕ} 0 1 = cc in absurd (omega arith)
-halves-final false q e = let z : _≡_ {A = ℕ} 0 1 = cc in absurd (omega arith)
-
 by-value : {s : List ℕ} {start v : ℕ} {e : Term} {A : Ty} → Value e A → IsValueFrom s start v e → Shape s start v (cellAt s v) (kindOf term-sort e) e
 unfolding fromTerm kindIn table rowIn rowOf value?
 by-value v-lit h = is-lit
@@ -59,18 +43,19 @@ by-value (v-lam {e} {A} {B}) h =
     rw (p .cell .is) (is-lam (run-type B (p .third)))
 by-value (v-merge {v = x} {w = y} _ _) h =
     let p = parts (h .run) refl in
-    let f = halves-final (value? x) (value? y) (h .final) in
+    let f : (value? x ≡ true) × (value? y ≡ true) =
+    and-says (value? x) (value? y) (true-says (value? x)) (true-says (value? y)) .0 (true-says (value? x && value? y) .1 (h .final)) in
     rw (p .cell .is)
     (is-merge
     (record { run = whole (p .first); final = f .0 })
-    (record { run = behind (omega (arith, ends (p .first))) (p .second); final = f .1 })
-    (first-cell (p .first))
-    (omega (arith, ends (p .first), first-cell (p .second)))
+    (record { run = at-run (omega (arith, ends (p .first))) refl (ends (p .second)) (p .second); final = f .1 })
+    (last (p .first))
+    (omega (arith, ends (p .first), last (p .second)))
     (omega (arith, ends (p .second), nothing (p .third))))
 by-value (v-rcd _) h =
     let p = parts (h .run) refl in
     rw (p .cell .is)
-    (is-rcd (p .label) (record { run = whole (p .first); final = h .final }) (first-cell (p .first)) (omega (arith, ends (p .first), nothing (p .second), nothing (p .third))))
+    (is-rcd (p .label) (record { run = whole (p .first); final = h .final }) (last (p .first)) (omega (arith, ends (p .first), nothing (p .second), nothing (p .third))))
 
 -- the kind of no value but a record
 pub record NoOther (k : ℕ) : Type 0 where
@@ -90,16 +75,6 @@ pub record Halves (s : List ℕ) (start v p q : ℕ) : Type 0 where
 pub record Inside (s : List ℕ) (start v p : ℕ) : Type 0 where
   pub from : ValueFrom s start p
   pub lower : p < v
-
-mark-test : (b : Bool) → eqb (cond b 1 0) 1 ≡ b
-mark-test true = refl
-mark-test false = refl
-
-pub value-within : {s : List ℕ} {start v : ℕ} {e : Term} → IsValueFrom s start v e → 8 * v + 8 ≤ length s
-value-within h = run-within (h .run)
-  where
-    run-within : {s : List ℕ} {x n e : ℕ} {o : Sort} {t : Tree} → Run true s x (refers o) n t e → 8 * n + 8 ≤ length s
-    run-within (r-refers p k m f g h z d) = p .within
 
 -- cells are not nothing
 pub no-cells : {x y : ℕ} {r : Content} → r ≡ Cells x y → r ≡ Nothing → ⊥
@@ -180,7 +155,7 @@ module _ {s : List ℕ} {v : ℕ} {x : Cell} (is : x ≡ cellAt s v) where
   shows-function {y} k i = record { says = λ n e h. go (shape h k) }
     where
       go : {start : ℕ} {e : Term} → Shape s start v x 21 e → eqb (y .c) 1 ≡ topLike? (typeOf e)
-      go (is-lam {B = B} h) = ap (λ (n : ℕ). eqb n 1) (ap (λ (c : Cell). c .c) i ∙ type-mark h) ∙ mark-test (topLike? B)
+      go (is-lam h) = mark-test h y i
 
   module _ (k : x .kind ≡ 22) {q : Bool} (f : ShowsTopLike s (x .a) q) where
     pub shows-both : {r : Bool} → q ≡ true → ShowsTopLike s (x .b) r → ShowsTopLike s v r

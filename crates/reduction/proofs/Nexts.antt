@@ -35,7 +35,7 @@ no-answer : {A : Type 0} {g : Term} → _≡_ {A = Option Term} none (some g) �
 no-answer {g = g} h = absurd (Option·none-ne-some g h)
 
 module _ {g : Term} where
-  anno-reads : (e : Term) (A : Ty) → value? e ≡ true → next (anno e A) ≡ some g → cast A e ≡ some g
+  pub anno-reads : (e : Term) (A : Ty) → value? e ≡ true → next (anno e A) ≡ some g → cast A e ≡ some g
   unfolding next
   anno-reads e A v h = rw (v, next) at h
 

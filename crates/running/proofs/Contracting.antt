@@ -30,7 +30,7 @@ use Rattle.emission.specs.Emits.{Emits}
 use Rattle.emission.specs.Runs.{Run}
 use Rattle.emission.specs.declared.Emitted.{Emitted}
 use Rattle.emission.specs.declared.Emitted.the-variants as Out
-use Rattle.emission.proofs.Runs.{grows, parts, run-kind}
+use Rattle.emission.proofs.Runs.{grows, last, ends, run-within, at-run, parts, run-kind}
 use Rattle.emission.proofs.EncodedRuns.{encoded-run}
 use Rattle.moving.specs.Moves.{Kept, PlaceReady, Places}
 use Rattle.moving.proofs.Runs.{place-ready}
@@ -50,9 +50,8 @@ use Rattle.running.specs.declared.Contracted.{Contracted}
 use Rattle.running.specs.declared.Contracted.the-variants.{To, Full}
 use Rattle.running.proofs.Contexts.{Inside, next-inside, next-whole}
 use Rattle.running.proofs.Waiting.{kept-waits, waiting, waits-right}
-use Rattle.running.proofs.Going.{ends, at-run}
 use Rattle.running.proofs.Entering.{Kind, k-anno, term-kind}
-use Rattle.running.proofs.Ranges.{last, redex-range, redex-low, kind-at, kind-not}
+use Rattle.running.proofs.Ranges.{redex-range, redex-low, kind-at, kind-not}
 use Rattle.running.proofs.Standing.{goes, focus-fits, successor-fits}
 use Rattle.running.proofs.Projecting.{size-whole, redex-value}
 
@@ -79,7 +78,7 @@ module _ {s w : List ℕ} {p : Place} {kind m end : ℕ} (i : Installing s w p k
   last-some = omega (arith, ends (i .contractum .run))
 
   pub last-within : 8 * (end - 1) + 8 ≤ length s
-  last-within = omega (arith, last-some, i .small, i .long)
+  last-within = run-within (i .contractum .run)
 
   -- what an annotation refers to
   pub inside-within : {t : Cell} {a : ℕ} → t ≡ cellAt s (end - 1) → t .kind ≡ 19 → a ≡ t .a → 8 * a + 8 ≤ length s

@@ -2,37 +2,36 @@
 use Prim.Native.Nat.{ℕ, suc, _+_, _*_, _-_, _≤_, _<_}
 use native.Mathlib.Omega.{arith}
 use mathlib.Core.Path.{_≡_, refl, sym, ap, _∙_, subst}
-use mathlib.Core.Bool.{true, false}
-use mathlib.Core.List.{List, [], _∷_, _++_}
+use mathlib.Core.Bool.{false}
+use mathlib.Core.List.{List, [], _++_}
 use mathlib.Core.Option.{some}
 use lib.ListN.{length, take, drop, take-append-drop}
-use Rattle.calculus.specs.Syntax.{Ty, Term, anno, app, fix, proj, size}
+use Rattle.calculus.specs.Syntax.{Ty, Term}
 use Rattle.calculus.specs.Typing.{Typed}
-use Rattle.format.specs.Table.{term-sort, unused, refers, Row, rowOf, rowIn, table}
-use Rattle.format.specs.Tree.{Tree, cells, encode}
+use Rattle.format.specs.Table.{term-sort, refers, rowOf, rowIn, table}
+use Rattle.format.specs.Tree.{encode}
 use Rattle.format.specs.Terms.{fromTerm}
 use Rattle.format.proofs.Trees.{term-cells, term-positive}
 use Rattle.format.proofs.Encoding.{Part, root-last}
 use Rattle.format.proofs.RoundTrip.{term-good}
 use Rattle.cells.specs.Held.{HeldField, f-unused, f-refers}
 use Rattle.emission.specs.Runs.{Run}
-use Rattle.emission.proofs.Runs.{grows, bare}
+use Rattle.emission.proofs.Runs.{grows, at-run, bare}
 use Rattle.emission.proofs.EncodedRuns.{encoded-run}
 use Rattle.layout.specs.Encoding.{EncodesTree, InPlaceReady}
 use Rattle.layout.proofs.Encoded.{encode-ready}
 use Rattle.moving.specs.Moves.{PlaceReady, Places, Copies}
 use Rattle.moving.proofs.Runs.{place-ready}
 use Rattle.moving.proofs.PlacedRuns.{run-placed}
-use Rattle.running.specs.Waiting.{fill, Waits, w-none}
+use Rattle.running.specs.Waiting.{w-none}
 use Rattle.running.specs.Contexts.{Around, whole, p-none, frames}
 use Rattle.running.specs.Places.{IsAhead, IsDone, IsRedex, RedexParts, of-anno, of-app, of-fix, of-proj, Standing, Runnable, FocusReady, Settles, Held, Unwinding, Unwinds, Rebuilds}
-use Rattle.running.specs.Turns.{EncodedTerm, TypedEncoded, StepReady, Starts, WholeReady, EncodesWhole}
+use Rattle.running.specs.Turns.{EncodedTerm, StepReady, Starts, WholeReady, EncodesWhole}
 use Rattle.running.specs.declared.Place.{Place}
 use Rattle.running.specs.declared.Focus.{Focus}
 use Rattle.running.specs.declared.Focus.the-variants.{Ahead, Done, Redex, Whole}
 use Rattle.running.proofs.Contexts.{framed}
-use Rattle.running.proofs.Waiting.{held-less, waits-right}
-use Rattle.running.proofs.Going.{ends, at-run}
+use Rattle.running.proofs.Waiting.{waits-right}
 use Rattle.running.proofs.Ranges.{ahead-range, done-range, redex-range}
 
 -- ---- to its place

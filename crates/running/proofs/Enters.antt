@@ -13,7 +13,7 @@ use Rattle.format.specs.Table.{term-sort, refers}
 use Rattle.format.specs.Terms.{fromTerm}
 use Rattle.cells.proofs.Held.{kindOf}
 use Rattle.emission.specs.Runs.{Run}
-use Rattle.emission.proofs.Runs.{run-kind}
+use Rattle.emission.proofs.Runs.{at-run, run-kind}
 use Rattle.moving.specs.Moves.{Kept, ShiftReady, Shifts}
 use Rattle.moving.proofs.Runs.{shift-ready, run-shifted}
 use Rattle.running.specs.Contexts.{Around, whole, AllProper, p-more}
@@ -21,7 +21,6 @@ use Rattle.running.specs.Places.{IsAhead, IsDone, Standing, Runnable, Go
 use Rattle.running.specs.declared.Place.{Place}
 use Rattle.running.specs.declared.Focus.the-variants.{Ahead, Done, Redex}
 use Rattle.running.proofs.Waiting.{kept-waits}
-use Rattle.running.proofs.Going.{at-run}
 use Rattle.running.proofs.Standing.{no-variable}
 use Rattle.running.proofs.Ranges.{ahead-range, above-some, stored, root-within}
 use Rattle.running.proofs.Entering.{Kind, k-var, term-kind, value-lit, value-unit, value-lam, enters-fix, Descends, enters-part}

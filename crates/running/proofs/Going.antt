@@ -1,19 +1,17 @@
 -- The moves of the focus: down into a first part, on to a second, and over a cell whose parts are done. Over kind and field. Assumes nothing.
-use Prim.Native.Nat.{ℕ, suc, _+_, _*_, _-_, _≤_, _<_}
+use Prim.Native.Nat.{ℕ, suc, _-_, _≤_, _<_}
 use native.Mathlib.Omega.{arith}
-use mathlib.Core.Path.{_≡_, refl, sym, ap, _∙_, subst}
+use mathlib.Core.Path.{_≡_, refl, sym, subst}
 use mathlib.Core.Bool.{Bool, true}
-use mathlib.Core.List.{List, [], _∷_}
+use mathlib.Core.List.{List, _∷_}
 use mathlib.Core.Option.{some}
-use lib.ListN.{length}
-use Rattle.format.specs.Table.{Sort, term-sort, Use, unused, plain, refers, Row, rowOf}
-use Rattle.format.specs.Cell.{Cell, cellAt}
-use Rattle.format.specs.Tree.{Tree, raw, node, cells}
+use Rattle.format.specs.Table.{term-sort, Use, unused, refers, Row, rowOf}
+use Rattle.format.specs.Tree.{Tree, raw, node}
 use Rattle.cells.specs.Held.{IsCell, labelBy}
-use Rattle.emission.specs.Runs.{Run, r-unused, r-plain, r-refers}
-use Rattle.emission.proofs.Runs.{grows, kept-run}
+use Rattle.emission.specs.Runs.{Run, r-unused, r-refers}
+use Rattle.emission.proofs.Runs.{grows, nothing, ends, kept-run}
 use Rattle.moving.specs.Moves.{Kept, Wrote}
-use Rattle.running.specs.Waiting.{Frame, first, second, Waits, w-none, w-first, w-second}
+use Rattle.running.specs.Waiting.{Frame, first, second, Waits, w-first, w-second}
 use Rattle.running.proofs.Waiting.{kept-waits}
 
 -- a focus ahead, and what waits around it
@@ -39,13 +37,6 @@ wrote-kept d l h =
 pub wrote-run : {q : Bool} {w v : List ℕ} {j x n e : ℕ} {u : Use} {t : Tree} → Wrote w v j → e ≤ j → Run q w x u n t e → Run q v x u n t e
 wrote-run d l r = kept-run (d .long) (λ i a b. d .others i (λ e. absurd (omega (arith, b, e, l)))) r
 
-pub ends : {q : Bool} {s : List ℕ} {x n e : ℕ} {o : Sort} {t : Tree} → Run q s x (refers o) n t e → e ≡ suc n
-ends (r-refers p k m f g h z d) = z
-
--- the same run, its numbers told otherwise
-pub at-run : {q : Bool} {s : List ℕ} {x y n m d e : ℕ} {u : Use} {t : Tree} → x ≡ y → n ≡ m → d ≡ e → Run q s x u n t d → Run q s y u m t e
-at-run a b c r = rw (sym a, sym b, sym c) r
-
 as-use : {q : Bool} {s : List ℕ} {x n e : ℕ} {u v : Use} {t : Tree} → u ≡ v → Run q s x u n t e → Run q s x v n t e
 as-use e r = rw (sym e) r
 
@@ -55,9 +46,6 @@ any-number {q} {s} m e r = as-use (sym e) (go (as-use e r))
   where
     go : {x n e : ℕ} {t : Tree} → Run q s x unused n t e → Run q s x unused m t e
     go r-unused = r-unused
-
-pub nothing : {q : Bool} {s : List ℕ} {x n e : ℕ} {t : Tree} → Run q s x unused n t e → x ≡ e
-nothing r-unused = refl
 
 -- down: the cell of the focus waits for its first part
 pub descends : {w v : List ℕ} {start right root up k l m a b c y z : ℕ} {f g h : Tree} {K : List Frame} {r : Row} → IsCell w root k l a b c → rowOf k ≡ some r

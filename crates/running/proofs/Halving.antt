@@ -9,12 +9,12 @@ use lib.ListN.{length}
 use lib.Seq.{sets}
 use Rattle.calculus.specs.Syntax.{Ty, Term, anno}
 use Rattle.calculus.specs.Decide.{value?}
-use Rattle.format.specs.Table.{type-sort, term-sort, refers, Row, rowOf, rowIn, table}
+use Rattle.format.specs.Table.{type-sort, term-sort, refers, rowOf, rowIn, table}
 use Rattle.format.specs.Cell.{Cell, cellAt, cellBytes}
 use Rattle.format.specs.Terms.{fromType, fromTerm, TypeFits, TermFits}
 use Rattle.format.proofs.RoundTrip.{type-good, term-good}
 use Rattle.emission.specs.Runs.{Run}
-use Rattle.emission.proofs.Runs.{grows, parts, kept-run}
+use Rattle.emission.proofs.Runs.{grows, nothing, last, ends, at-run, kept-run, parts}
 use Rattle.moving.specs.Moves.{Kept, Wrote, PlaceReady, Places}
 use Rattle.moving.proofs.Runs.{place-ready}
 use Rattle.moving.proofs.PlacedRuns.{run-placed}
@@ -23,9 +23,8 @@ use Rattle.running.specs.Places.{of-anno, ContractumAt, Installing, Halv
 use Rattle.running.specs.declared.Place.{Place}
 use Rattle.running.specs.declared.Focus.the-variants.{Redex}
 use Rattle.running.proofs.Waiting.{kept-waits}
-use Rattle.running.proofs.Going.{ends, nothing, at-run}
 use Rattle.running.proofs.Entering.{Kind, k-anno, term-kind, value-lam}
-use Rattle.running.proofs.Ranges.{last, stored, kind-at}
+use Rattle.running.proofs.Ranges.{stored, kind-at}
 use Rattle.running.proofs.Contracting.{far, root-low}
 
 -- an annotation of a function, by the cells that were read

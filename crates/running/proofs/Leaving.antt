@@ -1,29 +1,26 @@
 -- A focus that is a value: what the cell that waits for it becomes. Assumes nothing.
-use Prim.Native.Nat.{ℕ, suc, _+_, _*_, _-_, _≤_, _<_}
+use Prim.Native.Nat.{ℕ, suc, _+_, _-_, _≤_, _<_}
 use native.Mathlib.Omega.{arith}
-use mathlib.Core.Path.{_≡_, refl, sym, ap, _∙_, subst}
-use mathlib.Core.Bool.{Bool, true, false}
-use mathlib.Core.Logic.{_⊎_, inl, inr}
+use mathlib.Core.Path.{_≡_, refl, sym, _∙_, subst}
+use mathlib.Core.Bool.{true}
 use mathlib.Core.List.{List, [], _∷_}
 use mathlib.Core.Option.{some}
 use Rattle.calculus.specs.Syntax.{Ty, Term, anno, app, merge, rcd, proj}
 use Rattle.calculus.specs.Decide.{value?}
-use Rattle.format.specs.Table.{Sort, type-sort, term-sort, Use, unused, refers, Row, rowOf, rowIn, table}
+use Rattle.format.specs.Table.{term-sort, unused, refers, Row, rowOf, rowIn, table}
 use Rattle.format.specs.Cell.{Cell, cellAt}
-use Rattle.format.specs.Tree.{Tree, raw, node}
-use Rattle.format.specs.Terms.{fromType, fromTerm}
+use Rattle.format.specs.Tree.{Tree, raw}
+use Rattle.format.specs.Terms.{fromTerm}
 use Rattle.cells.specs.Held.{IsCell, labelBy}
-use Rattle.emission.specs.Runs.{Run, r-unused}
-use Rattle.emission.proofs.Runs.{grows, counts}
-use Rattle.moving.specs.Moves.{Kept, Wrote}
-use Rattle.running.specs.Waiting.{Frame, first, second, Waits, w-none, w-first, w-second}
-use Rattle.running.specs.Contexts.{Around, anno-of, app-left, app-right, merge-left, merge-right, rcd-of, proj-of, plugTerm, whole, Proper, AllProper, p-more, frame, frames}
-use Rattle.running.specs.Places.{IsAhead, IsDone, IsRedex, RedexParts, of-anno, of-app, of-proj, FocusIs, Standing}
+use Rattle.emission.specs.Runs.{Run}
+use Rattle.emission.proofs.Runs.{grows, nothing, ends, at-run}
+use Rattle.moving.specs.Moves.{Wrote}
+use Rattle.running.specs.Waiting.{Frame, first, second, Waits, w-first, w-second}
+use Rattle.running.specs.Contexts.{Around, anno-of, app-right, merge-right, rcd-of, proj-of, frame, frames}
+use Rattle.running.specs.Places.{IsAhead, IsDone, IsRedex, RedexParts, of-anno, of-app, of-proj}
 use Rattle.running.specs.declared.Place.{Place}
-use Rattle.running.specs.declared.Focus.{Focus}
-use Rattle.running.specs.declared.Focus.the-variants.{Ahead, Done, Redex, Whole}
 use Rattle.running.proofs.Waiting.{kept-waits}
-use Rattle.running.proofs.Going.{AheadTree, DoneTree, ends, nothing, at-run, wrote-run, wrote-kept, goes-on, closes-one, closes-both}
+use Rattle.running.proofs.Going.{DoneTree, wrote-run, wrote-kept, goes-on, closes-one, closes-both}
 
 -- a cell that waits for its first part, by the row of its kind
 pub record First (w : List ℕ) (j p q k m : ℕ) (g h : Tree) (K : List Frame) (r : Row) : Type 0 where

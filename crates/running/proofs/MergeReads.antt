@@ -2,11 +2,11 @@
 -- top value. Assumes nothing.
 use Prim.Native.Nat.{ℕ, suc, _+_, _-_, _≤_, _<_}
 use native.Mathlib.Omega.{arith}
-use mathlib.Core.Path.{_≡_, refl, sym, ap, _∙_, subst}
+use mathlib.Core.Path.{_≡_, refl, sym, ap, _∙_}
 use mathlib.Core.Bool.{true}
 use mathlib.Core.List.{List}
 use mathlib.Core.Option.{Option, none, some, orElse, Option·some-injective, Option·none-ne-some}
-use Rattle.calculus.specs.Syntax.{Term, unit, proj, size}
+use Rattle.calculus.specs.Syntax.{Term, unit, size}
 use Rattle.calculus.specs.Decide.{FieldPart, no-part, top-part, more-parts, one-part, fieldPart, value?, typeOf}
 use Rattle.calculus.specs.Evaluate.{next, firstPart, content, topValue, readParts, project}
 use Rattle.format.specs.Table.{term-sort, refers}
@@ -14,8 +14,7 @@ use Rattle.format.specs.Cell.{Cell}
 use Rattle.format.specs.Terms.{fromTerm}
 use Rattle.format.proofs.Trees.{term-cells}
 use Rattle.emission.specs.Runs.{Run}
-use Rattle.emission.proofs.Runs.{counts}
-use Rattle.emission.proofs.RunParts.{whole}
+use Rattle.emission.proofs.Runs.{last, ends, whole, at-run, counts}
 use Rattle.moving.specs.Moves.{Kept, ShiftReady, Shifts}
 use Rattle.moving.proofs.Runs.{shift-ready, run-shifted}
 use Rattle.projection.specs.Parts.{IsValueFrom, ValueFrom, ContentIs, FindsContent}
@@ -26,10 +25,9 @@ use Rattle.running.specs.Places.{Standing, doneAt, Becomes, BecomesTop, 
 use Rattle.running.specs.declared.Place.{Place}
 use Rattle.running.specs.declared.Focus.{Focus}
 use Rattle.running.specs.declared.Focus.the-variants.{Redex}
-use Rattle.running.proofs.Going.{ends, at-run}
 use Rattle.running.proofs.Entering.{Kind, k-merge, term-kind}
-use Rattle.running.proofs.Ranges.{last, redex-range}
-use Rattle.running.proofs.Projecting.{Reduct, becomes, field-read, project-is}
+use Rattle.running.proofs.Ranges.{redex-range}
+use Rattle.running.proofs.Projecting.{Reduct, reduct-of, becomes, field-read, project-is}
 
 -- ---- by the rule
 
@@ -136,24 +134,23 @@ module _ {w : List ℕ} (p : Place) (t : Cell) (d : MergeAt w p t) where
 
       pub projects-part : {v : List ℕ} → Shifts w v x (p .start) (end - x) → Becomes w v p (doneAt p (p .start + (end - x)))
       unfolding size
-      projects-part {v} m = becomes p kept (omega (arith, part-range)) reduct
+      projects-part {v} m = becomes p kept (omega (arith, part-range)) content-done
         where
           kept : Kept w v (p .start) (suc (p .root))
           kept =
               let r = part-range in
               record { long = m .kept .long; below = m .kept .below; above = λ i h. m .kept .above i (omega (arith, h, r .some, r .left)) }
 
-          reduct : (e : Term) (s : Standing w (Redex p) e) (h : Term) → next (s .focus) ≡ some h → Reduct v (p .start) (p .start + (end - x)) (size (s .focus)) h
-          reduct e s h n =
+          content-done : (e : Term) (s : Standing w (Redex p) e) (h : Term) → next (s .focus) ≡ some h → Reduct v (p .start) (p .start + (end - x)) (size (s .focus)) h
+          content-done e s h n =
               let q = field-read p t (d .at) s in
               let z = taken f (value-from s) c in
               let moved = run-shifted (at-run refl refl (omega (arith, z .some)) (z .run)) m in
               let a = counts (z .run) ∙ ap (λ (n : ℕ). x + n) (term-cells (z .part)) in
               let b = counts (q .run) ∙ ap (λ (n : ℕ). p .start + n) (term-cells (q .value)) in
-              let i : size (s .focus) ≡ size (proj (t .label) (q .value)) = ap size (q .is) in
-              subst (Reduct v (p .start) (p .start + (end - x)) (size (s .focus))) (the-part _ _ (z .is) (parts-are s n))
+              reduct-of (q .is) (the-part _ _ (z .is) (parts-are s n))
               (record {
                 final = z .final;
                 run = at-run refl (omega (arith, z .some)) refl moved;
-                small = omega (arith, a, b, i, z .low, z .some, z .high, ends (q .run));
+                small = omega (arith, a, b, z .low, z .some, z .high, ends (q .run));
               })

@@ -3,9 +3,9 @@
 use Prim.Native.Nat.{ℕ, suc, _+_, _*_, _-_, _≤_, _<_}
 use native.Mathlib.Omega.{arith}
 use mathlib.Core.Path.{_≡_, refl, sym, ap, _∙_, subst}
-use mathlib.Core.Bool.{Bool, true, false, cond}
+use mathlib.Core.Bool.{true, false}
 use mathlib.Core.List.{List}
-use mathlib.Core.Option.{none, some, Option·some-injective, Option·none-ne-some}
+use mathlib.Core.Option.{some, Option·some-injective, Option·none-ne-some}
 use lib.Dec.{eqb}
 use lib.ListN.{length}
 use lib.Seq.{sets}
@@ -21,8 +21,9 @@ use Rattle.format.specs.Terms.{fromTerm}
 use Rattle.format.proofs.Trees.{term-cells}
 use Rattle.cells.proofs.Held.{kind-of}
 use Rattle.emission.specs.Runs.{Run, r-unused, r-refers}
-use Rattle.emission.proofs.Runs.{parts, run-kind}
+use Rattle.emission.proofs.Runs.{nothing, ends, run-within, at-run, parts, run-kind}
 use Rattle.moving.specs.Moves.{Kept}
+use Rattle.typed_reduction.proofs.Casts.{when-some}
 use Rattle.running.specs.Waiting.{Waits, around}
 use Rattle.running.specs.Contexts.{Around, whole, frames}
 use Rattle.running.specs.Places.{RedexParts, of-anno, of-app, of-fix, of-proj, Standing, doneAt, AtRedex, Becomes, BecomesTop, RedexAt}
@@ -31,8 +32,8 @@ use Rattle.running.specs.declared.Focus.{Focus}
 use Rattle.running.specs.declared.Focus.the-variants.{Redex}
 use Rattle.running.proofs.Contexts.{next-inside, framed}
 use Rattle.running.proofs.Waiting.{filled, kept-waits}
-use Rattle.running.proofs.Going.{ends, nothing, at-run, wrote-kept}
-use Rattle.running.proofs.Entering.{Kind, k-unit, term-kind}
+use Rattle.running.proofs.Going.{wrote-kept}
+use Rattle.running.proofs.Entering.{Kind, k-unit, k-anno, k-app, k-proj, term-kind}
 use Rattle.running.proofs.Ranges.{RedexRange, redex-range, redex-low, Stored, stored, start-within, kind-at, kind-not}
 
 -- the size of the whole term: the cells around the focus, and the focus
@@ -56,6 +57,13 @@ redex-some (of-app c v u a b e) = omega arith
 redex-some (of-fix e r) = omega arith
 redex-some (of-proj c v a e) = omega arith
 
+-- and is what the kind of its cell says
+pub redex-kind : {w : List ℕ} {p : Place} {f : Term} {k : ℕ} → RedexParts w p f → cellAt w (p .root) .kind ≡ k → Kind k f
+redex-kind (of-anno c v a b) e = rw (sym e ∙ kind-of c) k-anno
+redex-kind (of-app c v u a b r) e = rw (sym e ∙ kind-of c) k-app
+redex-kind (of-fix s r) e = term-kind _ r e
+redex-kind (of-proj c v a r) e = rw (sym e ∙ kind-of c) k-proj
+
 -- the field read of cell t, and its value
 pub record Read (w : List ℕ) (p : Place) (f : Term) (t : Cell) : Type 0 where
   pub value : Term
@@ -63,12 +71,8 @@ pub record Read (w : List ℕ) (p : Place) (f : Term) (t : Cell) : Type 0 where
   pub final : value? value ≡ true
   pub run : Run true w (p .start) (refers term-sort) (t .a) (fromTerm value) (p .left)
 
-pub read-of : {w : List ℕ} (p : Place) {f : Term} (t : Cell) → RedexParts w p f → t ≡ cellAt w (p .root) → t .kind ≡ 25 → Read w p f t
-unfolding fromTerm table rowIn rowOf
-read-of p t (of-anno c v a b) e k = absurd (omega (arith, k, ap (λ (c : Cell). c .kind) e, kind-of c))
-read-of p t (of-app c v u a b r) e k = absurd (omega (arith, k, ap (λ (c : Cell). c .kind) e, kind-of c))
-read-of p t (of-fix r x) e k = absurd (omega (arith, k, ap (λ (c : Cell). c .kind) e, kind-of (parts x refl .cell)))
-read-of {w} p t (of-proj {v = v} c f r i) e k =
+read-of : {w : List ℕ} (p : Place) {f : Term} (t : Cell) → Kind 25 f → RedexParts w p f → t ≡ cellAt w (p .root) → Read w p f t
+read-of p t k-proj (of-proj {v = v} c f r i) e =
     let a : t .a ≡ _ = ap (λ (c : Cell). c .a) (e ∙ c .is) in
     let l : t .label ≡ _ = ap (λ (c : Cell). c .label) (e ∙ c .is) in
     record { value = v; is = ap (λ (n : ℕ). proj n v) (sym l); final = f; run = at-run refl (sym a) refl r }
@@ -78,15 +82,15 @@ next-proj : (l : ℕ) (v : Term) → value? v ≡ true → next (proj l v) ≡ p
 unfolding next
 next-proj l v f = rw (f, next) refl
 
-inside : (b : Bool) (x h : Term) → cond b (some x) none ≡ some h → x ≡ h
-inside true x h e = Option·some-injective x h e
-inside false x h e = absurd (Option·none-ne-some h e)
-
 -- a value of at most n cells that runs from start and ends before left
 pub record Reduct (w : List ℕ) (start left n : ℕ) (h : Term) : Type 0 where
   pub final : value? h ≡ true
   pub run : Run true w start (refers term-sort) (left - 1) (fromTerm h) left
   pub small : size h ≤ n
+
+-- the same of a redex f, which becomes h
+pub reduct-of : {w : List ℕ} {start left : ℕ} {f g x h : Term} → f ≡ g → x ≡ h → Reduct w start left (size g) x → Reduct w start left (size f) h
+reduct-of {w} {start} {left} {f} {x = x} i j c = subst (Reduct w start left (size f)) j (subst (λ (t : Term). Reduct w start left (size t) x) (sym i) c)
 
 -- a redex that has become such a value in place
 pub becomes : {w v : List ℕ} (p : Place) {left : ℕ} → Kept w v (p .start) (suc (p .root)) → left ≤ p .root →
@@ -159,7 +163,7 @@ module _ {w : List ℕ} {start left a : ℕ} (l : ℕ) where
   reduct-record h (v-rcd {l = i} {v = x} _) f r k m n =
       let q = parts r refl in
       let y : q .y ≡ a = nothing (q .second) ∙ nothing (q .third) in
-      subst (Reduct w start (left - 1) (size (proj l (rcd i x)))) (inside (eqb l i) x h n)
+      subst (Reduct w start (left - 1) (size (proj l (rcd i x)))) (sym (when-some (eqb l i) n))
       (record {
         final = f;
         run = at-run refl (omega (arith, ends (q .first), y, q .last)) (omega (arith, y, q .last)) (q .first);
@@ -174,13 +178,10 @@ redex-root d = redex-low (d .ready .standing .at)
 
 module _ {w : List ℕ} (p : Place) (t : Cell) (d : RedexAt w p t 25) where
   pub field-read : {e : Term} (s : Standing w (Redex p) e) → Read w p (s .focus) t
-  field-read s = read-of p t (s .at .parts) (d .cell) (d .kind)
+  field-read s = read-of p t (redex-kind (s .at .parts) (kind-at (d .cell) (d .kind))) (s .at .parts) (d .cell)
 
   pub value-within : 8 * t .a + 8 ≤ length w
-  value-within =
-      let s = d .ready .standing in
-      let r = redex-range (s .at) in
-      omega (arith, ends (field-read s .run), r .apart, r .right, r .root, s .long)
+  value-within = run-within (field-read (d .ready .standing) .run)
 
   pub value-left : 1 ≤ p .left
   value-left = omega (arith, ends (field-read (d .ready .standing) .run))
@@ -192,17 +193,13 @@ module _ {w : List ℕ} (p : Place) (t : Cell) (d : RedexAt w p t 25) where
   pub project-is : {e : Term} (s : Standing w (Redex p) e) {h : Term} → next (s .focus) ≡ some h → project (t .label) (field-read s .value) ≡ some h
   project-is s n = let q = field-read s in sym (next-proj (t .label) (q .value) (q .final)) ∙ sym (ap next (q .is)) ∙ n
 
-  sized : {v : List ℕ} {left : ℕ} {e h : Term} (s : Standing w (Redex p) e) → Reduct v (p .start) left (size (proj (t .label) (field-read s .value))) h →
-      Reduct v (p .start) left (size (s .focus)) h
-  sized {v} {left} {h = h} s c = subst (λ (n : ℕ). Reduct v (p .start) left n h) (sym (ap size (field-read s .is))) c
-
   pub projects-top : {v : Cell} → v ≡ cellAt w (t .a) → v .kind ≡ 18 → Becomes w w p (doneAt p (p .left))
   projects-top i k =
       becomes p (unchanged p) left-low
-      (λ e s h n. let q = field-read s in sized s (reduct-top (t .label) h (q .run) (term-kind (q .value) (q .run) (kind-at i k)) (project-is s n)))
+      (λ e s h n. let q = field-read s in reduct-of (q .is) refl (reduct-top (t .label) h (q .run) (term-kind (q .value) (q .run) (kind-at i k)) (project-is s n)))
 
   pub projects-record : {v : Cell} → v ≡ cellAt w (t .a) → (v .kind ≡ 18 → ⊥) → (v .kind ≡ 22 → ⊥) → Becomes w w p (doneAt p (p .left - 1))
   projects-record i k m =
       becomes p (unchanged p) (omega (arith, left-low))
       (λ e s h n. let q = field-read s in
-      sized s (reduct-record (t .label) h (value?-says (q .value) .0 (true-says _ .1 (q .final)) .1) (q .final) (q .run) (kind-not i k) (kind-not i m) (project-is s n)))
+      reduct-of (q .is) refl (reduct-record (t .label) h (value?-says (q .value) .0 (true-says _ .1 (q .final)) .1) (q .final) (q .run) (kind-not i k) (kind-not i m) (project-is s n)))

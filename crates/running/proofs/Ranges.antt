@@ -1,21 +1,17 @@
 -- Where the cells of a place lie; a cell that is read fits its fields, a cell that is written stands there. Assumes nothing.
-use Prim.Native.Nat.{ℕ, suc, _+_, _*_, _-_, _≤_, _<_}
+use Prim.Native.Nat.{ℕ, suc, _+_, _*_, _≤_, _<_}
 use native.Mathlib.Omega.{arith}
-use mathlib.Core.Bool.{Bool}
-use mathlib.Core.Path.{_≡_, refl, sym, ap, _∙_, subst}
+use mathlib.Core.Path.{_≡_, sym, ap, _∙_}
 use mathlib.Core.Logic.{_⊎_, inl, inr}
 use mathlib.Core.List.{List}
 use lib.ListN.{length}
 use lib.Seq.{sets}
 use Rattle.calculus.specs.Syntax.{Term}
-use Rattle.format.specs.Table.{Sort, refers}
-use Rattle.format.specs.Tree.{Tree}
 use Rattle.format.specs.Cell.{Cell, cellAt, cellBytes, IsBytes}
 use Rattle.format.proofs.Tests.{cell-fits}
 use Rattle.cells.specs.Held.{IsCell}
 use Rattle.cells.proofs.Held.{written}
-use Rattle.emission.specs.Runs.{Run, r-refers}
-use Rattle.emission.proofs.Runs.{grows}
+use Rattle.emission.proofs.Runs.{grows, last, ends}
 use Rattle.moving.specs.Moves.{Wrote}
 use Rattle.moving.proofs.Writing.{wrote}
 use Rattle.running.specs.Contexts.{Around}
@@ -23,7 +19,6 @@ use Rattle.running.specs.Places.{IsAhead, IsDone, IsRedex, RedexParts, o
 use Rattle.running.specs.declared.Place.{Place}
 use Rattle.running.specs.declared.Focus.the-variants.{Ahead, Done, Redex}
 use Rattle.running.proofs.Waiting.{waits-right}
-use Rattle.running.proofs.Going.{ends}
 use Rattle.running.proofs.Unwinding.{waits-up}
 
 -- a waiting cell, if any, stands from q on
@@ -37,10 +32,6 @@ above-some (inr a) h = a
 pub above-low : {q up : ℕ} → Above q up → up < 8192
 above-low (inl e) = omega (arith, e)
 above-low (inr a) = a .1
-
--- a run of something that is referred to has a last cell
-pub last : {q : Bool} {s : List ℕ} {x n e : ℕ} {o : Sort} {t : Tree} → Run q s x (refers o) n t e → x ≤ n
-last (r-refers p k m f g h z d) = omega (arith, grows f, grows g, grows h)
 
 pub record DoneRange (p : Place) : Type 0 where
   pub some : 1 ≤ p .left

@@ -42,7 +42,7 @@ both-read A B e x = go (cast A e) (cast B e) refl refl
     go (some u) (some w) f g h =
         record { first = u; second = w; is = sym (Option·some-injective _ _ h); casts-first = f; casts-second = g }
 
-when-some : {x y : Term} (t : Bool) → cond t (some y) none ≡ some x → x ≡ y
+pub when-some : {x y : Term} (t : Bool) → cond t (some y) none ≡ some x → x ≡ y
 when-some true e = sym (Option·some-injective _ _ e)
 when-some false e = no-answer e
 

@@ -22,13 +22,12 @@ use Rattle.format.specs.Cell.{Cell, cellAt}
 use Rattle.format.specs.Tree.{kindIn}
 use Rattle.format.specs.Terms.{fromType}
 use Rattle.cells.specs.Held.{HoldsType}
-use Rattle.cells.proofs.Held.{kindOf, kind-of-held, int-at, lit-at, held-one}
+use Rattle.cells.proofs.Held.{top-like, not-top-like, kindOf, kind-of-held, int-at, lit-at, held-one}
 use Rattle.emission.specs.Runs.{RunsType, RunsTerm}
 use Rattle.emission.proofs.Runs.{holds-type, holds-term}
 use Rattle.emission.proofs.RunParts.{TwoTypes, OneType, FunctionAt, OneTerm, arrow-at, inter-at, field-at, lam-at, merge-at, rcd-at}
 use Rattle.decisions.specs.Questions.{TypesAt, TypesSay}
 use Rattle.decisions.proofs.Parts.{and-both}
-use Rattle.decisions.proofs.Heads.{top-like, not-top-like}
 use Rattle.typed_reduction.specs.Casting.{isSome, ValueAndType, Castable, ProperAt, NoMerge, SingleAt, PartBy, FindsPart, PartOf}
 use Rattle.typed_reduction.specs.declared.Part.{Part}
 use Rattle.typed_reduction.specs.declared.Part.the-variants.{At, Nothing}

@@ -20,8 +20,7 @@ use Rattle.format.specs.Terms.{fromType, fromTerm}
 use Rattle.format.proofs.Tests.{number}
 use Rattle.emission.proofs.Emitting.{fields-fit}
 use Rattle.cells.specs.Held.{HoldsTerm}
-use Rattle.cells.proofs.Held.{kind-of-held, int-at, held-within}
-use Rattle.decisions.proofs.Heads.{top-like, not-top-like}
+use Rattle.cells.proofs.Held.{top-like, not-top-like, kind-of-held, int-at, held-within}
 use Rattle.emission.specs.Emits.{Space, Emits, LastReady, Finishes}
 use Rattle.emission.specs.Runs.{Run, RunsType, RunsTerm}
 use Rattle.emission.specs.Copies.{RunReady, EmitsRun, EndReady, EmitsEnd}

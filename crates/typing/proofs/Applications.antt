@@ -13,7 +13,7 @@ use Rattle.format.specs.Book.{follow}
 use Rattle.answers.specs.declared.Refusal.{Refusal}
 use Rattle.answers.specs.declared.Refusal.the-variants.{Application}
 use Rattle.cells.specs.Held.{HoldsType, HoldsTerm, HoldsContext}
-use Rattle.cells.proofs.Held.{kind-of-held, same-held, same-trans}
+use Rattle.cells.proofs.Held.{read-kind, same-held, same-trans}
 use Rattle.typing.specs.declared.Found.{Found}
 use Rattle.typing.specs.declared.Found.the-variants.{Typed, Refused}
 use Rattle.typing.specs.Finding.{Answered, Finds, ReadyFor, checkedHere, Checks}
@@ -67,8 +67,8 @@ module _ {s u : List ℕ} {n c i x k μ : ℕ} {y : Cell} (p : Read s n c i 20 �
       where
         go : (m : ℕ) (F : Infer.Found) (A : Ty) → HoldsType u x A → Answered s u n m i (Refused (Application i)) (applied (Infer.found A) F)
         go m F int h = (Application i, refl, refl)
-        go m F top h = absurd (a (ap (λ (z : Cell). z .kind) t ∙ kind-of-held h))
-        go m F (arrow A B) h = absurd (b (ap (λ (z : Cell). z .kind) t ∙ kind-of-held h))
+        go m F top h = absurd (a (read-kind t h))
+        go m F (arrow A B) h = absurd (b (read-kind t h))
         go m F (inter A B) h = (Application i, refl, refl)
         go m F (field l A) h = (Application i, refl, refl)
 

@@ -17,12 +17,12 @@ use Rattle.projection.specs.declared.FieldPart.the-variants.{TopLike, One}
 use Rattle.projection.specs.Parts.{PartIs, FindsFieldPart}
 use Rattle.projection.proofs.TypeParts.{Told, told}
 use Rattle.typing.specs.declared.Found.the-variants.{Typed, Refused}
-use Rattle.typing.specs.Finding.{Answered, Adds, FieldReady, FindsField}
+use Rattle.typing.specs.Finding.{Answered, Adds, FindFieldReady, FindsField}
 
 tells : {s : List ℕ} {a l : ℕ} {r x : FieldPart} {A : Ty} → FindsFieldPart s a l r → r ≡ x → HoldsType s a A → Told s a x (fieldPart l A)
 tells {s} {a} {r = r} f e h = rw (← e) (told s a r _ (f .says _ h))
 
-module _ {s : List ℕ} {n a l i : ℕ} {r : FieldPart} (p : FieldReady s n a) (f : FindsFieldPart s a l r) where
+module _ {s : List ℕ} {n a l i : ℕ} {r : FieldPart} (p : FindFieldReady s n a) (f : FindsFieldPart s a l r) where
   pub field-one : {b : ℕ} → r ≡ One b → FindsField s s n a l i (Typed b n)
   unfolding picked
   field-one {b} e = record {

@@ -13,12 +13,12 @@ use Rattle.format.specs.Cell.{Cell, cellAt}
 use Rattle.answers.specs.declared.Refusal.{Refusal}
 use Rattle.cells.specs.Held.{HoldsType, HoldsTerm, HoldsContext, Same}
 use Rattle.cells.proofs.Makes.{h-arrow}
-use Rattle.cells.proofs.Held.{same-held, same-trans, held-within, type-mark}
+use Rattle.cells.proofs.Held.{same-held, same-trans, held-within, type-mark, mark-one}
 use Rattle.typing.specs.declared.Found.{Found}
 use Rattle.typing.specs.declared.Found.the-variants.{Typed, Refused}
 use Rattle.typing.specs.Finding.{Finds, ReadyFor, checkedHere, Checks, RoomFor, Adds, BinderBelow, Binds}
 use Rattle.typing.proofs.Answers.{Answer, checking, typed, refused-by, handed, carried, checked-carried}
-use Rattle.typing.proofs.Parts.{mark-one, Function, Noted, ready-body, Read, AtCell, lam-of, fix-of}
+use Rattle.typing.proofs.Parts.{Function, Noted, ready-body, Read, AtCell, lam-of, fix-of}
 use Rattle.typing.proofs.Checking.{carried-on}
 
 -- ---- a function

@@ -17,12 +17,11 @@ use Rattle.format.specs.Book.{follow}
 use Rattle.answers.specs.declared.Refusal.the-variants.{Unbound}
 use Rattle.cells.specs.Held.{mark, HoldsType, HoldsTerm, HoldsContext, h-empty, h-bind}
 use Rattle.cells.proofs.Makes.{h-int, h-top, h-inter}
-use Rattle.cells.proofs.Held.{same-held, same-context, same-refl, type-mark, written, var-at, lit-at, unit-at}
+use Rattle.cells.proofs.Held.{same-held, same-context, same-refl, type-mark, mark-one, written, var-at, lit-at, unit-at}
 use Rattle.typing.specs.declared.Found.the-variants.{Typed, Refused}
 use Rattle.typing.specs.declared.Bound.{Bound}
 use Rattle.typing.specs.declared.Bound.the-variants.{At, Free}
 use Rattle.typing.specs.Finding.{Answered, ReadyAt, Finds, BoundBy, ContextAt, Looks, RoomFor, Adds, BinderBelow, Binds, TypesBelow, AddsInter}
-use Rattle.typing.proofs.Parts.{mark-one}
 
 -- ---- contexts
 

@@ -4,18 +4,16 @@ use Prim.Native.Nat.{ℕ, zero, suc, _+_, _*_, _≤_, _<_}
 use native.Mathlib.Omega.{arith}
 use mathlib.Core.Path.{_≡_, refl, _∙_}
 use mathlib.Core.Logic.{_⊎_, inl, inr, ⊎-elim}
-use mathlib.Core.Bool.{Bool, true, false, cond}
 use mathlib.Core.List.{List, _∷_}
 use mathlib.Core.Option.{some}
 use lib.ListN.{length}
 use Rattle.calculus.specs.Syntax.{Ty, top, arrow, field}
 use Rattle.calculus.specs.Syntax.{Term, anno, app, lam, merge, fix, rcd, proj, size}
 use Rattle.calculus.specs.Infer.{infer}
-use Rattle.calculus.specs.Decide.{topLike?}
 use Rattle.format.specs.Table.{term-sort, refers, Row, table, rowIn, rowOf}
 use Rattle.format.specs.Cell.{Cell, cellAt}
 use Rattle.format.proofs.Trees.{term-cells, term-positive}
-use Rattle.cells.specs.Held.{mark, HoldsType, HoldsTerm, Same}
+use Rattle.cells.specs.Held.{HoldsType, HoldsTerm, Same}
 use Rattle.cells.proofs.Held.{TermAndType, TwoTerms, OneTerm, held-kinds, top-at, arrow-at, field-at, anno-at, app-at, lam-at, merge-at, fix-at, rcd-at, proj-at}
 use Rattle.cells.proofs.Held.{same-held, same-context}
 use Rattle.typing.specs.declared.Found.{Found}
@@ -26,13 +24,6 @@ use Rattle.typing.proofs.Answers.{finding, IsFound, typed}
 
 pub size-one : (e : Term) → 1 ≤ size e
 size-one e = omega (arith, term-cells e, term-positive e)
-
-pub mark-one : (A : Ty) → mark A ≤ 1
-mark-one A = go (topLike? A)
-  where
-    go : (b : Bool) → cond b 1 0 ≤ 1
-    go true = omega arith
-    go false = omega arith
 
 -- field f of cell i is the lower cell j, which holds the term e
 pub record Part (s : List ℕ) (i f j : ℕ) (e : Term) : Type 0 where

@@ -131,7 +131,7 @@ pub record AddsInter (s t : List ℕ) (n a b : ℕ) (r : Found) : Type 0 where
   pub holds : (A B : Ty) → HoldsType s a A → HoldsType s b B → HoldsType t n (inter A B)
 
 -- A type below n, and room for a cell.
-pub record FieldReady (s : List ℕ) (n a : ℕ) : Type 0 where
+pub record FindFieldReady (s : List ℕ) (n a : ℕ) : Type 0 where
   pub long : length s ≡ 65536
   pub type : TypeAt s a
   pub below : a < n

@@ -9,7 +9,7 @@ use decisions::subtype;
 use projection::FieldPart;
 use projection::type_part;
 ghost use Rattle.typing.specs.Finding.{FindReady, ReadyAt, Finds, ReadyFor, Checks, ContextAt, Looks};
-ghost use Rattle.typing.specs.Finding.{ReadyTwo, RoomFor, Adds, BinderBelow, Binds, TypesBelow, AddsInter, FieldReady, FindsField};
+ghost use Rattle.typing.specs.Finding.{ReadyTwo, RoomFor, Adds, BinderBelow, Binds, TypesBelow, AddsInter, FindFieldReady, FindsField};
 
 // A cell that holds the type, and the count of cells used; or why there is none.
 pub enum Found {
@@ -191,7 +191,7 @@ fn find_rcd(s: &mut [u8], n: usize, c: usize, i: usize) -> Found
 // A field read at i over the intersection at a: the content's type where one part has the field; Top, in a cell more, where none has it
 // and some part is top-like.
 fn find_field(s: &mut [u8], n: usize, a: usize, label: u8, i: usize) -> Found
-    requires { ⌜ FieldReady (now s) n a ⌝ }
+    requires { ⌜ FindFieldReady (now s) n a ⌝ }
     ensures { λ r. ⌜ FindsField (now (s .entry)) (now (s .exit)) n a label i r ⌝ }
 {
     let part = type_part(s, a, label);

@@ -1,7 +1,8 @@
 -- `shows_top_like` meets its contract. The measure is the value's cell, which falls from a value to its parts. Assumes nothing.
 use native.Mathlib.Omega.{arith}
 use mathlib.Core.Path.{_≡_}
-use Rattle.projection.proofs.Values.{Halves, value-within, output-within, halves, inside, record-left}
+use Rattle.emission.proofs.Runs.{run-within}
+use Rattle.projection.proofs.Values.{Halves, output-within, halves, inside, record-left}
 use Rattle.projection.proofs.Values.{shows-number, shows-top, shows-function, shows-both, shows-not-first, shows-content}
 use Prim.Native.Nat.{ℕ, _<_}
 use borrow.Fn.Kinds.{In}
@@ -80,7 +81,7 @@ module _ (t : ℕ) where
 pub +shows-top-like-spec : {M : Type 1} → statement M
 +shows-top-like-spec =
     close μ λ t. lts.spec (calls t) (at t) shows-top-like.Post
-    (λ c κs. value-within (c .before .pre .1 .from .is))
+    (λ c κs. run-within (c .before .pre .1 .from .is .run))
     (λ c κs. output-within (c .before .read-cell .ensures) (c .before .before .before .pre .1) (c .match .keys3))
     (first-requires t)
     (second-requires t)

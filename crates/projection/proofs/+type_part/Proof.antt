@@ -3,7 +3,7 @@ use native.Mathlib.Omega.{arith}
 use mathlib.Core.Logic.{⊎-elim}
 use borrow.Author.Tests.{eqb-true, eqb-false}
 use Rattle.cells.proofs.Held.{held-within}
-use Rattle.projection.proofs.TypeParts.{marked, first-asks, second-asks, halves, here, absent}
+use Rattle.projection.proofs.TypeParts.{marked, asks, halves, here, absent}
 use Prim.Native.Nat.{ℕ, _<_}
 use borrow.Fn.Kinds.{In}
 use borrow.Fn.PlainCycle.{Measures, is, falls, and}
@@ -47,8 +47,8 @@ pub +type-part-spec : {M : Type 1} → statement M
     λ t. type-part-lts.spec (type-part-calls t) (type-part-at t) type-part.Post
     (λ c κs. held-within (c .before .pre .1 .holds))
     (λ c. marked (c .before .before .read-cell .ensures) (c .if1 .taken))
-    (λ c κs. let read = c .before .before .before .before in let start = read .before .before in let v = first-asks (read .read-cell .ensures) (c .if2 .taken) (start .pre .1) in (omega (arith, v .less, start .pre .0), v .at))
-    (λ c κs. let read = c .before .before .before .before .before in let start = read .before .before in let v = second-asks (read .read-cell .ensures) (c .before .if2 .taken) (start .pre .1) in (omega (arith, v .less, start .pre .0), v .at))
+    (λ c κs. let read = c .before .before .before .before in let start = read .before .before in let v = asks (read .read-cell .ensures) (c .if2 .taken) (start .pre .1) .0 in (omega (arith, v .less, start .pre .0), v .at))
+    (λ c κs. let read = c .before .before .before .before .before in let start = read .before .before in let v = asks (read .read-cell .ensures) (c .before .if2 .taken) (start .pre .1) .1 in (omega (arith, v .less, start .pre .0), v .at))
     (λ c κs. tt)
     (λ c. let first = c .before .before in let read = first .before .before .before .before .before in halves (read .read-cell .ensures) (first .before .if2 .taken) (first .type-part .ensures) (c .before .type-part2 .ensures) (c .both .ensures))
     (is-here t)

@@ -3,7 +3,8 @@ use native.Mathlib.Omega.{arith}
 use mathlib.Core.Logic.{⊎-elim}
 use borrow.Author.Needs.{needs}
 use borrow.Author.Tests.{eqb-true, eqb-false, not-true, not-false}
-use Rattle.projection.proofs.Values.{Halves, value-within, halves, inside}
+use Rattle.emission.proofs.Runs.{run-within}
+use Rattle.projection.proofs.Values.{Halves, halves, inside}
 use Rattle.projection.proofs.Values.{finds-left, finds-right, finds-content, finds-top-like, finds-nothing}
 use Prim.Native.Nat.{ℕ, _<_}
 use borrow.Fn.Kinds.{In}
@@ -44,7 +45,7 @@ module _ (t : ℕ) where
   merged c = let read = at-merge c in halves (read .read-cell .ensures) (read .before .before .pre .1) (c .if1 .taken)
 
   read-cell-requires : lts.Need-read-cell-requires (calls t) (at t) value-part.Post
-  read-cell-requires c κs = value-within (c .before .pre .1 .is)
+  read-cell-requires c κs = run-within (c .before .pre .1 .is .run)
 
   left-requires : lts.Need-value-part-requires (calls t) (at t) value-part.Post
   left-requires c κs = let h = merged c in (omega (arith, h .first-lower, at-merge c .before .before .pre .0), h .first)
