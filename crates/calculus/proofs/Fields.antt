@@ -1,5 +1,5 @@
--- Fields found inside a merge: the test answers what the relations say, a runtime subtype has the field in the same part, and a value with one such part has one
--- content. Assumes nothing.
+-- Fields found inside a merge: the test answers what the relations say, over the parts in any order, a runtime subtype has the field in the same part, and a
+-- value with one such part has one content. Assumes nothing.
 use Prim.Native.Nat.{ℕ, _≤_}
 use native.Mathlib.Omega.{arith}
 use mathlib.Core.Path.{_≡_, refl, ap, subst}
@@ -60,6 +60,52 @@ several-not-one (m-right s) (o-left o n) = several-not-none s n
 several-not-one (m-right s) (o-right n o) = several-not-one s o
 several-not-one (m-both p q) (o-left o n) = one-not-none q n
 several-not-one (m-both p q) (o-right n o) = one-not-none p n
+
+-- ---- the parts of an intersection, in any order
+
+pub both-comm : (p q : FieldPart) → bothParts p q ≡ bothParts q p
+unfolding bothParts
+both-comm no-part no-part = refl
+both-comm no-part top-part = refl
+both-comm no-part more-parts = refl
+both-comm no-part (one-part D) = refl
+both-comm top-part no-part = refl
+both-comm top-part top-part = refl
+both-comm top-part more-parts = refl
+both-comm top-part (one-part D) = refl
+both-comm more-parts no-part = refl
+both-comm more-parts top-part = refl
+both-comm more-parts more-parts = refl
+both-comm more-parts (one-part D) = refl
+both-comm (one-part C) no-part = refl
+both-comm (one-part C) top-part = refl
+both-comm (one-part C) more-parts = refl
+both-comm (one-part C) (one-part D) = refl
+
+pub both-assoc : (p q r : FieldPart) → bothParts (bothParts p q) r ≡ bothParts p (bothParts q r)
+unfolding bothParts
+both-assoc no-part q r = refl
+both-assoc more-parts q r = refl
+both-assoc top-part no-part r = refl
+both-assoc top-part top-part no-part = refl
+both-assoc top-part top-part top-part = refl
+both-assoc top-part top-part more-parts = refl
+both-assoc top-part top-part (one-part E) = refl
+both-assoc top-part more-parts r = refl
+both-assoc top-part (one-part D) no-part = refl
+both-assoc top-part (one-part D) top-part = refl
+both-assoc top-part (one-part D) more-parts = refl
+both-assoc top-part (one-part D) (one-part E) = refl
+both-assoc (one-part C) no-part r = refl
+both-assoc (one-part C) top-part no-part = refl
+both-assoc (one-part C) top-part top-part = refl
+both-assoc (one-part C) top-part more-parts = refl
+both-assoc (one-part C) top-part (one-part E) = refl
+both-assoc (one-part C) more-parts r = refl
+both-assoc (one-part C) (one-part D) no-part = refl
+both-assoc (one-part C) (one-part D) top-part = refl
+both-assoc (one-part C) (one-part D) more-parts = refl
+both-assoc (one-part C) (one-part D) (one-part E) = refl
 
 -- ---- what each answer of fieldPart says, and that it answers so wherever that holds
 

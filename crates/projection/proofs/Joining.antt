@@ -38,6 +38,13 @@ module _ {x y : FieldPart} where
       go s a (one-part C) more-parts h k = rw (h .1, k) refl
       go s a (one-part C) (one-part D) h k = rw (h .1, k .1) refl
 
+-- Nothing more found.
+pub beside-none : (x : FieldPart) → joined x Absent ≡ x
+beside-none Absent = refl
+beside-none TopLike = refl
+beside-none (One a) = refl
+beside-none More = refl
+
 -- The last arm of each second match.
 pub beside-top : (y : FieldPart) → ¬ (y ≡ Absent) → joined TopLike y ≡ y
 beside-top Absent n = absurd (n refl)

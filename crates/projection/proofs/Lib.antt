@@ -1,3 +1,4 @@
 pub mod Joining
 pub mod TypeParts
 pub mod Values
+pub mod Walk

@@ -9,6 +9,7 @@ use Rattle.calculus.specs.Decide as Decide
 use Rattle.calculus.specs.Decide.{topLike?, fieldPart, bothParts, value?, typeOf}
 use Rattle.calculus.specs.Evaluate.{firstPart, content}
 use Rattle.format.specs.Table.{term-sort, refers}
+use Rattle.format.specs.Cell.{Cell, cellAt}
 use Rattle.format.specs.Terms.{fromTerm}
 use Rattle.cells.specs.Held.{HoldsType}
 use Rattle.emission.specs.Runs.{Run}
@@ -36,6 +37,10 @@ pub record Joins (x y r : FieldPart) : Type 0 where
 -- The part of the type that has the field of label l.
 pub record FindsFieldPart (s : List ℕ) (a l : ℕ) (r : FieldPart) : Type 0 where
   pub says : (A : Ty) → HoldsType s a A → PartIs s a r (fieldPart l A)
+
+-- The same of the type whose cell is x, wherever it is, unless it is an intersection that is not top-like.
+pub record FindsSingle (x : Cell) (l : ℕ) (r : FieldPart) : Type 0 where
+  pub says : (s : List ℕ) (a : ℕ) → x ≡ cellAt s a → (x .kind ≡ 4 → x .c ≡ 1) → FindsFieldPart s a l r
 
 -- The value e, its cells from start on, its last cell v.
 pub record IsValueFrom (s : List ℕ) (start v : ℕ) (e : Term) : Type 0 where

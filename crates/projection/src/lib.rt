@@ -1,7 +1,9 @@
 // The part that a field read takes: of an intersection the type, of a merge of values the content. Answers only: nothing is written, no function
 // keeps an array, and a part is cells, never a copy. Cell numbers fall from call to call.
+use cells::Cell;
 use cells::read_cell;
-ghost use Rattle.projection.specs.Parts.{TypeAt, Joins, FindsFieldPart, ValueAt, ShowsTopLike, ValueFrom, FindsContent};
+ghost use Rattle.cells.specs.Coded.{asCell};
+ghost use Rattle.projection.specs.Parts.{TypeAt, Joins, FindsFieldPart, FindsSingle, ValueAt, ShowsTopLike, ValueFrom, FindsContent};
 
 // The part of a type that has the field: none, and none is top-like; none, but some part is top-like; one, its content the type at a cell; more
 // than one.
@@ -31,24 +33,47 @@ fn both(x: FieldPart, y: FieldPart) -> FieldPart
     }
 }
 
-// The part of the type at a that has the field. A top-like type has only top-like parts.
-pub fn type_part(s: &[u8], a: usize, label: u8) -> FieldPart
-    requires { ⌜ TypeAt (now s) a ⌝ }
-    ensures { λ r. ⌜ FindsFieldPart (now (s .entry)) a label r ⌝ }
+// The same of one cell: a type that is no intersection, or one that is top-like and so has only top-like parts.
+fn single_part(x: Cell, label: u8) -> FieldPart
+    ensures { λ r. ⌜ FindsSingle (asCell x) label r ⌝ }
 {
-    let x = read_cell(s, a);
     if x.c == 1 {
         return FieldPart::TopLike;
-    }
-    if x.kind == 4 {
-        let left = type_part(s, x.a, label);
-        let right = type_part(s, x.b, label);
-        return both(left, right);
     }
     if x.kind == 5 && x.label == label {
         return FieldPart::One(x.a);
     }
     FieldPart::Absent
+}
+
+// The part of the type at a that has the field. Of two halves the one that is a single part, or top-like, is asked first, and the walk goes on with
+// the other, cell x at i. Most halves say nothing and leave what was found where it is.
+pub fn type_part(s: &[u8], a: usize, label: u8) -> FieldPart
+    requires { ⌜ TypeAt (now s) a ⌝ }
+    ensures { λ r. ⌜ FindsFieldPart (now (s .entry)) a label r ⌝ }
+{
+    let mut found = FieldPart::Absent;
+    let mut i = a;
+    let mut x = read_cell(s, i);
+    while x.kind == 4 && x.c != 1 {
+        let y = read_cell(s, x.b);
+        if y.kind == 4 && y.c != 1 {
+            let left = type_part(s, x.a, label);
+            found = both(found, left);
+            i = x.b;
+            x = y;
+        } else {
+            i = x.a;
+            x = read_cell(s, i);
+            let right = single_part(y, label);
+            let FieldPart::Absent = right else {
+                found = both(found, right);
+                continue;
+            };
+        }
+    }
+    let last = single_part(x, label);
+    both(found, last)
 }
 
 // The cells of a content, from the first on before the second.
