@@ -1,8 +1,7 @@
 -- Runtime subtyping: what it keeps of subtyping, top-likeness and disjointness. Assumes nothing.
-use Prim.Native.Nat.{ℕ}
 use mathlib.Core.Path.{_≡_, refl, ap, ap₂, fun-ext, sym}
 use mathlib.Core.Bool.{_&&_}
-use Rattle.calculus.specs.Syntax.{Ty, top, arrow, inter, field}
+use Rattle.calculus.specs.Syntax.{Ty}
 use Rattle.calculus.specs.Subtyping.{TopLike, Below, b-top, b-left, b-right, b-both, b-arrow, b-field}
 use Rattle.calculus.specs.Disjointness.{Disjoint}
 use Rattle.calculus.specs.Runtime.{Runtime, r-refl, r-top, r-arrow, r-inter, r-field}
