@@ -5,9 +5,10 @@ use compare::comparing::Execution;
 use compare::deepest::merges;
 use compare::extremes::{left, times};
 use compare::families::families;
+use compare::loops::{accumulated, countdown, triangular};
 use compare::random::Random;
 use compare::samples::{doubled, own_fixpoint};
-use evaluator::{decode, kind, Answer, Cell, Term, Type};
+use evaluator::{decode, encode_term, kind, Answer, Cell, Term, Type};
 
 pub type Named = (String, Vec<u8>);
 
@@ -17,6 +18,10 @@ pub fn int() -> Type {
 
 fn top() -> Type {
     Type::top()
+}
+
+fn number(n: i32) -> Term {
+    Term::number(n)
 }
 
 /// The term as a book, equal cells shared.
@@ -63,6 +68,11 @@ pub fn full() -> Vec<Named> {
         named("2,047 nested merges, to the right", times(2_047, Term::top(), |e| Term::merge(Term::top(), e))),
         named("2,047 nested fixpoints", times(2_047, Term::top(), |e| Term::fixpoint(e, top()))),
         named("1,364 nested functions", times(1_364, Term::variable(0), |e| Term::function(e, top(), top()))),
+        named("2,047 nested sums, to the left", times(2_047, number(1), |e| Term::sum(e, number(1)))),
+        named("2,047 nested sums, to the right", times(2_047, number(1), |e| Term::sum(number(1), e))),
+        named("1,364 nested choices, in a", times(1_364, number(0), |e| Term::choice(e, number(0), number(1)))),
+        named("1,364 nested choices, in b", times(1_364, number(0), |e| Term::choice(number(0), e, number(1)))),
+        named("1,364 nested choices, in c", times(1_364, number(0), |e| Term::choice(number(1), number(1), e))),
         ("the top value merged with itself 11 times".to_string(), doubled(zeroed(kind::TOP_VALUE), 11)),
     ];
     books.extend(merged);
@@ -109,8 +119,14 @@ pub fn costly() -> Vec<Named> {
         named("2,048 equal numbers, to the right", right_nested),
         named("2,048 equal numbers, balanced", balanced),
         named("600 records of one label against 600", Term::merge(alike.clone(), alike)),
+        ("two equal bodies of 1,020 sums, unshared".to_string(), encode_term(&Term::merge(summing(1_020), summing(1_020)))),
         ("two equal doubling chains of 39 cells".to_string(), two_chains()),
     ]
+}
+
+/// A function that adds its argument to 1 so many times.
+fn summing(count: usize) -> Term {
+    Term::function(times(count, number(1), |e| Term::sum(e, Term::variable(0))), int(), int())
 }
 
 fn two_chains() -> Vec<u8> {
@@ -147,6 +163,18 @@ pub fn carrying(count: usize) -> Vec<u8> {
 pub fn with_constant(count: usize) -> Vec<u8> {
     let dropped = |e: Term| Term::annotation(Term::merge(e, records(count, Term::number(1))), int());
     shared(&calls_itself(dropped, Term::number(1), int()))
+}
+
+/// Loops that count: each turn has a call, a sum and a choice, or two sums, and makes the term larger by a few cells.
+pub fn counting() -> Vec<Named> {
+    vec![
+        named("down from 100", countdown(100, 1, 7)),
+        named("down from 1,000", countdown(1_000, 1, 7)),
+        named("down from -1, which does not end", countdown(-1, 1, 7)),
+        named("all numbers to 100 added up", triangular(100)),
+        named("all numbers to 650 added up", triangular(650)),
+        named("the same to 900, the total carried along", accumulated(900)),
+    ]
 }
 
 /// The fixpoint at Int whose body is its own variable: two cells more each step.

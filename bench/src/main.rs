@@ -100,6 +100,31 @@ fn long_runs(title: &str) {
     }
 }
 
+/// The steps of a run over its time, which has the check in it; nothing if there are none.
+fn steps_a_second(answer: Answer, seconds: f64) -> String {
+    match answer {
+        Answer::Value { steps } | Answer::Spent { steps } | Answer::Room { steps } if steps > 0 => {
+            format!("{:.0}", f64::from(steps) / seconds)
+        }
+        _ => "-".to_string(),
+    }
+}
+
+fn counting_loops(title: &str) {
+    head(
+        title,
+        "book, answer, engine ms, evaluator ms, from the root ms, engine: steps a second, evaluator: steps a second, \
+         engine / evaluator, engine / from the root",
+    );
+    for (name, book) in books::counting() {
+        let Timed { answer, seconds } = race(&THREE, DESK, &[book]);
+        let [a, b, c] = [0, 1, 2].map(|side| ms(seconds[side]));
+        let [one, other] = [0, 1].map(|side| steps_a_second(answer, seconds[side]));
+        let (first, second) = (ratio(&seconds, 1), ratio(&seconds, 2));
+        println!("| {name} | {} | {a} | {b} | {c} | {one} | {other} | {first} | {second} |", shown(answer));
+    }
+}
+
 fn samples(title: &str) {
     head(
         title,
@@ -109,12 +134,7 @@ fn samples(title: &str) {
         let books = [book];
         let check = race(&TWO, Call::Check, &books).seconds;
         let Timed { answer, seconds } = race(&THREE, DESK, &books);
-        let rate = match answer {
-            Answer::Value { steps } | Answer::Spent { steps } | Answer::Room { steps } if steps > 0 => {
-                format!("{:.0}", f64::from(steps) / seconds[0])
-            }
-            _ => "-".to_string(),
-        };
+        let rate = steps_a_second(answer, seconds[0]);
         let (first, second) = (ratio(&seconds, 1), ratio(&seconds, 2));
         let (check, over) = (ms(check[0]), ratio(&check, 1));
         println!("| {name} | {} | {check} | {over} | {} | {rate} | {first} | {second} |", shown(answer), ms(seconds[0]));
@@ -136,6 +156,7 @@ fn growth_of_the_check(title: &str) {
     for n in [512, 1_024, 2_048, 4_095] {
         rows.push(("nested records", times(n - 1, Term::number(1), |e| Term::record(7, e))));
         rows.push(("nested annotations", times((n - 1) / 2, Term::number(1), |e| Term::annotation(e, books::int()))));
+        rows.push(("nested sums", times((n - 1) / 2, Term::number(1), |e| Term::sum(e, Term::number(1)))));
     }
     rows.sort_by_key(|(name, _)| *name);
     let books: Vec<Vec<u8>> = rows.iter().map(|(_, term)| encode_term(term)).collect();
@@ -204,13 +225,14 @@ fn casts(title: &str) {
 /// A table, from its title on.
 type Table = fn(&str);
 
-const TABLES: [(&str, Table); 12] = [
+const TABLES: [(&str, Table); 13] = [
     ("Small typed books together", small_books),
     ("Books of 4,095 cells: check", |title| table(title, &TWO, Call::Check, &books::full())),
     ("Books of 4,095 cells: run, limit 10,000", |title| table(title, &THREE, DESK, &books::full())),
     ("Field reads of a merge: check", |title| table(title, &TWO, Call::Check, &books::field_reads())),
     ("Field reads of a merge: run, limit 10,000", |title| table(title, &THREE, DESK, &books::field_reads())),
     ("Long runs", long_runs),
+    ("Counting loops: run, limit 10,000", counting_loops),
     ("Costly books: check", |title| table(title, &TWO, Call::Check, &books::costly())),
     ("The sample books: check, and run with limit 10,000", samples),
     ("Growth: the check", growth_of_the_check),

@@ -5,7 +5,7 @@ use crate::deepest::merges;
 use crate::extremes::{left, times};
 use crate::maker::{Maker, Weights, EVEN, LABELS};
 use crate::random::Random;
-use evaluator::{kind, successors, Term, Type, TypeShape, SIZE_LIMIT};
+use evaluator::{kind, subtype, successors, Term, Type, TypeShape, SIZE_LIMIT};
 
 /// A term and its type.
 pub type Typed = (Term, Type);
@@ -35,10 +35,28 @@ fn beside(place: usize, random: &mut Random) -> Typed {
     }
 }
 
-/// The term within one thing more, in which it steps first or once what is left of it is a value.
+/// The term in a sum or choice: a part that runs, or the branch that is taken. What is not below Int stands in a field beside a number.
+fn in_numbers((term, of): Typed, place: usize, random: &mut Random) -> Typed {
+    let part = match subtype(&of, &int()) {
+        true => term,
+        false => Term::merge(Term::number(random.lower(3) as i32), Term::record(own_label(place), term)),
+    };
+    let number = Term::number(random.lower(5) as i32 - 2);
+    let other = if random.once_in(2) { Term::annotation(number, int()) } else { number };
+    let whole = match random.lower(5) {
+        0 => Term::sum(part, other),
+        1 => Term::sum(other, part),
+        2 => Term::choice(part, other, Term::number(4)),
+        3 => Term::choice(Term::number(0), part, other),
+        _ => Term::choice(Term::number(-1), other, part),
+    };
+    (whole, int())
+}
+
+/// The term within one thing more, in which it steps first, once what is left of it is a value, or once it is chosen.
 fn within((term, of): Typed, place: usize, random: &mut Random) -> Typed {
     let label = *random.pick(&LABELS);
-    match random.lower(9) {
+    match random.lower(10) {
         0 => (Term::record(label, term), Type::record(label, of)),
         1 => (Term::projection(label, Term::record(label, term)), of),
         2 => {
@@ -63,6 +81,7 @@ fn within((term, of): Typed, place: usize, random: &mut Random) -> Typed {
         }
         6 => (Term::application(Term::top(), term), top()),
         7 => applied((term, of), random),
+        8 => in_numbers((term, of), place, random),
         _ => {
             let (other, _) = beside(place, random);
             let record = Term::merge(Term::record(label, term), other);
@@ -85,6 +104,13 @@ fn applied((term, of): Typed, random: &mut Random) -> Typed {
 /// The term within so many.
 pub fn within_many(typed: Typed, count: usize, random: &mut Random) -> Typed {
     (0..count).fold(typed, |typed, place| within(typed, place, random))
+}
+
+/// The part that steps next: the leftmost of those that run that is no value.
+pub fn redex(term: &Term) -> &Term {
+    let node = term.node();
+    let steps = |(field, _, part): (usize, u32, _)| (field < node.row.running && !Term::is_value(part)).then_some(part);
+    node.terms().find_map(steps).map_or(term, redex)
 }
 
 fn one_book(term: &Term, random: &mut Random) -> Vec<Vec<u8>> {
@@ -172,7 +198,7 @@ pub fn many_parts(random: &mut Random) -> Vec<Vec<u8>> {
     books
 }
 
-/// A fixpoint whose body is a number, the top value, a function that may call it, a record or a merge.
+/// A fixpoint whose body is a number, the top value, a function that may call it, a record, a merge, a sum or a choice.
 fn unfolded(random: &mut Random) -> Typed {
     let mut maker = Maker::new(random, EVEN, 5);
     let as_function = Type::function(int(), int());
@@ -187,9 +213,11 @@ fn unfolded(random: &mut Random) -> Typed {
         3 => (Term::function(Term::application(Term::variable(1), Term::variable(0)), int(), int()), as_function.clone()),
         _ => (Term::record(6, maker.number()), Type::record(6, int())),
     };
-    let form = maker.random.lower(8);
+    let form = maker.random.lower(10);
     let (body, of) = match form {
         0..=4 => one(&mut maker, form),
+        8 => (Term::sum(maker.number(), maker.number()), int()),
+        9 => (Term::choice(maker.number(), maker.number(), maker.number()), int()),
         5 => {
             let (inside, of) = one(&mut maker, 2);
             (Term::record(7, inside), Type::record(7, of))
@@ -222,7 +250,7 @@ fn growing(random: &mut Random) -> Typed {
     let long = times(large, Term::top(), |e| Term::projection(3, e));
     let value = Term::function(Term::merge(Term::number(6), long), int(), int());
     let (copies, parts) = (random.between(2, 20), random.between(2, 30));
-    match random.lower(5) {
+    match random.lower(7) {
         0 => {
             let at = left(&int(), copies);
             (Term::fixpoint(Term::variable(0), at.clone()), at)
@@ -241,20 +269,46 @@ fn growing(random: &mut Random) -> Typed {
             let input = left(&as_function, parts);
             (Term::application(Term::function(Term::number(1), input, int()), value), int())
         }
+        4 => (Term::fixpoint(Term::sum(Term::variable(0), Term::number(1)), int()), int()),
+        5 => {
+            let own = [Term::choice(Term::variable(0), Term::number(1), Term::number(2))];
+            let [own] = if random.once_in(2) { own } else { own.map(|e| Term::choice(Term::number(1), Term::number(3), e)) };
+            (Term::fixpoint(own, int()), int())
+        }
         _ => unfolded(random),
     }
 }
 
-/// The term with so many cells more around it, all of them in one place: around it, before it or after it.
-fn padded(term: Term, cells: usize, random: &mut Random) -> Term {
-    let value = |cells: usize| times(cells - 1, Term::number(1), |e| Term::record(own_label(60), e));
+/// So many cells, at least one: a record, or records in one another, round a number.
+fn field_of(cells: usize) -> Term {
+    times(cells - 1, Term::number(1), |e| Term::record(own_label(60), e))
+}
+
+/// The term with so many cells more around it, all of them in one place: around it, before it or after it; if it is below Int, also in a sum
+/// or choice. Whether it is still below Int.
+fn padded((term, below_int): (Term, bool), cells: usize, random: &mut Random) -> (Term, bool) {
+    if below_int && cells >= 5 && random.once_in(2) {
+        return (in_large_number(term, cells, random), true);
+    }
     match random.lower(if cells < 2 { 1 } else { 5 }) {
-        0 => times(cells, term, |e| Term::record(own_label(50), e)),
-        1 => Term::merge(value(cells - 1), term),
-        2 => Term::merge(term, value(cells - 1)),
-        3 if cells.is_multiple_of(2) => times(cells / 2, term, |e| Term::merge(Term::top(), e)),
-        _ if cells.is_multiple_of(2) => times(cells / 2, term, |e| Term::merge(e, Term::top())),
-        _ => padded(padded(term, cells / 2, random), cells.div_ceil(2), random),
+        0 => (times(cells, term, |e| Term::record(own_label(50), e)), false),
+        1 => (Term::merge(field_of(cells - 1), term), below_int),
+        2 => (Term::merge(term, field_of(cells - 1)), below_int),
+        3 if cells.is_multiple_of(2) => (times(cells / 2, term, |e| Term::merge(Term::top(), e)), below_int),
+        _ if cells.is_multiple_of(2) => (times(cells / 2, term, |e| Term::merge(e, Term::top())), below_int),
+        _ => padded(padded((term, below_int), cells / 2, random), cells.div_ceil(2), random),
+    }
+}
+
+/// The term in a sum or choice that has so many cells more, at least 5, nearly all of them in one other part.
+fn in_large_number(term: Term, cells: usize, random: &mut Random) -> Term {
+    let (large, small) = (|cells: usize| Term::merge(Term::number(2), field_of(cells - 2)), Term::number(3));
+    match random.lower(5) {
+        0 => Term::sum(term, large(cells - 1)),
+        1 => Term::sum(large(cells - 1), term),
+        2 => Term::choice(term, large(cells - 2), small),
+        3 => Term::choice(term, small, large(cells - 2)),
+        _ => Term::choice(large(cells - 2), small, term),
     }
 }
 
@@ -272,15 +326,15 @@ fn sizes(term: &Term) -> Vec<u64> {
 pub fn room_within(random: &mut Random) -> Vec<Vec<u8>> {
     let count = random.lower(6);
     let inside = growing(random);
-    let (term, _) = within_many(inside, count, random);
+    let (term, of) = within_many(inside, count, random);
     let most = sizes(&term).into_iter().max().unwrap_or(SIZE_LIMIT);
     let wanted = SIZE_LIMIT + random.lower(4) as u64 - 1;
-    let mut term = term;
+    let mut term = (term, subtype(&of, &int()));
     let mut cells = (wanted - most) as usize;
     while cells > 0 {
         let part = if random.once_in(2) { cells } else { random.between(1, cells) };
         term = padded(term, part, random);
         cells -= part;
     }
-    one_book(&term, random)
+    one_book(&term.0, random)
 }

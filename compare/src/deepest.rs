@@ -1,5 +1,5 @@
 //! The deepest books of every shape, each as deep as 4,095 cells allow: terms in one another, fixpoints that unfold, values substituted in
-//! bodies, types, and field reads of merges.
+//! bodies, types, field reads of merges, sums and choices.
 
 use crate::cells::{encode, Sharing};
 use crate::extremes::times;
@@ -53,11 +53,12 @@ impl Place {
         own
     }
 
-    /// What nests there, and on which side if its kind has two.
+    /// What nests there, and on which side if its kind has two, or in which field if it has three.
     fn name(&self) -> String {
         let Row { meaning, sort, fields, .. } = self.row;
         let side = match (fields.iter().filter(|field| field.sort() == Some(*sort)).count(), self.field) {
             (1, _) => "",
+            (3, field) => [" in a", " in b", " in c"][field],
             (_, 0) => " to the left",
             _ => " to the right",
         };
@@ -87,33 +88,43 @@ impl Place {
 struct Shape {
     name: String,
     binders: u32,
+    /// It goes round numbers: the innermost has the term of type Top beside it.
+    numbers: bool,
     wrap: Box<dyn Fn(Term) -> Term>,
 }
 
 /// Every place of a term, then all by turns.
 fn shapes() -> Vec<Shape> {
-    let all = Shape { name: "all by turns".to_string(), binders: 0, wrap: Box::new(all_by_turns) };
+    let all = Shape { name: "all by turns".to_string(), binders: 0, numbers: false, wrap: Box::new(all_by_turns) };
     Place::all(Sort::Term).into_iter().map(Shape::at).chain([all]).collect()
 }
 
-/// Each way once, with an annotation where the next needs Top.
+/// Each way once, with an annotation where the next needs Top, and beside a number where it needs Int.
 fn all_by_turns(inside: Term) -> Term {
     let left = Term::annotation(Term::merge(Term::application(inside, Term::top()), Term::top()), top());
     let right = Term::merge(Term::top(), Term::application(Term::top(), left));
-    Term::projection(LABEL, Term::annotation(Term::record(LABEL, right), top()))
+    let read = Term::projection(LABEL, Term::annotation(Term::record(LABEL, right), top()));
+    let [zero, one] = [0, 1].map(Term::number);
+    let tested = Term::choice(Term::sum(Term::merge(zero.clone(), read), zero.clone()), zero.clone(), one.clone());
+    let chosen = Term::choice(zero.clone(), Term::sum(one.clone(), tested), zero.clone());
+    Term::annotation(Term::choice(one, zero, chosen), top())
 }
 
 impl Shape {
-    /// Top and the top value stand in the other fields.
+    /// Top and the top value stand in the other fields; of a sum or choice numbers, so that the part that is nested is the one chosen.
     fn at(place: Place) -> Shape {
-        let wrap = move |e: Term| Term::of(place.node(Part::Term(&e), &top(), &Term::top()));
-        Shape { name: place.name(), binders: place.row.binders_over(place.field), wrap: Box::new(wrap) }
+        let numbers = [kind::SUM, kind::CHOICE].contains(&place.row.kind);
+        let other = if numbers { Term::number(i32::from(place.field == 2)) } else { Term::top() };
+        let wrap = move |e: Term| Term::of(place.node(Part::Term(&e), &top(), &other));
+        Shape { name: place.name(), binders: place.row.binders_over(place.field), numbers, wrap: Box::new(wrap) }
     }
 
     /// The term within as many as so many cells allow; it is given how many binders are around it.
     fn around(&self, cells: usize, inside: impl FnOnce(u16) -> Term) -> Term {
-        let count = cells / ((self.wrap)(Term::top()).size() as usize - 1);
-        times(count, inside((count * self.binders as usize) as u16), &self.wrap)
+        let beside = if self.numbers { 2 } else { 0 };
+        let count = (cells - beside) / ((self.wrap)(Term::top()).size() as usize - 1);
+        let inside = inside((count * self.binders as usize) as u16);
+        times(count, if self.numbers { Term::merge(Term::number(0), inside) } else { inside }, &self.wrap)
     }
 
     /// A closed term of at most so many cells.
@@ -131,7 +142,8 @@ fn holding(inside: Term) -> Term {
 pub fn deepest() -> Vec<Deep> {
     let terms = [terms(), terms_in_terms(), fixpoints(), fixpoints_within(), substitutions()];
     let types = [types(), two_types(), cast_values(), equal_values(), many_parts(), field_reads(), reads_within()];
-    terms.into_iter().chain(types).flatten().collect()
+    let numbers = [sums_and_choices(), operands(), numbers_in_bodies()];
+    terms.into_iter().chain(types).chain(numbers).flatten().collect()
 }
 
 /// Each shape alone.
@@ -299,7 +311,7 @@ fn equal_values() -> Vec<Deep> {
     let mut books = Vec::new();
     let mut add = |name: String, value: Term| books.push(deep("equal values", name, Term::merge(value.clone(), value)));
     for shape in shapes() {
-        add(format!("functions of {}", shape.name), holding(shape.alone(2_040)));
+        add(format!("functions of {}", shape.name), holding(Term::annotation(shape.alone(2_038), top())));
     }
     add("records".to_string(), times(2_045, Term::number(1), |e| Term::record(LABEL, e)));
     add("numbers to the left".to_string(), times(500, Term::number(1), |e| Term::merge(e, Term::number(1))));
@@ -391,6 +403,88 @@ fn reads_within() -> Vec<Deep> {
                 books.push(deep("field reads within", format!("a {name} to the {way}, within {}", shape.name), term));
             }
         }
+    }
+    books
+}
+
+/// The places in a sum and in a choice.
+fn number_places() -> Vec<Place> {
+    Place::all(Sort::Term).into_iter().filter(|place| [kind::SUM, kind::CHOICE].contains(&place.row.kind)).collect()
+}
+
+impl Place {
+    /// A sum or choice with this part there, and this number in its other fields.
+    fn with_number(&self, part: &Term, other: i32) -> Term {
+        Term::of(self.node(Part::Term(part), &int(), &Term::number(other)))
+    }
+
+    /// With a number that has the part chosen.
+    fn chosen(&self, part: &Term) -> Term {
+        self.with_number(part, i32::from(self.field == 2))
+    }
+}
+
+/// The term within as many more as so many cells allow.
+fn within_cells(cells: usize, inside: Term, wrap: impl Fn(Term) -> Term) -> Term {
+    let more = (wrap(Term::top()).size() - 1) as usize;
+    times((cells - inside.size() as usize) / more, inside, wrap)
+}
+
+/// Each place nested, with zero and with other numbers beside it, any two places by turns, sums halved again and again, and a part that is
+/// refused at the far end.
+fn sums_and_choices() -> Vec<Deep> {
+    let mut books = Vec::new();
+    let mut add = |name: String, term: Term| books.push(deep("sums and choices", name, term));
+    for place in number_places() {
+        let name = place.name();
+        for other in [0, 1, i32::MAX, i32::MIN] {
+            let nested = within_cells(CELLS, Term::number(other), |e| place.with_number(&e, other));
+            add(format!("{name}, of {other}"), nested);
+        }
+        for (far, of) in [(Term::top(), "the top value"), (Term::variable(0), "a variable")] {
+            add(format!("{name}, round {of}"), within_cells(CELLS, far, |e| place.chosen(&e)));
+        }
+        for second in number_places() {
+            let turns = within_cells(CELLS, Term::number(1), |e| place.chosen(&second.chosen(&e)));
+            add(format!("{name} and {} by turns", second.name()), turns);
+        }
+    }
+    add("sums halved again and again".to_string(), (0..11).fold(Term::number(1), |e, _| Term::sum(e.clone(), e)));
+    books
+}
+
+/// A deep merge with a number at its far end, or a fixpoint with a deep type, as each part; and deep merges in all parts at once.
+fn operands() -> Vec<Deep> {
+    let mut books = Vec::new();
+    let mut add = |name: String, term: Term| books.push(deep("deep parts of sums and choices", name, term));
+    for (side, way) in SIDES {
+        let merge = |cells: usize| far_merge(side, cells, Term::number(0));
+        let fixpoint = Term::fixpoint(Term::variable(0), far_intersection(side, CELLS - 6, int()));
+        for place in number_places() {
+            add(format!("a merge to the {way} in {}", place.name()), place.chosen(&merge(CELLS - 3)));
+            add(format!("a fixpoint to the {way} in {}", place.name()), place.chosen(&fixpoint));
+        }
+        add(format!("two merges to the {way} in a sum"), Term::sum(merge(CELLS / 2), merge(CELLS / 2)));
+        let third = merge(CELLS / 3 - 1);
+        add(format!("three merges to the {way} in a choice"), Term::choice(third.clone(), third.clone(), third));
+    }
+    books
+}
+
+/// Functions whose bodies are deep sums and choices round a variable: applied, and merged with themselves; with a number that differs at the
+/// far end; and with a variable of a binder around both there.
+fn numbers_in_bodies() -> Vec<Deep> {
+    let mut books = Vec::new();
+    let mut add = |name: String, term: Term| books.push(deep("deep sums and choices in bodies", name, term));
+    for place in number_places() {
+        let name = place.name();
+        let function = |cells: usize, far: Term| Term::function(within_cells(cells - 3, far, |e| place.chosen(&e)), int(), int());
+        add(format!("{name}, applied"), Term::application(function(CELLS - 2, Term::variable(0)), Term::number(0)));
+        let half = |far: Term| function(CELLS / 2 - 4, far);
+        add(format!("{name}, equal"), Term::merge(half(Term::variable(0)), half(Term::variable(0))));
+        add(format!("{name}, not equal"), Term::merge(half(Term::number(3)), half(Term::number(4))));
+        let both = Term::merge(half(Term::variable(1)), half(Term::variable(1)));
+        add(format!("{name}, not closed"), Term::function(both, int(), top()));
     }
     books
 }

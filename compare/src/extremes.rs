@@ -46,7 +46,8 @@ fn function_type(n: usize, last: Type) -> Type {
 pub fn extremes() -> Vec<Vec<u8>> {
     let terms = [deep_terms(), deep_functions(), wide_types(), every_label(), large_bodies(), little_room()];
     let reads = [deep_reads(), reads_of_every_label(), reads_of_many_variables()];
-    let terms = terms.into_iter().chain(reads).flatten().collect::<Vec<Term>>();
+    let numbers = [deep_numbers(), large_number_bodies(), numbers_with_little_room()];
+    let terms = terms.into_iter().chain(reads).chain(numbers).flatten().collect::<Vec<Term>>();
     let mut random = Random::of(0, "", 0);
     let mut books: Vec<Vec<u8>> = Vec::new();
     for term in &terms {
@@ -202,6 +203,63 @@ fn reads_of_many_variables() -> Vec<Term> {
     vec![read(1), read(2), read(3), applied]
 }
 
+/// Sums and choices at the limit and just past it.
+fn deep_numbers() -> Vec<Term> {
+    let mut terms = Vec::new();
+    let [least, most] = [i32::MIN, i32::MAX].map(number);
+    for n in [2_046, 2_047, 2_048] {
+        for start in [number(0), least.clone(), most.clone()] {
+            terms.push(times(n, start.clone(), |e| Term::sum(e, number(1))));
+            terms.push(times(n, start, |e| Term::sum(number(-1), e)));
+        }
+        terms.push(times(n, Term::top(), |e| Term::sum(e, number(1))));
+        terms.push(times(n, Term::top(), |e| Term::sum(number(1), e)));
+    }
+    for n in [1_364, 1_365] {
+        for tested in [0, 1, 65_536] {
+            terms.push(times(n, number(tested), |e| Term::choice(e, number(1), number(0))));
+            terms.push(times(n, number(7), |e| Term::choice(number(tested), e, number(8))));
+            terms.push(times(n, number(7), |e| Term::choice(number(tested), number(8), e)));
+        }
+        terms.push(times(n, Term::top(), |e| Term::choice(number(1), number(2), e)));
+    }
+    // Exactly at the limit.
+    let choices = times(1_364, number(0), |e| Term::choice(e, number(1), number(0)));
+    terms.extend([Term::sum(choices.clone(), number(2)), Term::sum(number(2), choices)]);
+    terms
+}
+
+/// Equal and nearly equal large bodies of sums and choices, the one difference in the first part or in the last.
+fn large_number_bodies() -> Vec<Term> {
+    type Wrap = fn(Term) -> Term;
+    let nested = |n: usize, far: i32, wrap: Wrap| Term::function(times(n, number(far), wrap), int(), int());
+    let ways: [(usize, Wrap); 5] = [
+        (1_000, |e| Term::sum(e, Term::variable(0))),
+        (1_000, |e| Term::sum(Term::variable(0), e)),
+        (680, |e| Term::choice(e, Term::variable(0), number(1))),
+        (680, |e| Term::choice(Term::variable(0), e, number(1))),
+        (680, |e| Term::choice(Term::variable(0), number(1), e)),
+    ];
+    let pairs = ways.iter().flat_map(|&(n, wrap)| [1, 2].map(|far| Term::merge(nested(n, 1, wrap), nested(n, far, wrap))));
+    pairs.collect()
+}
+
+/// No room in a part of a sum or choice, from every size of what is around.
+fn numbers_with_little_room() -> Vec<Term> {
+    let mut terms = Vec::new();
+    for n in 0..8 {
+        let other = times(n, number(1), |e| Term::annotation(Term::record(6, e), top()));
+        let beside = Term::merge(number(2), Term::annotation(other, top()));
+        terms.push(Term::sum(own_fixpoint(), beside.clone()));
+        terms.push(Term::sum(beside.clone(), own_fixpoint()));
+        terms.push(Term::choice(own_fixpoint(), beside.clone(), number(1)));
+        terms.push(Term::choice(own_fixpoint(), number(1), beside.clone()));
+        terms.push(Term::choice(number(0), own_fixpoint(), beside.clone()));
+        terms.push(Term::choice(beside, number(0), own_fixpoint()));
+    }
+    terms
+}
+
 /// No room, from every size of the term around.
 fn little_room() -> Vec<Term> {
     let mut terms = Vec::new();
@@ -215,12 +273,13 @@ fn little_room() -> Vec<Term> {
     terms
 }
 
-/// Just within, just past, and far past every number.
+/// Just within, just past, and far past every number; choices grow threefold, and so sooner.
 fn sizes_by_sharing() -> Vec<Vec<u8>> {
     let mut books = Vec::new();
-    for times in [9, 10, 11, 12, 13, 31, 32, 63, 64, 65, 4_093, 4_094] {
+    for times in [6, 7, 8, 9, 10, 11, 12, 13, 31, 32, 63, 64, 65, 4_093, 4_094] {
         books.push(doubled(Cell::number(1), times));
         books.push(doubled(zeroed(kind::TOP_VALUE), times));
+        books.extend([1, 1 << 20, -(1 << 20), 0].map(|first| doubled_numbers(Cell::number(first), times)).concat());
         let types = chain(zeroed(kind::TOP), usize::from(times), |n| Cell::new(kind::INTERSECTION, 0, [n, n, 0]));
         let mut book = Cells { root: types.len() as u16 + 1, cells: types };
         book.cells.push(Cell::number(1));
@@ -230,6 +289,12 @@ fn sizes_by_sharing() -> Vec<Vec<u8>> {
         books.push(Cells { root: book.root - 1, ..book }.bytes());
     }
     books
+}
+
+/// Sums of a cell with itself so many times over by sharing; and choices of a cell among itself.
+fn doubled_numbers(first: Cell, times: u16) -> [Vec<u8>; 2] {
+    let book = |next: fn(u16) -> Cell| Cells { cells: chain(first, usize::from(times) + 1, next), root: times }.bytes();
+    [book(|n| Cell::new(kind::SUM, 0, [n, n, 0])), book(|n| Cell::new(kind::CHOICE, 0, [n, n, n]))]
 }
 
 /// Every cell reached, none but the root, the longest length and past it.

@@ -4,7 +4,9 @@ use crate::cells::{alike, encode, is_labelled, unknown_kinds, zeroed, Cells, Sha
 use crate::contexts;
 use crate::deepest::deepest;
 use crate::extremes::extremes;
+use crate::loops::{counting_loops, triangular};
 use crate::maker::{Maker, Weights, EVEN, LABELS};
+use crate::numbers;
 use crate::random::Random;
 use crate::reads::reads_of_merges;
 use crate::refusals::refusals;
@@ -39,8 +41,11 @@ impl Family {
 }
 
 pub fn families() -> Vec<Family> {
+    whole_families().into_iter().chain(random_families()).collect()
+}
+
+fn whole_families() -> Vec<Family> {
     let whole = |name, make| Family { name, share: 0, make: Make::Whole(make) };
-    let random = |name, share, make| Family { name, share, make: Make::Random(make) };
     vec![
         whole("samples", || samples().into_iter().map(|sample| sample.book).chain(sample_books().into_values()).collect()),
         whole("extremes", extremes),
@@ -48,9 +53,20 @@ pub fn families() -> Vec<Family> {
         whole("every byte", every_byte),
         whole("cut short", cut_short),
         whole("refusals", refusals),
+        whole("ends of the range", numbers::ends),
+        whole("refused parts", || numbers::refused().into_iter().map(|refused| refused.book).collect()),
+    ]
+}
+
+fn random_families() -> Vec<Family> {
+    let random = |name, share, make| Family { name, share, make: Make::Random(make) };
+    vec![
         random("merges", 12, |r| typed(r, Weights { merge: 8, ..EVEN }.of_type(kind::INTERSECTION, 6), 30)),
         random("hidden fields", 6, hidden_fields),
         random("reads of merges", 12, reads_of_merges),
+        random("arithmetic", 10, numbers::arithmetic),
+        random("counting bodies", 10, numbers::bodies),
+        random("counting loops", 4, counting_loops),
         random("duplicates", 8, |r| typed(r, Weights { duplicate: 6, annotation: 4, ..EVEN }.of_type(kind::INTERSECTION, 5), 25)),
         random("several outputs", 6, several_outputs),
         random("top-like functions", 8, |r| {
@@ -109,10 +125,12 @@ fn typed(random: &mut Random, weights: Weights, fuel: usize) -> Vec<Vec<u8>> {
 
 /// A typed book of any family that makes them one by one.
 fn typed_any(random: &mut Random) -> Cells {
-    let term = match random.lower(4) {
+    let term = match random.lower(6) {
         0 => hidden_fields_term(random, true),
         1 => several_outputs_term(random),
         2 => typed_term(random, Weights { merge: 5, duplicate: 3, ..EVEN }, 20),
+        3 => numbers::bodies_term(random),
+        4 => typed_term(random, Weights { sum: 5, choice: 5, ..EVEN }.of_type(kind::INT, 12), 20),
         _ => typed_term(random, EVEN, 20),
     };
     let sharing = Sharing::any(random);
@@ -289,11 +307,12 @@ pub fn changed(book: &mut Cells, random: &mut Random) {
         1 if cell.kind == kind::VARIABLE => new.fields[0] = random.lower(4) as u16,
         1 if cell.kind == kind::NUMBER => new = Cell::number(random.lower(6) as i32 - 1),
         2 => {
-            let [a, b, c] = cell.references();
-            if a.is_some() && a == b {
-                new.fields.swap(0, 1);
-            } else if b.is_some() && b == c {
-                new.fields.swap(1, 2);
+            let sorts = cell.references();
+            let alike = |&(a, b): &(usize, usize)| sorts[a].is_some() && sorts[a] == sorts[b];
+            let pairs: Vec<(usize, usize)> = [(0, 1), (1, 2), (0, 2)].into_iter().filter(alike).collect();
+            if !pairs.is_empty() {
+                let &(a, b) = random.pick(&pairs);
+                new.fields.swap(a, b);
             }
         }
         _ => {
@@ -328,8 +347,9 @@ fn near_misses(random: &mut Random) -> Vec<Vec<u8>> {
 
 /// The same term with no cell shared, with some, and with all that can be.
 fn shared_and_unshared(random: &mut Random) -> Vec<Vec<u8>> {
-    let term = match random.lower(3) {
+    let term = match random.lower(4) {
         0 => several_outputs_term(random),
+        3 => numbers::arithmetic_term(random),
         1 => typed_term(random, Weights { duplicate: 5, merge: 5, ..EVEN }, 25),
         _ => typed_term(random, EVEN, 40),
     };
@@ -423,7 +443,8 @@ fn small_books() -> Vec<Vec<u8>> {
     let mut random = Random::of(0, "", 0);
     let applied = Term::application(identity(), Term::number(1));
     let read = Term::projection(3, Term::record(3, Term::fixpoint(Term::variable(0), Type::int())));
-    let shared = [applied, read].map(|term| encode(&term, Sharing::Always, &mut random).bytes());
+    let chosen = Term::choice(Term::sum(Term::number(1), Term::number(-1)), Term::number(1), Term::number(2));
+    let shared = [applied, read, chosen].map(|term| encode(&term, Sharing::Always, &mut random).bytes());
     [desk_example()].into_iter().chain(shared).collect()
 }
 
@@ -445,7 +466,7 @@ fn every_byte() -> Vec<Vec<u8>> {
 /// Books cut short at every length, lengthened a little, and with every cell for a root.
 fn cut_short() -> Vec<Vec<u8>> {
     let mut random = Random::of(0, "", 0);
-    let larger = [hidden_field(), hidden_fields_term(&mut random, true), several_outputs_term(&mut random)];
+    let larger = [hidden_field(), hidden_fields_term(&mut random, true), several_outputs_term(&mut random), triangular(4)];
     let larger = larger.map(|term| encode(&term, Sharing::Sometimes, &mut random).bytes());
     let mut books = Vec::new();
     for book in small_books().into_iter().chain(larger) {

@@ -155,10 +155,10 @@ fn smaller(comparison: &Comparison, book: Vec<u8>, question: Question) -> String
     format!("made smaller:\n{}", described(&book, question, &difference, comparison.engine))
 }
 
-/// Both sides on the samples, against what the documents state of them. How many failed.
+/// Both sides on the samples and the refused parts, against what the documents state of them. How many failed.
 fn stated_samples() -> usize {
     let mut failed = 0;
-    for sample in samples::samples() {
+    for sample in samples::stated() {
         for side in [&Evaluator(None) as &dyn Engine, engine().as_ref()] {
             let mut work = vec![0xA5; WORK];
             let reply = side.call(sample.call, &sample.book, &mut work);
@@ -172,11 +172,24 @@ fn stated_samples() -> usize {
     failed
 }
 
+/// The name of a family, and the books of it that a fault is searched in.
+type Searched = (&'static str, Vec<Vec<u8>>);
+
+fn searched(seed: u64, count: usize) -> Vec<Searched> {
+    let of = |family: Family| {
+        let count = share(family.share.max(1), count);
+        let asked = family.books(seed, count).filter(|book| family.share > 0 || book.len() < LARGE);
+        (family.name, asked.take(count.max(500)).collect())
+    };
+    families().into_iter().map(of).collect()
+}
+
 /// Compares the evaluator with each faulty copy of itself. Yes if every fault was found.
 fn self_test(options: &Options) -> bool {
     let count = options.count.unwrap_or(SELF_TEST_COUNT);
+    let books = on_large_stack(|| searched(options.seed, count));
     let found = AtomicUsize::new(0);
-    side_by_side(Fault::ALL.to_vec(), |fault| match found_in(fault, options.seed, count) {
+    side_by_side(Fault::ALL.to_vec(), |fault| match found_in(fault, options.seed, &books) {
         Some(text) => {
             found.fetch_add(1, Relaxed);
             print!("{text}");
@@ -192,19 +205,17 @@ fn self_test(options: &Options) -> bool {
 }
 
 /// The families that find a fault, with the place of the first book, and the smallest of these books made smaller.
-fn found_in(fault: Fault, seed: u64, count: usize) -> Option<String> {
+fn found_in(fault: Fault, seed: u64, searched: &[Searched]) -> Option<String> {
     let start = Instant::now();
     let faulty = Evaluator(Some(fault));
     let comparison = Comparison::new(&faulty, false);
     let mut finders = String::new();
-    let mut smallest: Option<(Vec<u8>, Question)> = None;
-    for family in families() {
-        let count = share(family.share.max(1), count);
-        let asked = family.books(seed, count).filter(|book| family.share > 0 || book.len() < LARGE);
-        for (place, book) in asked.take(count.max(500)).enumerate() {
+    let mut smallest: Option<(&Vec<u8>, Question)> = None;
+    for (name, books) in searched {
+        for (place, book) in books.iter().enumerate() {
             let mut random = Random::of(seed, "limits", place as u64);
-            let Err((question, _)) = comparison.book(&book, &mut random) else { continue };
-            let _ = write!(finders, " {} ({place})", family.name);
+            let Err((question, _)) = comparison.book(book, &mut random) else { continue };
+            let _ = write!(finders, " {name} ({place})");
             if smallest.as_ref().is_none_or(|(smallest, _)| book.len() < smallest.len()) {
                 smallest = Some((book, question));
             }
@@ -212,6 +223,6 @@ fn found_in(fault: Fault, seed: u64, count: usize) -> Option<String> {
         }
     }
     let (book, question) = smallest?;
-    let small = smaller(&comparison, book, question);
+    let small = smaller(&comparison, book.clone(), question);
     Some(format!("{fault:?}: found in {:.1} s by{finders}, {small}", start.elapsed().as_secs_f64()))
 }

@@ -17,6 +17,9 @@ pub struct Weights {
     pub merge: u32,
     pub fixpoint: u32,
     pub duplicate: u32,
+    // Where Int is below the type.
+    pub sum: u32,
+    pub choice: u32,
 }
 
 impl Weights {
@@ -42,6 +45,8 @@ pub const EVEN: Weights = Weights {
     merge: 2,
     fixpoint: 1,
     duplicate: 1,
+    sum: 2,
+    choice: 1,
 }
 .of_type(kind::INT, 6)
 .of_type(kind::FUNCTION_TYPE, 2)
@@ -156,7 +161,9 @@ impl<'a> Maker<'a> {
         }
         self.fuel -= 1;
         let Weights { plain, variable, annotation, application, projection, merge, fixpoint, duplicate, .. } = self.weights;
-        match self.random.weighed(&[plain, variable, annotation, application, projection, merge, fixpoint, duplicate]) {
+        let [sum, choice] = if subtype(&Type::int(), wanted) { [self.weights.sum, self.weights.choice] } else { [0, 0] };
+        match self.random.weighed(&[plain, variable, annotation, application, projection, merge, fixpoint, duplicate, sum, choice])
+        {
             0 => self.plain(wanted),
             1 => self.variable(wanted).unwrap_or_else(|| self.plain(wanted)),
             2 => {
@@ -167,8 +174,17 @@ impl<'a> Maker<'a> {
             4 => self.projection(wanted),
             5 => self.merge(wanted),
             6 => Term::fixpoint(self.within(wanted, |maker| maker.term(wanted)), wanted.clone()),
-            _ => self.duplicate(wanted),
+            7 => self.duplicate(wanted),
+            8 => Term::sum(self.operand(), self.operand()),
+            _ => Term::choice(self.operand(), self.operand(), self.operand()),
         }
+    }
+
+    /// A part of a sum or choice: of type Int, or below it.
+    fn operand(&mut self) -> Term {
+        let int = Type::int();
+        let of = if self.random.once_in(4) { self.subtype(&int) } else { int };
+        self.term(&of)
     }
 
     /// A binder's variable, if one fits.

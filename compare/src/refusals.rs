@@ -5,12 +5,15 @@ use crate::random::Random;
 use crate::samples::{identity, refused_books};
 use evaluator::{kind, Cell, Field, Row, Sort, Term, Type, CELL, TABLE};
 
-/// The parts of the family by turns, so that the first books are some of each.
 pub fn refusals() -> Vec<Vec<u8>> {
     let kept = refused_books().into_values().collect();
-    let parts = [kept, one_cell(), two_cells(), trailers(), lengths(), two_parts(), nested()];
-    let longest = parts.iter().map(Vec::len).max().unwrap_or(0);
-    (0..longest).flat_map(|n| parts.iter().filter_map(move |part| part.get(n).cloned())).collect()
+    by_turns(&[kept, one_cell(), damaged(), two_cells(), trailers(), lengths(), two_parts(), nested()])
+}
+
+/// The lists by turns, so that the first items are some of each.
+pub fn by_turns<T: Clone>(lists: &[Vec<T>]) -> Vec<T> {
+    let longest = lists.iter().map(Vec::len).max().unwrap_or(0);
+    (0..longest).flat_map(|n| lists.iter().filter_map(move |list| list.get(n).cloned())).collect()
 }
 
 /// The first cells of most books here: a type and a term.
@@ -52,17 +55,44 @@ fn one_cell() -> Vec<Vec<u8>> {
     cells.into_iter().map(|cell| book(cell).bytes()).collect()
 }
 
-/// Two cells for each of the rows 5 to 8 that meet it at this place.
-fn ill_formed(at: u16) -> [Cell; 8] {
+/// A cell of every kind with one thing wrong at most: the label or a field. The root is that cell, or does not reach it.
+fn damaged() -> Vec<Vec<u8>> {
+    let at = FIRST.len() as u16;
+    let mut cells = Vec::new();
+    for Row { kind, fields, .. } in TABLE {
+        let right = Cell::new(*kind, 0, fields.map(|field| contents(field, at)[0]));
+        cells.extend([0, 1, 128, 255].map(|label| Cell { label, ..right }));
+        for (place, field) in fields.iter().enumerate() {
+            let wrong = match field {
+                Field::Reference(_) => vec![A_TYPE, A_TERM, at, at + 1, at + 256, u16::MAX],
+                Field::Plain | Field::Unnamed => vec![1, 255, 256, 1 << 15, u16::MAX],
+            };
+            for value in wrong {
+                let mut cell = right;
+                cell.fields[place] = value;
+                cells.push(cell);
+            }
+        }
+    }
+    let book = |cell, root| Cells { cells: [&FIRST[..], &[cell, TOP_VALUE]].concat(), root }.bytes();
+    cells.into_iter().flat_map(|cell| [at, A_TERM].map(|root| book(cell, root))).collect()
+}
+
+/// Three cells for each of the rows 5 to 8 that meet it at this place.
+fn ill_formed(at: u16) -> [Cell; 12] {
     [
         zeroed(TABLE[0].kind - 1),
+        Cell::new(TABLE[TABLE.len() - 1].kind + 1, 0, [A_TERM; 3]),
         Cell::new(TABLE[TABLE.len() - 1].kind + 1, 1, [at; 3]),
         Cell::new(kind::NUMBER, 1, [0; 3]),
         Cell::new(kind::RECORD, 1, [A_TERM, 0, 1]),
+        Cell::new(kind::SUM, 0, [A_TERM, A_TERM, 1]),
         Cell::new(kind::MERGE, 0, [A_TERM, at, 0]),
         Cell::new(kind::FUNCTION_TYPE, 0, [at + 1, A_TYPE, 0]),
+        Cell::new(kind::CHOICE, 0, [A_TERM, A_TERM, at]),
         Cell::new(kind::ANNOTATION, 0, [A_TYPE, A_TYPE, 0]),
         Cell::new(kind::INTERSECTION, 0, [A_TYPE, A_TERM, 0]),
+        Cell::new(kind::CHOICE, 0, [A_TERM, A_TERM, A_TYPE]),
     ]
 }
 
@@ -189,10 +219,12 @@ fn number(n: i32) -> Term {
 /// Terms with a type.
 fn typed() -> Vec<Term> {
     let beside = Term::merge(number(1), Term::record(1, number(2)));
-    vec![number(1), Term::top(), identity(), Term::record(1, number(3)), beside, Term::merge(Term::top(), Term::top())]
+    let numbers = [Term::sum(number(1), number(2)), Term::choice(number(0), number(1), number(2))];
+    let others = [number(1), Term::top(), identity(), Term::record(1, number(3)), beside, Term::merge(Term::top(), Term::top())];
+    others.into_iter().chain(numbers).collect()
 }
 
-/// Terms that meet one of 11 to 15, the last in each of its four places.
+/// Terms that meet one of 11 to 15, the last in each of its nine places.
 fn ill_typed() -> Vec<Term> {
     vec![
         Term::variable(1),
@@ -203,11 +235,16 @@ fn ill_typed() -> Vec<Term> {
         Term::application(identity(), Term::top()),
         Term::function(Term::top(), int(), int()),
         Term::fixpoint(Term::top(), int()),
+        Term::sum(Term::top(), number(9)),
+        Term::sum(number(9), Term::top()),
+        Term::choice(Term::top(), number(9), number(10)),
+        Term::choice(number(9), Term::top(), number(10)),
+        Term::choice(number(9), number(10), Term::top()),
     ]
 }
 
 /// Where a part can stand: with nothing wrong around it, and then with something.
-const PLACES: [fn(Term) -> Term; 17] = [
+const PLACES: [fn(Term) -> Term; 28] = [
     |e| Term::application(e, number(1)),
     |e| Term::application(Term::top(), e),
     |e| Term::application(identity(), e),
@@ -220,15 +257,36 @@ const PLACES: [fn(Term) -> Term; 17] = [
     |e| Term::annotation(e, Type::top()),
     |e| Term::record(1, e),
     |e| Term::projection(1, e),
+    |e| Term::sum(e, number(1)),
+    |e| Term::sum(number(1), e),
+    |e| Term::choice(e, number(1), number(2)),
+    |e| Term::choice(number(0), e, number(2)),
+    |e| Term::choice(number(0), number(1), e),
     |e| Term::application(number(1), e),
     |e| Term::application(e, Term::variable(7)),
     |e| Term::application(Term::variable(7), e),
     |e| Term::merge(e, Term::variable(7)),
     |e| Term::merge(Term::variable(7), e),
+    |e| Term::sum(e, Term::variable(7)),
+    |e| Term::sum(Term::top(), e),
+    |e| Term::choice(e, Term::top(), number(1)),
+    |e| Term::choice(Term::variable(7), e, number(1)),
+    |e| Term::choice(number(0), e, Term::variable(7)),
+    |e| Term::choice(number(0), Term::top(), e),
+];
+
+/// Where two parts can stand.
+const PAIRS: [fn(Term, Term) -> Term; 6] = [
+    Term::application,
+    Term::merge,
+    Term::sum,
+    |a, b| Term::choice(a, b, number(1)),
+    |a, c| Term::choice(a, number(1), c),
+    |b, c| Term::choice(number(0), b, c),
 ];
 
 /// The same term with the parts of each cell encoded last first, so that the walk meets higher cells before lower ones.
-fn reversed(book: &Cells) -> Cells {
+pub fn reversed(book: &Cells) -> Cells {
     fn part(book: &Cells, n: u16, cells: &mut Vec<Cell>) -> u16 {
         let mut cell = book.cells[usize::from(n)];
         let references = cell.references();
@@ -243,13 +301,13 @@ fn reversed(book: &Cells) -> Cells {
     Cells { cells, root }
 }
 
-/// Any two terms in an application and in a merge, and each in every place: in order, reversed, and shared.
+/// Any two terms in each pair of places, and each in every place: in order, reversed, and shared.
 fn two_parts() -> Vec<Vec<u8>> {
     let parts = [ill_typed(), typed()].concat();
     let mut terms = Vec::new();
     for one in &parts {
         for other in &parts {
-            terms.extend([Term::application, Term::merge].map(|both| both(one.clone(), other.clone())));
+            terms.extend(PAIRS.map(|both| both(one.clone(), other.clone())));
         }
     }
     terms.extend(PLACES.iter().flat_map(|place| parts.iter().map(|part| place(part.clone()))));

@@ -1,7 +1,10 @@
-//! The sample books of document 01 with the answers that it states, and small books for the field reads that document 02 (i) widens.
+//! The sample books of document 01 with the answers that it states, and small books for what document 02 adds: field reads of merges (i), sums
+//! and choices (ii).
 
 use crate::cells::{encode, zeroed, Cells, Sharing};
 use crate::engines::Call;
+use crate::loops::{accumulated, countdown, triangular};
+use crate::numbers::{refused, Refused};
 use crate::random::Random;
 use evaluator::{kind, Answer, Cell, Term, Type};
 use std::collections::BTreeMap;
@@ -86,6 +89,7 @@ pub fn samples() -> Vec<Sample> {
     all.extend(samples_by_value());
     all.extend(refused_reads());
     all.extend(reads_by_value());
+    all.extend(numbers_by_value());
     let value = Some(number(1));
     all.push(Sample {
         name: "the desk example",
@@ -185,5 +189,39 @@ fn reads_by_value() -> Vec<Sample> {
     add("the hidden field, not annotated", hidden_field_read(|merge| merge), number(2), 3);
     let annotated = Term::annotation(field(1, number(4)), Type::record(1, int()));
     add("a field that steps first", read(1, annotated, number(2)), number(4), 2);
+    list
+}
+
+/// The samples, and the sums and choices with a part that is refused: all books of which the answer is stated.
+pub fn stated() -> Vec<Sample> {
+    let name = "a refused part of a sum or choice";
+    let sample = |Refused { book, answer }| Sample { name, book, call: Call::Check, answer, value: None };
+    samples().into_iter().chain(refused().into_iter().map(sample)).collect()
+}
+
+/// Sums and choices that run.
+fn numbers_by_value() -> Vec<Sample> {
+    let mut list = Vec::new();
+    let mut add = |name, term: Term, value: i32, steps| {
+        let (call, answer) = (Call::Run { limit: 10_000 }, Answer::Value { steps });
+        list.push(Sample { name, book: unshared(&term), call, answer, value: Some(number(value)) });
+    };
+    let sum = |one: i32, other: i32| Term::sum(number(one), number(other));
+    let choice = |test: Term| Term::choice(test, number(8), number(9));
+    let merge = |n: i32| Term::merge(number(n), field(7, number(5)));
+    add("a sum", sum(2, 3), 5, 1);
+    add("a sum held above", sum(i32::MAX, 1), i32::MAX, 1);
+    add("a sum held below", sum(i32::MIN, -1), i32::MIN, 1);
+    add("a sum of both ends", sum(i32::MIN, i32::MAX), -1, 1);
+    add("a merge in a sum", Term::sum(merge(1), number(2)), 3, 1);
+    add("a choice for zero", choice(number(0)), 8, 2);
+    add("a choice for minus one", choice(number(-1)), 9, 2);
+    add("a choice for 65,536", choice(number(65_536)), 9, 2);
+    add("a choice for a merge with zero", choice(merge(0)), 8, 2);
+    add("a choice for a sum", choice(sum(1, -1)), 8, 3);
+    add("a branch that does not end", Term::choice(number(1), own_fixpoint(), number(9)), 9, 2);
+    add("the triangular number of 4", triangular(4), 10, 38);
+    add("the same, carried along", accumulated(4), 10, 48);
+    add("a loop of a thousand turns", countdown(1_000, 1, 7), 7, 7_006);
     list
 }

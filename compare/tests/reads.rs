@@ -1,5 +1,6 @@
 //! The family of field reads has enough of each: merges that a run reads a field of, fields that no part has, and reads refused.
 
+use compare::contexts::redex;
 use compare::families::families;
 use evaluator::{check, decode, on_large_stack, successors, Answer, Term, TermShape, WORK};
 use std::iter;
@@ -23,12 +24,6 @@ struct Shares {
     /// Reads of a merge of more than two parts, and of more than a hundred.
     nested: usize,
     deep: usize,
-}
-
-/// The part that steps next: the leftmost that is no value, not under a binder.
-fn redex(term: &Term) -> &Term {
-    let steps = |(_, binders, part): (usize, u32, _)| (binders == 0 && !Term::is_value(part)).then_some(part);
-    term.node().terms().find_map(steps).map_or(term, redex)
 }
 
 /// How many parts a merge has.

@@ -1,7 +1,7 @@
 //! Books to terms and back.
 
 use crate::faults::{planted, Fault};
-use crate::kinds::{row, Field, Row, Sort};
+use crate::kinds::{kind, row, Field, Row, Sort};
 use crate::terms::{halves, Node, Part, Term, Type};
 
 /// "A cell: byte 0 kind, byte 1 label, bytes 2-3, 4-5, 6-7 the fields a, b, c."
@@ -39,7 +39,7 @@ impl Cell {
     /// The cell of a number.
     pub fn number(n: i32) -> Cell {
         let [b, c] = halves(n);
-        Cell::new(crate::kind::NUMBER, 0, [0, b, c])
+        Cell::new(kind::NUMBER, 0, [0, b, c])
     }
 
     /// "Bytes 2–3 the cell count; bytes 4–5 the root cell; bytes 6–7 zero."
@@ -99,7 +99,9 @@ impl Tree {
 /// One cell's rows: "unknown kind", "an unnamed field is not zero", "a reference not lower than its cell", "a type where a term
 /// belongs, or the reverse". The trees are those of the cells below. The cell's row of the table, if it passes.
 fn test_cell(cell: Cell, n: usize, trees: &[Tree]) -> Result<&'static Row, Refusal> {
-    let Some(row) = row(cell.kind) else { return refuse(5, n) };
+    let Some(row) = row(cell.kind).filter(|row| row.kind < kind::SUM || !planted(Fault::OlderKinds)) else {
+        return refuse(5, n);
+    };
     let fields = row.fields.into_iter().zip(cell.fields);
     let filled = !row.labelled && cell.label != 0 || fields.clone().any(|(field, value)| field == Field::Unnamed && value != 0);
     let references = fields.filter_map(|(field, to)| Some((field.sort()?, usize::from(to))));

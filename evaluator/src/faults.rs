@@ -28,7 +28,7 @@ pub enum Fault {
     TopLikeUncast,
     /// The top value applied becomes the top value before the argument is a value.
     TopAppliedEarly,
-    /// The right of an application or merge stepped before the left is a value.
+    /// The right of an application, merge or sum stepped before the left is a value.
     RightPartFirst,
     /// A fixpoint unfolded to its body alone, not annotated.
     FixpointBare,
@@ -68,7 +68,7 @@ pub enum Fault {
     RightHalfFirst,
     /// 14 names the left half instead of the merge.
     HalfNamed,
-    /// 15 names the annotation, function, fixpoint or application instead of the checked term.
+    /// 15 names the annotation, function, fixpoint, application, sum or choice instead of the checked term.
     WholeNamed,
     /// The first record of that label read although the intersection has a second, neither top-like.
     FirstOfTwoFields,
@@ -84,10 +84,64 @@ pub enum Fault {
     ValuePartsOneLevel,
     /// A run that takes the first record of that label although it is top-like and another is not.
     FirstFieldTaken,
+    /// A sum wraps round at the ends of the 32-bit range.
+    SumWraps,
+    /// A sum held one short of the upper end.
+    SumShortAbove,
+    /// A sum held one short of the lower end.
+    SumShortBelow,
+    /// A choice becomes c for zero and b for anything else.
+    BranchesExchanged,
+    /// A number called zero on its low 16 bits alone.
+    ZeroByLowHalf,
+    /// A number called zero on its high 16 bits alone.
+    ZeroByHighHalf,
+    /// A choice that takes a negative number for zero.
+    NegativeAsZero,
+    /// A choice becomes b or c itself, not annotated.
+    BranchBare,
+    /// All parts of a choice run before it is taken.
+    BranchesRun,
+    /// The right of a sum stepped before the left is a value.
+    RightOfSumFirst,
+    /// The reading of a merge in a sum, or of one that a choice tests, counted as a step.
+    ReadingCounted,
+    /// A merge in a sum read from its right half alone.
+    SumReadsRightHalf,
+    /// A merge that a choice tests read from its left half alone.
+    ChoiceReadsLeftHalf,
+    /// A sum given the type of its left.
+    SumTypeOfLeft,
+    /// A choice given the type of its b.
+    ChoiceTypeOfBranch,
+    /// What is below Int and not Int itself refused as a part of a sum or choice.
+    ExactlyInt,
+    /// Both parts of a sum walked before the left is checked.
+    SumCheckedLate,
+    /// The a of a choice checked only after b is walked.
+    TestCheckedLate,
+    /// The b of a choice checked only after c is walked.
+    BranchCheckedLate,
+    /// 15 names the choice instead of its c.
+    LastByWhole,
+    /// 15 names the b of a choice instead of its c.
+    LastBySecond,
+    /// The c of a choice walked and not checked.
+    LastUnchecked,
+    /// Kinds 26 and 27 unknown.
+    OlderKinds,
+    /// A choice called closed on a and b alone.
+    ClosedByTwoParts,
+    /// Choices called equal on a and b alone.
+    EqualByTwoParts,
+    /// An argument or fixpoint not substituted in the c of a choice.
+    SubstitutedInTwoParts,
+    /// Room without the branches that wait around the part that steps.
+    RoomWithoutBranches,
 }
 
 impl Fault {
-    pub const ALL: [Fault; 40] = [
+    pub const ALL: [Fault; 67] = [
         Fault::CovariantInputs,
         Fault::ArgumentUncast,
         Fault::RoomOneEarly,
@@ -128,6 +182,33 @@ impl Fault {
         Fault::TypePartsOneLevel,
         Fault::ValuePartsOneLevel,
         Fault::FirstFieldTaken,
+        Fault::SumWraps,
+        Fault::SumShortAbove,
+        Fault::SumShortBelow,
+        Fault::BranchesExchanged,
+        Fault::ZeroByLowHalf,
+        Fault::ZeroByHighHalf,
+        Fault::NegativeAsZero,
+        Fault::BranchBare,
+        Fault::BranchesRun,
+        Fault::RightOfSumFirst,
+        Fault::ReadingCounted,
+        Fault::SumReadsRightHalf,
+        Fault::ChoiceReadsLeftHalf,
+        Fault::SumTypeOfLeft,
+        Fault::ChoiceTypeOfBranch,
+        Fault::ExactlyInt,
+        Fault::SumCheckedLate,
+        Fault::TestCheckedLate,
+        Fault::BranchCheckedLate,
+        Fault::LastByWhole,
+        Fault::LastBySecond,
+        Fault::LastUnchecked,
+        Fault::OlderKinds,
+        Fault::ClosedByTwoParts,
+        Fault::EqualByTwoParts,
+        Fault::SubstitutedInTwoParts,
+        Fault::RoomWithoutBranches,
     ];
 }
 

@@ -1,5 +1,5 @@
-//! Document 01's table of kinds: what is known of a kind of cell stands in its row. Decoding, sizes, binders, encoding and printing go by
-//! the rows, and so does the comparison, which has no list of kinds of its own.
+//! Document 01's table of kinds, with the two kinds that document 02 (ii) adds: what is known of a kind of cell stands in its row. Decoding,
+//! sizes, binders, the parts that run, encoding and printing go by the rows, and so does the comparison, which has no list of kinds of its own.
 
 /// What a cell is, and what a reference asks for.
 #[derive(Clone, Copy, PartialEq, Eq, Debug)]
@@ -43,6 +43,8 @@ pub struct Row {
     pub fields: [Field; 3],
     /// How many variables it binds in a.
     pub binders: u32,
+    /// How many of its parts run, from a on, left first; the others wait.
+    pub running: usize,
     /// How it is printed: `$l` is the label, `$a`, `$b` and `$c` are the fields, `$n` is the number that b and c hold.
     pub notation: &'static str,
 }
@@ -75,7 +77,7 @@ const TERM: Field = Field::Reference(Sort::Term);
 
 macro_rules! table {
     ($($kind:literal $name:ident $meaning:literal $sort:ident $labelled:literal $a:ident $b:ident $c:ident $binders:literal
-       $notation:literal)*) => {
+       $running:literal $notation:literal)*) => {
         /// The kinds by name.
         pub mod kind {
             $(#[doc = $meaning] pub const $name: u8 = $kind;)*
@@ -91,6 +93,7 @@ macro_rules! table {
                 labelled: $labelled,
                 fields: [$a, $b, $c],
                 binders: $binders,
+                running: $running,
                 notation: $notation,
             };)*
         }
@@ -109,20 +112,22 @@ macro_rules! table {
 }
 
 table! {
-    // kind  name           meaning          sort  label  a      b      c      binders in a   notation
-       1     INT            "Int"            Type  false  NONE   NONE   NONE   0              "Int"
-       2     TOP            "Top"            Type  false  NONE   NONE   NONE   0              "Top"
-       3     FUNCTION_TYPE  "function type"  Type  false  TYPE   TYPE   NONE   0              "($a -> $b)"
-       4     INTERSECTION   "intersection"   Type  false  TYPE   TYPE   NONE   0              "($a & $b)"
-       5     RECORD_TYPE    "record type"    Type  true   TYPE   NONE   NONE   0              "{$l: $a}"
-       16    VARIABLE       "variable"       Term  false  PLAIN  NONE   NONE   0              "#$a"
-       17    NUMBER         "number"         Term  false  NONE   PLAIN  PLAIN  0              "$n"
-       18    TOP_VALUE      "top value"      Term  false  NONE   NONE   NONE   0              "top"
-       19    ANNOTATION     "annotation"     Term  false  TERM   TYPE   NONE   0              "($a : $b)"
-       20    APPLICATION    "application"    Term  false  TERM   TERM   NONE   0              "($a $b)"
-       21    FUNCTION       "function"       Term  false  TERM   TYPE   TYPE   1              "(fun $a : $b -> $c)"
-       22    MERGE          "merge"          Term  false  TERM   TERM   NONE   0              "($a ,, $b)"
-       23    FIXPOINT       "fixpoint"       Term  false  TERM   TYPE   NONE   1              "(fix $a : $b)"
-       24    RECORD         "record"         Term  true   TERM   NONE   NONE   0              "{$l = $a}"
-       25    PROJECTION     "field read"     Term  true   TERM   NONE   NONE   0              "$a.$l"
+    // kind  name           meaning          sort  label  a      b      c      binders in a   run   notation
+       1     INT            "Int"            Type  false  NONE   NONE   NONE   0              0     "Int"
+       2     TOP            "Top"            Type  false  NONE   NONE   NONE   0              0     "Top"
+       3     FUNCTION_TYPE  "function type"  Type  false  TYPE   TYPE   NONE   0              0     "($a -> $b)"
+       4     INTERSECTION   "intersection"   Type  false  TYPE   TYPE   NONE   0              0     "($a & $b)"
+       5     RECORD_TYPE    "record type"    Type  true   TYPE   NONE   NONE   0              0     "{$l: $a}"
+       16    VARIABLE       "variable"       Term  false  PLAIN  NONE   NONE   0              0     "#$a"
+       17    NUMBER         "number"         Term  false  NONE   PLAIN  PLAIN  0              0     "$n"
+       18    TOP_VALUE      "top value"      Term  false  NONE   NONE   NONE   0              0     "top"
+       19    ANNOTATION     "annotation"     Term  false  TERM   TYPE   NONE   0              1     "($a : $b)"
+       20    APPLICATION    "application"    Term  false  TERM   TERM   NONE   0              2     "($a $b)"
+       21    FUNCTION       "function"       Term  false  TERM   TYPE   TYPE   1              0     "(fun $a : $b -> $c)"
+       22    MERGE          "merge"          Term  false  TERM   TERM   NONE   0              2     "($a ,, $b)"
+       23    FIXPOINT       "fixpoint"       Term  false  TERM   TYPE   NONE   1              0     "(fix $a : $b)"
+       24    RECORD         "record"         Term  true   TERM   NONE   NONE   0              1     "{$l = $a}"
+       25    PROJECTION     "field read"     Term  true   TERM   NONE   NONE   0              1     "$a.$l"
+       26    SUM            "sum"            Term  false  TERM   TERM   NONE   0              2     "($a + $b)"
+       27    CHOICE         "choice"         Term  false  TERM   TERM   TERM   0              1     "(if $a = 0 then $b else $c)"
 }

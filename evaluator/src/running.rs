@@ -2,6 +2,7 @@
 
 use crate::faults::{current, planted, Fault};
 use crate::fields::read_value;
+use crate::numbers::{choices, read_apart, sums};
 use crate::terms::{Term, TermShape, Type, TypeShape};
 use crate::typing::{subtype, top_like};
 
@@ -67,6 +68,9 @@ pub fn substitute(e: &Term, depth: u32, what: &Term) -> Term {
     match e.shape() {
         TermShape::Variable(skipped) if u32::from(*skipped) == depth => what.clone(),
         TermShape::Variable(skipped) => Term::variable(skipped - 1),
+        TermShape::Choice(a, b, c) if planted(Fault::SubstitutedInTwoParts) => {
+            Term::choice(substitute(a, depth, what), substitute(b, depth, what), c.clone())
+        }
         _ => e.map(|part, binders| substitute(part, depth + binders, what)),
     }
 }
@@ -98,25 +102,33 @@ impl Frame {
 }
 
 /// "Steps go leftmost first, never under a binder: the left of an application or merge until it is a value, then the right; the
-/// inside of an annotation, record or field read." The field of the part whose step is the term's, and the part; None if the term
-/// steps itself.
+/// inside of an annotation, record or field read." "Sides of a sum run left first; of a choice only a runs, while b and c wait." The
+/// field of the part whose step is the term's, and the part; None if the term steps itself.
 fn decompose(e: &Term) -> Option<(usize, &Term)> {
     match e.shape() {
         TermShape::Application(a, _) if planted(Fault::TopAppliedEarly) && matches!(a.shape(), TermShape::Top) => return None,
         TermShape::Annotation(_, t) if planted(Fault::TopLikeUncast) && matches!(t.shape(), TypeShape::Top) => return None,
         _ => {}
     }
-    let steps = |(field, binders, part): (usize, u32, _)| (binders == 0 && !Term::is_value(part)).then_some((field, part));
-    let mut waiting = e.node().terms().filter_map(steps);
-    if planted(Fault::RightPartFirst) {
-        waiting.next_back()
-    } else {
-        waiting.next()
+    let node = e.node();
+    let running = match e.shape() {
+        TermShape::Choice(..) if planted(Fault::BranchesRun) => 3,
+        _ => node.row.running,
+    };
+    let runs = |&(field, _, part): &(usize, u32, &Term)| field < running && !part.is_value();
+    let mut parts = node.terms().filter(runs).map(|(field, _, part)| (field, part));
+    match e.shape() {
+        _ if planted(Fault::RightPartFirst) => parts.next_back(),
+        TermShape::Sum(..) if planted(Fault::RightOfSumFirst) => parts.next_back(),
+        _ => parts.next(),
     }
 }
 
 /// What a term becomes whose active parts are values already. Each result once.
 fn contract(e: &Term) -> Vec<Term> {
+    if let Some(read) = read_apart(e) {
+        return vec![read];
+    }
     match e.shape() {
         // "Then: an annotated value becomes its reading."
         TermShape::Annotation(v, t) => casts(v, t),
@@ -134,6 +146,8 @@ fn contract(e: &Term) -> Vec<Term> {
         // "A fixpoint becomes its body with itself put in, annotated with its type."
         TermShape::Fixpoint(body, _) if planted(Fault::FixpointBare) => vec![substitute(body, 0, e)],
         TermShape::Fixpoint(body, t) => vec![Term::annotation(substitute(body, 0, e), t.clone())],
+        TermShape::Sum(a, b) => each_once(sums(a, b)),
+        TermShape::Choice(a, b, c) => each_once(choices(a, b, c)),
         TermShape::Variable(_) | TermShape::Number(_) | TermShape::Top | TermShape::Function(..) => vec![],
         TermShape::Merge(..) | TermShape::Record(..) => vec![],
     }
@@ -208,9 +222,16 @@ impl Machine {
             Some(Fault::RoomWithNearestLeft) => size - sizes(Frame::left).skip(1).sum::<u64>(),
             Some(Fault::RoomWithoutRight) => size - sizes(Frame::right).sum::<u64>(),
             Some(Fault::RoomOneLateBetween) => size - sizes(Frame::left).zip(sizes(Frame::right)).count().min(1) as u64,
+            Some(Fault::RoomWithoutBranches) => size - self.branches(),
             Some(Fault::RoomForUnused) => size + unused(&self.focus),
             Some(_) => *size,
         }
+    }
+
+    /// The size of the branches of choices that wait around the part in focus.
+    fn branches(&self) -> u64 {
+        let choices = self.frames.iter().filter(|frame| matches!(frame.around.shape(), TermShape::Choice(..)));
+        choices.map(Frame::right).sum()
     }
 
     /// How many frames there are.

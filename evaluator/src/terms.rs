@@ -1,6 +1,7 @@
 //! Types and terms as trees. A part may be shared between several owners, but nothing can tell a shared part from a copied one:
 //! sizes and equality are those of the tree.
 
+use crate::faults::{planted, Fault};
 use crate::kinds::{kind, rows, Row};
 use std::fmt::{self, Write};
 use std::rc::Rc;
@@ -201,13 +202,16 @@ struct TermNode {
 /// "As trees": the cell that a term was decoded from is no part of it.
 impl PartialEq for TermNode {
     fn eq(&self, other: &TermNode) -> bool {
-        self.size == other.size && self.shape == other.shape
+        match (&self.shape, &other.shape) {
+            (TermShape::Choice(a, b, _), TermShape::Choice(x, y, _)) if planted(Fault::EqualByTwoParts) => a == x && b == y,
+            _ => self.size == other.size && self.shape == other.shape,
+        }
     }
 }
 
 impl Eq for TermNode {}
 
-/// The terms of document 01's table.
+/// The terms of document 01's table, and the two that document 02 adds.
 #[derive(PartialEq, Eq)]
 pub enum TermShape {
     Variable(u16),
@@ -221,6 +225,9 @@ pub enum TermShape {
     Fixpoint(Term, Type),
     Record(u8, Term),
     Projection(u8, Term),
+    Sum(Term, Term),
+    /// The part that is tested, then what it becomes for zero and for anything else.
+    Choice(Term, Term, Term),
 }
 
 impl TermShape {
@@ -239,6 +246,8 @@ impl TermShape {
             TermShape::Fixpoint(e, t) => Node::new(rows::FIXPOINT, [Part::Term(e), Part::Type(t), Part::None]),
             TermShape::Record(label, e) => Node::labelled(rows::RECORD, *label, Part::Term(e)),
             TermShape::Projection(label, e) => Node::labelled(rows::PROJECTION, *label, Part::Term(e)),
+            TermShape::Sum(l, r) => Node::new(rows::SUM, [Part::Term(l), Part::Term(r), Part::None]),
+            TermShape::Choice(a, b, c) => Node::new(rows::CHOICE, [Part::Term(a), Part::Term(b), Part::Term(c)]),
         }
     }
 
@@ -254,6 +263,8 @@ impl TermShape {
             kind::FIXPOINT => TermShape::Fixpoint(a.to_term(), b.to_type()),
             kind::RECORD => TermShape::Record(label, a.to_term()),
             kind::PROJECTION => TermShape::Projection(label, a.to_term()),
+            kind::SUM => TermShape::Sum(a.to_term(), b.to_term()),
+            kind::CHOICE => TermShape::Choice(a.to_term(), b.to_term(), c.to_term()),
             _ => unreachable!("its row is that of a term"),
         }
     }
@@ -327,6 +338,14 @@ impl Term {
         Term::new(TermShape::Projection(label, of))
     }
 
+    pub fn sum(left: Term, right: Term) -> Term {
+        Term::new(TermShape::Sum(left, right))
+    }
+
+    pub fn choice(test: Term, for_zero: Term, otherwise: Term) -> Term {
+        Term::new(TermShape::Choice(test, for_zero, otherwise))
+    }
+
     pub fn shape(&self) -> &TermShape {
         &self.0.shape
     }
@@ -371,7 +390,20 @@ impl Term {
 
     /// No variable in it, function bodies included, reaches beyond it.
     pub fn is_closed(&self) -> bool {
+        if planted(Fault::ClosedByTwoParts) {
+            return self.open_by_two_parts() == 0;
+        }
         self.0.open == 0
+    }
+
+    /// The binders that its variables need, those in the third part of a choice left out.
+    fn open_by_two_parts(&self) -> u32 {
+        let parts = self.node().terms().filter(|(field, ..)| *field < 2);
+        let open = |(_, binders, part): (usize, u32, &Term)| part.open_by_two_parts().saturating_sub(binders);
+        match self.shape() {
+            TermShape::Variable(_) => self.0.open,
+            _ => parts.map(open).max().unwrap_or(0),
+        }
     }
 }
 

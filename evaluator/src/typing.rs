@@ -1,9 +1,10 @@
 //! The relations on types, and finding a term's type.
 
 use crate::book::Refusal;
-use crate::faults::{planted, Fault};
+use crate::faults::{current, planted, Fault};
 use crate::fields::read_type;
 use crate::terms::{Term, TermShape, Type, TypeShape};
+use std::ops::Range;
 
 /// "Top-like: Top; a function type with a top-like output; an intersection of two such; a record type over one."
 pub fn top_like(t: &Type) -> bool {
@@ -116,6 +117,8 @@ pub fn infer(binders: &mut Vec<Type>, e: &Term) -> Result<Type, Refusal> {
         TermShape::Application(left, right) => infer_application(binders, e, left, right),
         TermShape::Projection(label, of) => infer_projection(binders, e, *label, of),
         TermShape::Merge(left, right) => infer_merge(binders, e, left, right),
+        TermShape::Sum(a, b) => infer_numbers(binders, e, &[a, b]),
+        TermShape::Choice(a, b, c) => infer_numbers(binders, e, &[a, b, c]),
     }
 }
 
@@ -157,6 +160,48 @@ fn infer_merge(binders: &mut Vec<Type>, e: &Term, left: &Term, right: &Term) -> 
         Ok(Type::intersection(a, b))
     } else {
         refuse(14, if planted(Fault::HalfNamed) { left } else { e })
+    }
+}
+
+/// A sum: "both are checked against Int". A choice: "a, b, c are checked against Int and the result is Int." "Typing checks each part
+/// before it walks the next."
+fn infer_numbers(binders: &mut Vec<Type>, e: &Term, parts: &[&Term]) -> Result<Type, Refusal> {
+    let int = Type::int();
+    let mut found = Vec::with_capacity(parts.len());
+    for (place, part) in parts.iter().enumerate() {
+        found.push(infer(binders, part)?);
+        for checked in due(parts.len(), place) {
+            let below = if planted(Fault::ExactlyInt) { found[checked] == int } else { subtype(&found[checked], &int) };
+            if !below {
+                return refuse(15, named(e, parts, checked));
+            }
+        }
+    }
+    match (current(), &found[..]) {
+        (Some(Fault::SumTypeOfLeft), [left, _]) => Ok(left.clone()),
+        (Some(Fault::ChoiceTypeOfBranch), [_, branch, _]) => Ok(branch.clone()),
+        _ => Ok(int),
+    }
+}
+
+/// Which of so many parts are checked once the one at this place is walked: that one, unless a fault is planted.
+fn due(parts: usize, place: usize) -> Range<usize> {
+    match (current(), parts, place) {
+        (Some(Fault::SumCheckedLate), 2, 0) | (Some(Fault::TestCheckedLate), 3, 0) => 0..0,
+        (Some(Fault::SumCheckedLate), 2, 1) | (Some(Fault::TestCheckedLate), 3, 1) => 0..2,
+        (Some(Fault::BranchCheckedLate), 3, 1) => 1..1,
+        (Some(Fault::BranchCheckedLate), 3, 2) => 1..3,
+        (Some(Fault::LastUnchecked), 3, 2) => 2..2,
+        _ => place..place + 1,
+    }
+}
+
+/// The term that 15 names when this part of a sum or choice is not below Int: the part, unless a fault is planted.
+fn named<'a>(e: &'a Term, parts: &[&'a Term], place: usize) -> &'a Term {
+    match (current(), place) {
+        (Some(Fault::WholeNamed), _) | (Some(Fault::LastByWhole), 2) => e,
+        (Some(Fault::LastBySecond), 2) => parts[1],
+        _ => parts[place],
     }
 }
 

@@ -209,7 +209,7 @@ fn refusals_of_cells() {
     let number = [17, 0, 0, 1, 0];
     let int = [1, 0, 0, 0, 0];
     // 5, also in a cell that the root does not reach; kinds just past the ranges.
-    for kind in [0, 6, 15, 26, 255] {
+    for kind in [0, 6, 15, 28, 255] {
         assert_eq!(checked(&book(&[number, [kind, 0, 0, 0, 0]], 0)), refused(5, 1));
     }
     // 6: a label or a field where none is named.
@@ -226,10 +226,10 @@ fn refusals_of_cells() {
     assert_eq!(checked(&book(&[number, int], 1)), refused(9, 1));
 }
 
-/// Document 01: types are the kinds 1 to 5, terms 16 to 25; "Kinds 21 and 23 bind one variable in a."
+/// Document 01: types are the kinds 1 to 5, terms 16 to 25; "Kinds 21 and 23 bind one variable in a." Document 02 (ii) adds 26 and 27.
 #[test]
-fn the_table_has_the_kinds_of_document_01() {
-    assert_eq!(TABLE.iter().map(|row| row.kind).collect::<Vec<_>>(), (1..=5).chain(16..=25).collect::<Vec<_>>());
+fn the_table_has_the_kinds_of_the_documents() {
+    assert_eq!(TABLE.iter().map(|row| row.kind).collect::<Vec<_>>(), (1..=5).chain(16..=27).collect::<Vec<_>>());
     for (row, kind) in TABLE.iter().zip((1..=5).chain(16..)) {
         assert_eq!((evaluator::row(kind), row.sort == Sort::Type), (Some(row), kind <= 5));
         assert_eq!(row.binders, u32::from([21, 23].contains(&kind)), "{}", row.meaning);

@@ -1,5 +1,5 @@
--- All samples marked M hold of the definitions, by one computation, and so do the books of the field reads and of the refusals; closed facts
--- beside them.
+-- All samples marked M hold of the definitions, by one computation, and so do the books of the field reads, of sums and choices and of the
+-- refusals; closed facts beside them.
 -- Assumes nothing.
 use Prim.Native.Nat.{ℕ}
 use mathlib.Core.Path.{_≡_, refl, _∙_}
@@ -7,13 +7,15 @@ use mathlib.Core.Bool.{decide}
 use mathlib.Core.Option.{orElse}
 use mathlib.Core.List.{List, [], _∷_, map}
 use native.Mathlib.Decide.{ℕ-discrete}
-use Rattle.calculus.specs.Syntax.{Ty, int, size, size-type, Term, var, anno, fix, substitute}
+use lib.IntN.{pos}
+use Rattle.calculus.specs.Syntax.{Ty, int, size, size-type, Term, var, lit, anno, fix, choice, substitute}
+use Rattle.calculus.specs.Numbers.{hold, chosen}
 use Rattle.calculus.specs.Decide.{topLike?, bothParts, fieldPart, typeOf, belowWithin, below?, disjointInt, disjointArrow, disjointField, disjoint?, value?, closed?}
 use Rattle.calculus.specs.Decide.{sameUnder, sameInteger, sameType, sameTerm, eachPart, consistentLit, consistentLam, consistentRcd, consistent?}
 use Rattle.calculus.specs.Infer.{lookup, checked, applied, picked, projected, labelled, mergeable?, merged, infer}
-use Rattle.calculus.specs.Evaluate.{mergeBoth, firstPart, castInt, castArrow, castField, cast, apply, content, topValue, readParts, project, next}
+use Rattle.calculus.specs.Evaluate.{mergeBoth, firstPart, castInt, castArrow, castField, cast, apply, content, topValue, readParts, project, numberOf, choose, add, next}
 use Rattle.format.specs.Table.{All, table, rowIn, rowOf}
-use Rattle.format.specs.Cell.{cellAt, cellBytes, signed, unsigned}
+use Rattle.format.specs.Cell.{half, cellAt, cellBytes, signed, unsigned}
 use Rattle.format.specs.Tree.{cells, fieldTree, cellTree, unshareWithin, treeAt, refer, encode}
 use Rattle.format.specs.Terms.{fromType, fromTerm, plainOf, toType, toTerm}
 use Rattle.format.specs.Book.{firstBad, rowFault, cellFault, cellsFinding, rootFinding, cellsForm, formFinding, follow, rootTerm, trailer, book}
@@ -26,10 +28,11 @@ use Rattle.answers.specs.Samples.{Call, Sample, called, expected, Meets,
 use Rattle.answers.specs.Samples.{equalNumbers, unequalNumbers, mergedVariable, twiceRead, identityOnMerge, identityUnderTop}
 use Rattle.answers.specs.Samples.{appliedTop, appliedNumber, hiddenField, ownFixpoint, doubled, refusals}
 use Rattle.answers.specs.Samples.{mergedField, missingField, twoFields, topLikeBesideField, topLikeFields, topLikeContent, loneTopLike, topLikeFunction, nestedParts, hiddenUnannotated, laterMerge, twoFieldsBesideTop, topLikeOtherLabel, topPart, loneFunction, loneOtherLabel, fieldReads}
+use Rattle.answers.specs.Samples.{onePlusTwo, pastUpperEnd, pastLowerEnd, atUpperEnd, atLowerEnd, bothEnds, sumOfSums, mergedSide, topPlusVariable, onePlusTop, choiceByZero, choiceByOne, choiceByMinusOne, choiceByHigh, waitingLoop, annotatedBranch, choiceByTop, topForZero, topForOther, freeInOther, sumMerged, equalBodies, exchangedBodies, triangle, sumNamesC, labelledSum, labelledChoice, choiceOfItself, choiceOfType, unknownKind, sumsAndChoices}
 
 -- to name it on a line is to unfold every definition that a computation of an answer meets, but for the zero tail
 unfoldable pub computing : ℕ
-unfolding size size-type substitute topLike? bothParts fieldPart typeOf belowWithin below? disjointInt disjointArrow disjointField disjoint? value? closed? decide sameUnder sameInteger ℕ-discrete sameType sameTerm eachPart consistentLit consistentLam consistentRcd consistent? lookup checked applied picked projected labelled mergeable? merged infer orElse mergeBoth firstPart castInt castArrow castField cast apply content topValue readParts project next table rowIn rowOf cellAt cellBytes signed unsigned cells fieldTree cellTree unshareWithin treeAt refer encode fromType fromTerm plainOf toType toTerm firstBad rowFault cellFault cellsFinding rootFinding cellsForm formFinding follow rootTerm trailer book refusalResult afterTyping afterForm shown full? firstStop evaluate endResult padded
+unfolding size size-type substitute topLike? bothParts fieldPart typeOf belowWithin below? disjointInt disjointArrow disjointField disjoint? value? closed? decide sameUnder sameInteger ℕ-discrete sameType sameTerm eachPart consistentLit consistentLam consistentRcd consistent? lookup checked applied picked projected labelled mergeable? merged infer orElse mergeBoth firstPart castInt castArrow castField cast apply content topValue readParts project hold chosen numberOf choose add next table rowIn rowOf cellAt cellBytes signed unsigned cells fieldTree cellTree unshareWithin treeAt refer encode fromType fromTerm plainOf toType toTerm firstBad rowFault cellFault cellsFinding rootFinding cellsForm formFinding follow rootTerm trailer book refusalResult afterTyping afterForm shown full? firstStop evaluate endResult padded
 computing = 0
 
 -- with a work buffer of 65,536 bytes the rows from 2 on decide
@@ -72,6 +75,13 @@ field-reads-computed = refl
 pub field-reads-hold : All (Meets definition) fieldReads
 field-reads-hold = each fieldReads field-reads-computed
 
+sums-and-choices-computed : map answered sumsAndChoices ≡ map expected sumsAndChoices
+unfolding computing answered sumsAndChoices onePlusTwo pastUpperEnd pastLowerEnd atUpperEnd atLowerEnd bothEnds sumOfSums mergedSide topPlusVariable onePlusTop choiceByZero choiceByOne choiceByMinusOne choiceByHigh waitingLoop annotatedBranch choiceByTop topForZero topForOther freeInOther sumMerged equalBodies exchangedBodies triangle sumNamesC labelledSum labelledChoice choiceOfItself choiceOfType unknownKind
+sums-and-choices-computed = refl
+
+pub sums-and-choices-hold : All (Meets definition) sumsAndChoices
+sums-and-choices-hold = each sumsAndChoices sums-and-choices-computed
+
 refusals-computed : map answered refusals ≡ map expected refusals
 unfolding computing answered refusals unequalNumbers appliedNumber doubled
 refusals-computed = refl
@@ -86,19 +96,24 @@ abbrev growing : Term
 growing = fix (var 0) int
 
 -- limit 0: spent, 0
-growing-0 : evaluate 5 0 0 growing ≡ ended spent 0 growing
+growing-0 : evaluate half 5 0 0 growing ≡ ended spent 0 growing
 unfolding computing
 growing-0 = refl
 
 -- limit 1: spent after 1, "else no room": the third term is not asked for
-growing-1 : evaluate 5 1 0 growing ≡ ended spent 1 (anno growing int)
+growing-1 : evaluate half 5 1 0 growing ≡ ended spent 1 (anno growing int)
 unfolding computing
 growing-1 = refl
 
 -- limit 2: no room, 1 step
-growing-2 : evaluate 5 2 0 growing ≡ ended room 1 (anno growing int)
+growing-2 : evaluate half 5 2 0 growing ≡ ended room 1 (anno growing int)
 unfolding computing
 growing-2 = refl
+
+-- A choice's other branch counts until it goes: with room for 7 the tested part, of 3 cells, cannot become one of 5.
+waiting-branch-counts : evaluate half 7 1 0 (choice growing (lit (pos 1)) (lit (pos 2))) ≡ ended room 0 (choice growing (lit (pos 1)) (lit (pos 2)))
+unfolding computing
+waiting-branch-counts = refl
 
 -- "Refusal 1 touches nothing": whatever the book and the call
 refusal-1 : (c : Call) (b : List ℕ) → called definition c b (7 ∷ 8 ∷ 9 ∷ []) ≡ result (refused 1 0) (7 ∷ 8 ∷ 9 ∷ [])

@@ -17,7 +17,7 @@ use Rattle.calculus.specs.Infer as Infer
 use Rattle.calculus.proofs.Chain.{sound}
 use Rattle.calculus.proofs.Soundness.{value-no-step}
 use Rattle.calculus.proofs.Inference.{infer-says}
-use Rattle.format.specs.Cell.{IsBytes}
+use Rattle.format.specs.Cell.{IsBytes, half}
 use Rattle.format.specs.Book.{sizeLimit, Finding, formFinding, WellFormed, rootOf, follow, rootTerm, termBook}
 use Rattle.format.proofs.Tests.{formFinding-says, rootTerm-fits, rootTerm-small}
 use Rattle.format.specs.RoundTrip.{TermRoundTrip}
@@ -32,21 +32,21 @@ use Rattle.answers.proofs.Running.{Ran, ran}
 use Rattle.answers.proofs.Agreement.{lesser-steps, same-result}
 
 -- Two runs of a typed term, by whatever engines, agree.
-only-one : {e : Term} {A : Ty} → Typed [] e A → (n : ℕ) (f g : Term) → Reaches n e f → Reaches n e g → f ≡ g
+only-one : {h : ℕ} {e : Term} {A : Ty} → Typed [] e A → (n : ℕ) (f g : Term) → Reaches h n e f → Reaches h n e g → f ≡ g
 only-one t n f g r q = sound t n g q .only f r
 
-pub runs-agree : {e : Term} {A : Ty} {l k : ℕ} {x y : Result} → Typed [] e A → TakesSteps e l x → TakesSteps e k y → Agree l k x y
-runs-agree {e} {l = l} t p q =
+pub runs-agree : {h : ℕ} {e : Term} {A : Ty} {l k : ℕ} {x y : Result} → Typed [] e A → TakesSteps h e l x → TakesSteps h e k y → Agree l k x y
+runs-agree {h} {e} {l = l} t p q =
     record {
-      lesser = λ h. steps-of p ∙ lesser-steps (only-one t) final p q h ∙ ap (min l) (sym (steps-of q));
-      same = λ h u. same-result (only-one t) final p q h
+      lesser = λ i. steps-of p ∙ lesser-steps (only-one t) final p q i ∙ ap (min l) (sym (steps-of q));
+      same = λ i u. same-result (only-one t) final p q i
           (λ s. u (p .steps) (ap (λ (r : Result). r .answer) (p .says) ∙ ap (λ (s : Stop). stopped s (p .steps)) s));
     }
   where
-    final : (f g : Term) → IsValue f → ¬ Step f g
+    final : (f g : Term) → IsValue f → ¬ Step h f g
     final f g v s = value-no-step (v .1) s
 
-    steps-of : {n : ℕ} {r : Result} (z : TakesSteps e n r) → stepsOf (r .answer) ≡ z .steps
+    steps-of : {n : ℕ} {r : Result} (z : TakesSteps h e n r) → stepsOf (r .answer) ≡ z .steps
     steps-of z = ap (λ (r : Result). stepsOf (r .answer)) (z .says)
 
 -- Demand 2 fixes what an engine says of accepted books, so the theorem of the calculus gives demand 3.
@@ -54,7 +54,7 @@ module _ (E : Engine) (d : Demand2 E) (b : List ℕ) (bytes : IsBytes b) (a : Ac
   well-typed : WellFormed b × ((A : Ty) × Typed [] (rootTerm b) A)
   well-typed = d b bytes .accepts .0 a
 
-  book-accepted : (n : ℕ) (f : Term) → Reaches n (rootTerm b) f → size f ≤ sizeLimit → (w : List ℕ) → IsWork w →
+  book-accepted : (n : ℕ) (f : Term) → Reaches half n (rootTerm b) f → size f ≤ sizeLimit → (w : List ℕ) → IsWork w →
       (m : ℕ) × (E .check (termBook f) w .answer ≡ accepted m)
   book-accepted n f r h w k =
       let l : TermRoundTrip f = term-round-trip f (reaches-fits r (rootTerm-fits b bytes (well-typed .0))) h in
@@ -62,7 +62,7 @@ module _ (E : Engine) (d : Demand2 E) (b : List ℕ) (bytes : IsBytes b) (a : Ac
       let u : Typed [] (rootTerm (termBook f)) (t .0) = subst⁻¹ (λ (x : Term). Typed [] x (t .0)) (l .decodes) (t .1) in
       (_, ap (λ (x : Result). x .answer) (d (termBook f) (l .bytes) .shows (t .0) (l .well-formed) u w k))
 
-  runs-of : (w : List ℕ) (l : ℕ) → IsWork w → IsLimit l → TakesSteps (rootTerm b) l (E .run b w l)
+  runs-of : (w : List ℕ) (l : ℕ) → IsWork w → IsLimit l → TakesSteps half (rootTerm b) l (E .run b w l)
   runs-of = d b bytes .runs a
 
   pub demand3-for : Demand3For E b
@@ -129,20 +129,20 @@ typed-accepts b t =
     }
 
 -- the term after no steps is the root
-first-small : (b : List ℕ) → IsBytes b → WellFormed b → (n : ℕ) (f : Term) → n ≤ 0 → Reaches n (rootTerm b) f → size f ≤ sizeLimit
+first-small : (b : List ℕ) → IsBytes b → WellFormed b → (n : ℕ) (f : Term) → n ≤ 0 → Reaches half n (rootTerm b) f → size f ≤ sizeLimit
 first-small b bytes t n f h r-zero = rootTerm-small b bytes t
 first-small b bytes t n f h (r-suc q s) = absurd (omega arith)
 
 -- the executable run from the root
-pub root-ran : (b : List ℕ) (l : ℕ) {A : Ty} → IsBytes b → WellFormed b → Typed [] (rootTerm b) A → Ran (rootTerm b) l (ending b l)
+pub root-ran : (b : List ℕ) (l : ℕ) {A : Ty} → IsBytes b → WellFormed b → Typed [] (rootTerm b) A → Ran half (rootTerm b) l (ending b l)
 root-ran b l bytes f t =
-    subst (λ (n : ℕ). Ran (rootTerm b) n (ending b l)) (zero-add l) (ran t l 0 (rootTerm b) r-zero (first-small b bytes f))
+    subst (λ (n : ℕ). Ran half (rootTerm b) n (ending b l)) (zero-add l) (ran half t l 0 (rootTerm b) r-zero (first-small b bytes f))
 
-pub definition-runs : (b w : List ℕ) (l : ℕ) → IsBytes b → IsWork w → Accepts definition b → TakesSteps (rootTerm b) l (run b w l)
+pub definition-runs : (b w : List ℕ) (l : ℕ) → IsBytes b → IsWork w → Accepts definition b → TakesSteps half (rootTerm b) l (run b w l)
 unfolding run endResult
 definition-runs b w l bytes k a =
     let t = accepts-typed b a (judged b) in
-    let r : Ran (rootTerm b) l (ending b l) = root-ran b l bytes (t .0) (t .1 .1) in
+    let r : Ran half (rootTerm b) l (ending b l) = root-ran b l bytes (t .0) (t .1 .1) in
     record {
       stop = _;
       steps = _;

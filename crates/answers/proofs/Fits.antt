@@ -1,12 +1,17 @@
 -- Steps keep labels, indices and numbers within their fields. Assumes nothing.
 use Prim.Native.Nat.{ℕ, suc}
+use native.Mathlib.Omega.{arith}
 use lib.Dec.{eqb}
-use Rattle.calculus.specs.Syntax.{Ty, Term, var, lit, unit, anno, app, lam, merge, fix, rcd, proj, substitute}
+use lib.IntN.{_+ℤ_}
+use Rattle.calculus.specs.Syntax.{Ty, Term, var, lit, unit, anno, app, lam, merge, fix, rcd, proj, sum, choice, substitute}
 use Rattle.calculus.specs.TypedReduction.{Cast, c-lit, c-top, c-arrow, c-rcd, c-left, c-right, c-both}
 use Rattle.calculus.specs.Fields.{HasField, f-here, f-left, f-right}
 use Rattle.calculus.specs.Step.{Step, s-app-left, s-app-right, s-merge-left, s-merge-right, s-anno, s-rcd, s-proj, s-cast, s-beta}
-use Rattle.calculus.specs.Step.{s-app-unit, s-proj-unit, s-proj-rcd, s-proj-part, s-proj-none, s-fix, Reaches, r-zero, r-suc}
+use Rattle.calculus.specs.Step.{s-app-unit, s-proj-unit, s-proj-rcd, s-proj-part, s-proj-none, s-fix}
+use Rattle.calculus.specs.Step.{s-sum-left, s-sum-right, s-sum, s-choice-first, s-choice, Reaches, r-zero, r-suc}
 use Rattle.calculus.proofs.Bools.{by-test}
+use Rattle.calculus.proofs.Numbers.{hold-fits, chosen-either}
+use Rattle.format.specs.Cell.{half}
 use Rattle.format.specs.Terms.{TypeFits, TermFits}
 
 -- a reading takes its parts from the value and the type
@@ -31,6 +36,8 @@ substitute-fits k s (merge e g) h f = (substitute-fits k s e h (f .0), substitut
 substitute-fits k s (fix e A) h f = (substitute-fits (suc k) s e h (f .0), f .1)
 substitute-fits k s (rcd l e) h f = (f .0, substitute-fits k s e h (f .1))
 substitute-fits k s (proj l e) h f = (f .0, substitute-fits k s e h (f .1))
+substitute-fits k s (sum e g) h f = (substitute-fits k s e h (f .0), substitute-fits k s g h (f .1))
+substitute-fits k s (choice e g d) h f = (substitute-fits k s e h (f .0), substitute-fits k s g h (f .1), substitute-fits k s d h (f .2))
 
 -- the content of a part
 content-fits : {l : ℕ} {v x : Term} → HasField l v x → TermFits v → TermFits x
@@ -38,7 +45,8 @@ content-fits (f-here v n) f = f .1
 content-fits (f-left h) f = content-fits h (f .0)
 content-fits (f-right h) f = content-fits h (f .1)
 
-step-fits : {e g : Term} → Step e g → TermFits e → TermFits g
+-- "the sum is held to the ends of the 32-bit range", so that it fits
+step-fits : {e g : Term} → Step half e g → TermFits e → TermFits g
 step-fits (s-app-left s) f = (step-fits s (f .0), f .1)
 step-fits (s-app-right v s) f = (f .0, step-fits s (f .1))
 step-fits (s-merge-left s) f = (step-fits s (f .0), f .1)
@@ -54,7 +62,12 @@ step-fits (s-proj-rcd v) f = f .1 .1
 step-fits (s-proj-part v h) f = content-fits h (f .1)
 step-fits (s-proj-none v n t) f = tt
 step-fits (s-fix {e} {A}) f = (substitute-fits 0 (fix e A) e f (f .0), f .1)
+step-fits (s-sum-left s) f = (step-fits s (f .0), f .1)
+step-fits (s-sum-right v s) f = (f .0, step-fits s (f .1))
+step-fits (s-sum {i = i} {j = j} c d) f = hold-fits half (i +ℤ j) (omega arith)
+step-fits (s-choice-first s) f = (step-fits s (f .0), f .1, f .2)
+step-fits (s-choice {b = b} {c = c} {i = i} d) f = (chosen-either TermFits i b c (f .1) (f .2), tt)
 
-pub reaches-fits : {n : ℕ} {e f : Term} → Reaches n e f → TermFits e → TermFits f
+pub reaches-fits : {n : ℕ} {e f : Term} → Reaches half n e f → TermFits e → TermFits f
 reaches-fits r-zero h = h
 reaches-fits (r-suc r s) h = step-fits s (reaches-fits r h)

@@ -19,7 +19,7 @@ use Rattle.calculus.specs.Decide.{value?}
 use Rattle.calculus.proofs.Chain.{reaches-unique}
 use Rattle.calculus.proofs.Soundness.{value-no-step}
 use Rattle.calculus.proofs.Inference.{infer-says}
-use Rattle.format.specs.Cell.{IsBytes}
+use Rattle.format.specs.Cell.{IsBytes, half}
 use Rattle.format.specs.Book.{sizeLimit, formFinding, WellFormed, rootTerm, termBook}
 use Rattle.format.proofs.Tests.{formFinding-says}
 use Rattle.answers.specs.Answer.{Stop, value, spent, room, accepted, stopped, stepsOf, Result, result}
@@ -104,27 +104,27 @@ spent? spent = yes refl
 spent? room = no (λ h. clash cc)
 
 -- a run of a typed term has one answer
-runs-unique : {e : Term} {A : Ty} {l : ℕ} {r q : Result} → Typed [] e A → TakesSteps e l r → TakesSteps e l q → r ≡ q
-runs-unique {e} {l = l} t x y =
+runs-unique : {h : ℕ} {e : Term} {A : Ty} {l : ℕ} {r q : Result} → Typed [] e A → TakesSteps h e l r → TakesSteps h e l q → r ≡ q
+runs-unique {h} {e} {l = l} t x y =
     elim (spent? (x .stop)) [
       | no n ↦ same-result only final x y (le-refl l) n
-      | yes h ↦ elim (spent? (y .stop)) [
+      | yes p ↦ elim (spent? (y .stop)) [
         | no n ↦ sym (same-result only final y x (le-refl l) n)
-        | yes k ↦ x .says ∙ end-result-alike (h ∙ sym k) steps term ∙ sym (y .says)
+        | yes k ↦ x .says ∙ end-result-alike (p ∙ sym k) steps term ∙ sym (y .says)
       ]
     ]
   where
-    only : (n : ℕ) (f g : Term) → Reaches n e f → Reaches n e g → f ≡ g
+    only : (n : ℕ) (f g : Term) → Reaches h n e f → Reaches h n e g → f ≡ g
     only n f g u v = reaches-unique t v u
 
-    final : (f g : Term) → IsValue f → ¬ Step f g
+    final : (f g : Term) → IsValue f → ¬ Step h f g
     final f g v = value-no-step (v .1)
 
     steps : x .steps ≡ y .steps
     steps = omega (arith, lesser-steps only final x y (le-refl l), y .taken)
 
     term : x .term ≡ y .term
-    term = only (x .steps) (x .term) (y .term) (x .reached) (subst⁻¹ (λ (n : ℕ). Reaches n e (y .term)) steps (y .reached))
+    term = only (x .steps) (x .term) (y .term) (x .reached) (subst⁻¹ (λ (n : ℕ). Reaches h n e (y .term)) steps (y .reached))
 
 module _ {b : List ℕ} {A : Ty} (a : Accepted b A) where
   true-accepts : Accepts definition b
@@ -136,21 +136,21 @@ module _ {b : List ℕ} {A : Ty} (a : Accepted b A) where
       let e : Accepts E b = d b (a .bytes) .accepts .1 (a .formed, (A, a .typed)) in
       runs-unique (a .typed) (d b (a .bytes) .runs e w l k h) (demand2 b (a .bytes) .runs true-accepts w l k h)
 
-  true-ran : (l : ℕ) → Ran (rootTerm b) l (ending b l)
+  true-ran : (l : ℕ) → Ran half (rootTerm b) l (ending b l)
   true-ran l = root-ran b l (a .bytes) (a .formed) (a .typed)
 
   -- the only term after the steps of a true run is its last
-  true-term : (l : ℕ) {f : Term} → Reaches (ending b l .steps) (rootTerm b) f → f ≡ ending b l .term
+  true-term : (l : ℕ) {f : Term} → Reaches half (ending b l .steps) (rootTerm b) f → f ≡ ending b l .term
   true-term l r = reaches-unique (a .typed) (true-ran l .reached) r
 
   -- and past a value there is none
-  no-further : (l : ℕ) {n : ℕ} {f : Term} → IsValue (ending b l .term) → Reaches n (rootTerm b) f → n ≤ ending b l .steps
+  no-further : (l : ℕ) {n : ℕ} {f : Term} → IsValue (ending b l .term) → Reaches half n (rootTerm b) f → n ≤ ending b l .steps
   no-further l {n} v r =
       elim (decLe n (ending b l .steps)) [
         | yes h ↦ h
         | no u ↦
             let o = onward r (ending b l .steps) (omega arith) in
-            absurd (value-no-step (v .1) (subst (λ (e : Term). Step e (o .1)) (true-term l (o .2)) (o .3)))
+            absurd (value-no-step (v .1) (subst (λ (e : Term). Step half e (o .1)) (true-term l (o .2)) (o .3)))
       ]
 
 -- ---- engines that check and refuse truly; the definitions are such an engine
@@ -180,7 +180,7 @@ module _ (g : List ℕ → ℕ → Result) {b : List ℕ} {A : Ty} (a : Accepted
 
   -- demand 3: g encodes the term reached after the steps that it reports;
   posing-3 : Demand3 (posing g) → (l : ℕ) → IsLimit l →
-      (s : Stop) × (n : ℕ) × (f : Term) × Reaches n (rootTerm b) f × (g b l ≡ result (stopped s n) (padded (termBook f)))
+      (s : Stop) × (n : ℕ) × (f : Term) × Reaches half n (rootTerm b) f × (g b l ≡ result (stopped s n) (padded (termBook f)))
   posing-3 d l h =
       let w = zeros workLength in
       let x = d b (a .bytes) posing-accepts .encodes w l work-at-hand h in
@@ -192,7 +192,7 @@ module _ (g : List ℕ → ℕ → Result) {b : List ℕ} {A : Ty} (a : Accepted
   posing-encodes d l m h q =
       let x = posing-3 d l h in
       let n : x .1 ≡ ending b m .steps = sym (ap (λ (r : Result). stepsOf (r .answer)) (x .4)) ∙ q in
-      let r : Reaches (ending b m .steps) (rootTerm b) (x .2) = rw n at (x .3) in
+      let r : Reaches half (ending b m .steps) (rootTerm b) (x .2) = rw n at (x .3) in
       ap (λ (r : Result). r .left) (x .4) ∙ ap (λ (f : Term). padded (termBook f)) (true-term a m r)
 
 -- ---- `room` or `spent` early
@@ -223,8 +223,8 @@ module _ (s : Stop) {b : List ℕ} {A : Ty} (a : Accepted b A) where
   early-same zero m h n = go (value? (rootTerm b)) refl
     where
       go : (v : Bool) → value? (rootTerm b) ≡ v → endResult (hurried s (behind 0)) ≡ endResult (hurried s (behind m))
-      go true p = rw (evaluate-value sizeLimit 0 0 (rootTerm b) p, evaluate-value sizeLimit (atMostOne m) 0 (rootTerm b) p)
-      go false p = absurd (n 0 (rw (evaluate-spent sizeLimit 0 (rootTerm b) p)))
+      go true p = rw (evaluate-value half sizeLimit 0 0 (rootTerm b) p, evaluate-value half sizeLimit (atMostOne m) 0 (rootTerm b) p)
+      go false p = absurd (n 0 (rw (evaluate-spent half sizeLimit 0 (rootTerm b) p)))
   early-same (suc l) zero h n = absurd (omega arith)
   early-same (suc l) (suc m) h n = refl
 

@@ -11,6 +11,7 @@ use Rattle.calculus.specs.Infer.{Found, found, infer}
 use Rattle.calculus.specs.Infer as Infer
 use Rattle.calculus.specs.Decide.{value?}
 use Rattle.calculus.specs.Evaluate.{next}
+use Rattle.format.specs.Cell.{half}
 use Rattle.format.specs.Book.{Finding, sizeLimit, formFinding, rootOf, follow, rootTerm, typeBook, termBook}
 use Rattle.answers.specs.Answer.{faultNumber, reasonNumber, Stop, value, spent, room, refused, accepted, stopped, Result, result}
 use Rattle.answers.specs.Engine.{Engine, workLength, zeros, padded}
@@ -56,12 +57,12 @@ full? l (some f) = ltb l (size f)
 unfoldable pub firstStop : Bool → Bool → Bool → Option Stop
 firstStop v s f = elim v [ true ↦ some value | false ↦ elim s [ true ↦ some spent | false ↦ elim f [ true ↦ some room | false ↦ none ] ] ]
 
--- e after n steps, with m steps left and room for l cells. (A term with no stop has a successor: no typed term is stuck.)
-unfoldable pub evaluate : ℕ → ℕ → ℕ → Term → Ended
-evaluate l zero n e = elim (firstStop (value? e) true (full? l (next e))) [ none ↦ ended spent n e | some s ↦ ended s n e ]
-evaluate l (suc m) n e =
-    elim (firstStop (value? e) false (full? l (next e))) [
-      | none ↦ elim (next e) [ none ↦ ended spent n e | some f ↦ evaluate l m (suc n) f ]
+-- e after n steps, with m steps left and room for l cells, sums held to -h .. h - 1. (A term with no stop has a successor: no typed term is stuck.)
+unfoldable pub evaluate : ℕ → ℕ → ℕ → ℕ → Term → Ended
+evaluate h l zero n e = elim (firstStop (value? e) true (full? l (next h e))) [ none ↦ ended spent n e | some s ↦ ended s n e ]
+evaluate h l (suc m) n e =
+    elim (firstStop (value? e) false (full? l (next h e))) [
+      | none ↦ elim (next h e) [ none ↦ ended spent n e | some f ↦ evaluate h l m (suc n) f ]
       | some s ↦ ended s n e
     ]
 
@@ -69,9 +70,9 @@ evaluate l (suc m) n e =
 unfoldable pub endResult : Ended → Result
 endResult r = result (stopped (r .stop) (r .steps)) (padded (termBook (r .term)))
 
--- How the run of a book with the limit l ends.
+-- How the run of a book with the limit l ends: sums are "held to the ends of the 32-bit range".
 abbrev pub ending : List ℕ → ℕ → Ended
-ending b l = evaluate sizeLimit l 0 (rootTerm b)
+ending b l = evaluate half sizeLimit l 0 (rootTerm b)
 
 -- A run answers the same whatever type is found.
 abbrev pub reported : List ℕ → ℕ → Ty → Result

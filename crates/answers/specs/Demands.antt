@@ -1,4 +1,5 @@
--- Demands 2 and 3, of any engine E: written with the relations of the calculus and the format of a book. Assumes nothing.
+-- Demands 2 and 3, of any engine E: written with the relations of the calculus and the format of a book. A book's sums are "held to the ends of the
+-- 32-bit range": what a run is stands over half of the range, h, and the demands take it at 2 ^ 31. Assumes nothing.
 use Prim.Native.Nat.{ℕ, _≤_, _<_, min}
 use mathlib.Core.Path.{_≡_}
 use mathlib.Core.Logic.{_↔_, _≢_}
@@ -7,7 +8,7 @@ use Rattle.calculus.specs.Syntax.{Ty, size-type, Term, size, IsValue}
 use Rattle.calculus.specs.Subtyping.{Below}
 use Rattle.calculus.specs.Typing.{Typed}
 use Rattle.calculus.specs.Step.{Step, Reaches, Ends}
-use Rattle.format.specs.Cell.{IsBytes}
+use Rattle.format.specs.Cell.{IsBytes, half}
 use Rattle.format.specs.Book.{sizeLimit, WellFormed, rootTerm, typeBook, termBook}
 use Rattle.answers.specs.Answer.{Stop, value, spent, room, accepted, stopped, stepsOf, Result, result}
 use Rattle.answers.specs.Engine.{Engine, IsWork, IsLimit, padded}
@@ -20,22 +21,22 @@ pub record Accepts (E : Engine) (b : List ℕ) : Type 0 where
   pub answers : E .check b work .answer ≡ accepted size
 
 -- Why a run with this limit stops at f, after n steps: it is a value; or it is none and the limit is taken; or it is none, the limit is
--- not taken, and a successor's size exceeds 4,095.
-abbrev pub StopsBy : Stop → ℕ → ℕ → Term → Type 0
-StopsBy value limit n f = IsValue f
-StopsBy spent limit n f = (¬ IsValue f) × (n ≡ limit)
-StopsBy room limit n f = (¬ IsValue f) × (n < limit) × ((g : Term) × Step f g × (sizeLimit < size g))
+-- not taken, and a successor's size exceeds 4,095. Sums are held to -h .. h - 1.
+abbrev pub StopsBy : ℕ → Stop → ℕ → ℕ → Term → Type 0
+StopsBy h value limit n f = IsValue f
+StopsBy h spent limit n f = (¬ IsValue f) × (n ≡ limit)
+StopsBy h room limit n f = (¬ IsValue f) × (n < limit) × ((g : Term) × Step h f g × (sizeLimit < size g))
 
--- What a run of e answers: it takes the calculus's steps, one by one, through terms of at most 4,095 cells, and encodes the last.
-pub record TakesSteps (e : Term) (limit : ℕ) (r : Result) : Type 0 where
+-- What a run of e answers, sums held to -h .. h - 1: it takes the calculus's steps, one by one, through terms of at most 4,095 cells, and encodes the last.
+pub record TakesSteps (h : ℕ) (e : Term) (limit : ℕ) (r : Result) : Type 0 where
   pub stop : Stop
   pub steps : ℕ
   pub term : Term
   pub says : r ≡ result (stopped stop steps) (padded (termBook term))
   pub taken : steps ≤ limit
-  pub reached : Reaches steps e term
-  pub small : (n : ℕ) (f : Term) → n ≤ steps → Reaches n e f → size f ≤ sizeLimit
-  pub why : StopsBy stop limit steps term
+  pub reached : Reaches h steps e term
+  pub small : (n : ℕ) (f : Term) → n ≤ steps → Reaches h n e f → size f ≤ sizeLimit
+  pub why : StopsBy h stop limit steps term
 
 -- Demand 2, of one book: "A well-formed book of at most 4,095 cells, sharing opened,
 pub record Demand2For (E : Engine) (b : List ℕ) : Type 0 where
@@ -45,7 +46,7 @@ pub record Demand2For (E : Engine) (b : List ℕ) : Type 0 where
   pub shows : (A : Ty) → WellFormed b → Typed [] (rootTerm b) A → (w : List ℕ) → IsWork w →
       E .check b w ≡ result (accepted (size-type A)) (padded (typeBook A))
   -- and a run takes that calculus's steps, one by one, up to its value or to the limit that stopped it."
-  pub runs : Accepts E b → (w : List ℕ) (limit : ℕ) → IsWork w → IsLimit limit → TakesSteps (rootTerm b) limit (E .run b w limit)
+  pub runs : Accepts E b → (w : List ℕ) (limit : ℕ) → IsWork w → IsLimit limit → TakesSteps half (rootTerm b) limit (E .run b w limit)
   -- A book that is not accepted is not run: it is refused as the check refuses it.
   pub refuses : ¬ Accepts E b → (w : List ℕ) (limit : ℕ) → IsLimit limit → E .run b w limit ≡ E .check b w
 
@@ -63,17 +64,17 @@ pub record Agree (limit other : ℕ) (x y : Result) : Type 0 where
 -- Demand 3, of one accepted book, whole: "whichever half each merge on the way is read from,
 pub record Demand3For (E : Engine) (b : List ℕ) : Type 0 where
   -- every term it reaches after any number of steps, with room for it or without, is the only one reached after that many;
-  pub only : (n : ℕ) (f g : Term) → Reaches n (rootTerm b) f → Reaches n (rootTerm b) g → f ≡ g
+  pub only : (n : ℕ) (f g : Term) → Reaches half n (rootTerm b) f → Reaches half n (rootTerm b) g → f ≡ g
   -- it is a value and has no successor under the calculus, or is no value and has exactly one;
-  pub ends : (n : ℕ) (f : Term) → Reaches n (rootTerm b) f → Ends f
+  pub ends : (n : ℕ) (f : Term) → Reaches half n (rootTerm b) f → Ends half f
   -- it has a type below the first;
-  pub typed : (n : ℕ) (f : Term) → Reaches n (rootTerm b) f → (A : Ty) × (B : Ty) × Typed [] (rootTerm b) A × Typed [] f B × Below B A
+  pub typed : (n : ℕ) (f : Term) → Reaches half n (rootTerm b) f → (A : Ty) × (B : Ty) × Typed [] (rootTerm b) A × Typed [] f B × Below B A
   -- and if its size is within the limit, it is, laid down, an accepted book itself" (by every check with 65,536 bytes).
-  pub book : (n : ℕ) (f : Term) → Reaches n (rootTerm b) f → size f ≤ sizeLimit → (w : List ℕ) → IsWork w →
+  pub book : (n : ℕ) (f : Term) → Reaches half n (rootTerm b) f → size f ≤ sizeLimit → (w : List ℕ) → IsWork w →
       (m : ℕ) × (E .check (termBook f) w .answer ≡ accepted m)
   -- "And for every two step limits, two laptops running that book agree: each lays down the term reached after the steps it reports;
   pub encodes : (w : List ℕ) (limit : ℕ) → IsWork w → IsLimit limit →
-      (s : Stop) × (n : ℕ) × (f : Term) × Reaches n (rootTerm b) f × (E .run b w limit ≡ result (stopped s n) (padded (termBook f)))
+      (s : Stop) × (n : ℕ) × (f : Term) × Reaches half n (rootTerm b) f × (E .run b w limit ≡ result (stopped s n) (padded (termBook f)))
   -- one whose limit is no higher .., and unless that one was stopped for steps, both give the same answer and the same bytes."
   pub agree : (w v : List ℕ) (limit other : ℕ) → IsWork w → IsWork v → IsLimit limit → IsLimit other →
       Agree limit other (E .run b w limit) (E .run b v other)

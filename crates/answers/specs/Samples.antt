@@ -1,4 +1,4 @@
--- Document 01, "Sample books": those marked M, as one list; books for the field reads of document 02, (i); and a small book for each row from
+-- Document 01, "Sample books": those marked M, as one list; books for the field reads of document 02, (i), and for its sums and choices, (ii); and a small book for each row from
 -- 2 to 15 of "Where a book is turned back". Bytes, answers and encoded bytes are literals. Assumes nothing.
 use Prim.Native.Nat.{ℕ}
 use Prim.Native.String.{String}
@@ -417,6 +417,336 @@ fieldReads =
     ∷ sample "the hidden field without its annotation" hiddenUnannotated (run 3) (stopped value 3) (line 17 0 0 0 2 0 0 0 ++ line 240 1 1 0 0 0 0 0)
     ∷ sample "a merge that steps first" laterMerge check (accepted 1) (line 1 0 0 0 0 0 0 0 ++ line 240 1 1 0 0 0 0 0)
     ∷ sample "a merge that steps first" laterMerge (run 2) (stopped value 2) (line 17 0 0 0 4 0 0 0 ++ line 240 1 1 0 0 0 0 0)
+    ∷ []
+
+-- "Kind 26 adds a and b"
+unfoldable pub onePlusTwo : List ℕ
+onePlusTwo =
+    line 17 0 0 0 1 0 0 0
+    ++ line 17 0 0 0 2 0 0 0
+    ++ line 26 0 0 0 1 0 0 0
+    ++ line 240 1 3 0 2 0 0 0
+
+-- "held to the ends of the 32-bit range"
+unfoldable pub pastUpperEnd : List ℕ
+pastUpperEnd =
+    line 17 0 0 0 255 255 255 127
+    ++ line 17 0 0 0 1 0 0 0
+    ++ line 26 0 0 0 1 0 0 0
+    ++ line 240 1 3 0 2 0 0 0
+
+-- the lower end
+unfoldable pub pastLowerEnd : List ℕ
+pastLowerEnd =
+    line 17 0 0 0 0 0 0 128
+    ++ line 17 0 0 0 255 255 255 255
+    ++ line 26 0 0 0 1 0 0 0
+    ++ line 240 1 3 0 2 0 0 0
+
+-- a sum that is the upper end
+unfoldable pub atUpperEnd : List ℕ
+atUpperEnd =
+    line 17 0 0 0 254 255 255 127
+    ++ line 17 0 0 0 1 0 0 0
+    ++ line 26 0 0 0 1 0 0 0
+    ++ line 240 1 3 0 2 0 0 0
+
+-- and one that is the lower
+unfoldable pub atLowerEnd : List ℕ
+atLowerEnd =
+    line 17 0 0 0 1 0 0 128
+    ++ line 17 0 0 0 255 255 255 255
+    ++ line 26 0 0 0 1 0 0 0
+    ++ line 240 1 3 0 2 0 0 0
+
+-- both ends
+unfoldable pub bothEnds : List ℕ
+bothEnds =
+    line 17 0 0 0 0 0 0 128
+    ++ line 17 0 0 0 255 255 255 127
+    ++ line 26 0 0 0 1 0 0 0
+    ++ line 240 1 3 0 2 0 0 0
+
+-- "Sides of a sum run left first"
+unfoldable pub sumOfSums : List ℕ
+sumOfSums =
+    line 17 0 0 0 1 0 0 0
+    ++ line 17 0 0 0 2 0 0 0
+    ++ line 26 0 0 0 1 0 0 0
+    ++ line 17 0 0 0 3 0 0 0
+    ++ line 17 0 0 0 4 0 0 0
+    ++ line 26 0 3 0 4 0 0 0
+    ++ line 26 0 2 0 5 0 0 0
+    ++ line 240 1 7 0 6 0 0 0
+
+-- "both are read under Int"
+unfoldable pub mergedSide : List ℕ
+mergedSide =
+    line 17 0 0 0 1 0 0 0
+    ++ line 17 0 0 0 5 0 0 0
+    ++ line 24 7 1 0 0 0 0 0
+    ++ line 22 0 0 0 2 0 0 0
+    ++ line 17 0 0 0 2 0 0 0
+    ++ line 26 0 3 0 4 0 0 0
+    ++ line 240 1 6 0 5 0 0 0
+
+-- "Typing checks each part before it walks the next."
+unfoldable pub topPlusVariable : List ℕ
+topPlusVariable =
+    line 18 0 0 0 0 0 0 0
+    ++ line 16 0 0 0 0 0 0 0
+    ++ line 26 0 0 0 1 0 0 0
+    ++ line 240 1 3 0 2 0 0 0
+
+-- the right side
+unfoldable pub onePlusTop : List ℕ
+onePlusTop =
+    line 17 0 0 0 1 0 0 0
+    ++ line 18 0 0 0 0 0 0 0
+    ++ line 26 0 0 0 1 0 0 0
+    ++ line 240 1 3 0 2 0 0 0
+
+-- "the choice becomes b for zero
+unfoldable pub choiceByZero : List ℕ
+choiceByZero =
+    line 17 0 0 0 0 0 0 0
+    ++ line 17 0 0 0 5 0 0 0
+    ++ line 17 0 0 0 7 0 0 0
+    ++ line 27 0 0 0 1 0 2 0
+    ++ line 240 1 4 0 3 0 0 0
+
+-- and c for anything else,
+unfoldable pub choiceByOne : List ℕ
+choiceByOne =
+    line 17 0 0 0 1 0 0 0
+    ++ line 17 0 0 0 5 0 0 0
+    ++ line 17 0 0 0 7 0 0 0
+    ++ line 27 0 0 0 1 0 2 0
+    ++ line 240 1 4 0 3 0 0 0
+
+-- a negative number too,
+unfoldable pub choiceByMinusOne : List ℕ
+choiceByMinusOne =
+    line 17 0 0 0 255 255 255 255
+    ++ line 17 0 0 0 5 0 0 0
+    ++ line 17 0 0 0 7 0 0 0
+    ++ line 27 0 0 0 1 0 2 0
+    ++ line 240 1 4 0 3 0 0 0
+
+-- whatever its low 16 bits are
+unfoldable pub choiceByHigh : List ℕ
+choiceByHigh =
+    line 17 0 0 0 0 0 1 0
+    ++ line 17 0 0 0 5 0 0 0
+    ++ line 17 0 0 0 7 0 0 0
+    ++ line 27 0 0 0 1 0 2 0
+    ++ line 240 1 4 0 3 0 0 0
+
+-- "of a choice only a runs, while b and c wait"
+unfoldable pub waitingLoop : List ℕ
+waitingLoop =
+    line 17 0 0 0 1 0 0 0
+    ++ line 16 0 0 0 0 0 0 0
+    ++ line 1 0 0 0 0 0 0 0
+    ++ line 23 0 1 0 2 0 0 0
+    ++ line 17 0 0 0 4 0 0 0
+    ++ line 27 0 0 0 3 0 4 0
+    ++ line 240 1 6 0 5 0 0 0
+
+-- "either one annotated Int"
+unfoldable pub annotatedBranch : List ℕ
+annotatedBranch =
+    line 17 0 0 0 0 0 0 0
+    ++ line 17 0 0 0 1 0 0 0
+    ++ line 17 0 0 0 2 0 0 0
+    ++ line 24 1 2 0 0 0 0 0
+    ++ line 22 0 1 0 3 0 0 0
+    ++ line 17 0 0 0 3 0 0 0
+    ++ line 27 0 0 0 4 0 5 0
+    ++ line 17 0 0 0 5 0 0 0
+    ++ line 24 1 7 0 0 0 0 0
+    ++ line 22 0 6 0 8 0 0 0
+    ++ line 240 1 10 0 9 0 0 0
+
+-- the tested part
+unfoldable pub choiceByTop : List ℕ
+choiceByTop =
+    line 18 0 0 0 0 0 0 0
+    ++ line 16 0 3 0 0 0 0 0
+    ++ line 16 0 4 0 0 0 0 0
+    ++ line 27 0 0 0 1 0 2 0
+    ++ line 240 1 4 0 3 0 0 0
+
+-- the branch for zero
+unfoldable pub topForZero : List ℕ
+topForZero =
+    line 17 0 0 0 0 0 0 0
+    ++ line 18 0 0 0 0 0 0 0
+    ++ line 16 0 0 0 0 0 0 0
+    ++ line 27 0 0 0 1 0 2 0
+    ++ line 240 1 4 0 3 0 0 0
+
+-- the other branch
+unfoldable pub topForOther : List ℕ
+topForOther =
+    line 17 0 0 0 0 0 0 0
+    ++ line 17 0 0 0 1 0 0 0
+    ++ line 18 0 0 0 0 0 0 0
+    ++ line 27 0 0 0 1 0 2 0
+    ++ line 240 1 4 0 3 0 0 0
+
+-- a refusal inside it
+unfoldable pub freeInOther : List ℕ
+freeInOther =
+    line 17 0 0 0 0 0 0 0
+    ++ line 17 0 0 0 1 0 0 0
+    ++ line 16 0 0 0 0 0 0 0
+    ++ line 27 0 0 0 1 0 2 0
+    ++ line 240 1 4 0 3 0 0 0
+
+-- a sum is no value
+unfoldable pub sumMerged : List ℕ
+sumMerged =
+    line 17 0 0 0 1 0 0 0
+    ++ line 17 0 0 0 2 0 0 0
+    ++ line 26 0 0 0 1 0 0 0
+    ++ line 17 0 0 0 3 0 0 0
+    ++ line 22 0 2 0 3 0 0 0
+    ++ line 240 1 5 0 4 0 0 0
+
+-- bodies with sums are compared as trees
+unfoldable pub equalBodies : List ℕ
+equalBodies =
+    line 1 0 0 0 0 0 0 0
+    ++ line 16 0 0 0 0 0 0 0
+    ++ line 17 0 0 0 1 0 0 0
+    ++ line 26 0 1 0 2 0 0 0
+    ++ line 21 0 3 0 0 0 0 0
+    ++ line 2 0 0 0 0 0 0 0
+    ++ line 4 0 0 0 5 0 0 0
+    ++ line 21 0 3 0 0 0 6 0
+    ++ line 22 0 4 0 7 0 0 0
+    ++ line 240 1 9 0 8 0 0 0
+
+-- 1 + x is another body than x + 1
+unfoldable pub exchangedBodies : List ℕ
+exchangedBodies =
+    line 1 0 0 0 0 0 0 0
+    ++ line 16 0 0 0 0 0 0 0
+    ++ line 17 0 0 0 1 0 0 0
+    ++ line 26 0 1 0 2 0 0 0
+    ++ line 21 0 3 0 0 0 0 0
+    ++ line 2 0 0 0 0 0 0 0
+    ++ line 4 0 0 0 5 0 0 0
+    ++ line 26 0 2 0 1 0 0 0
+    ++ line 21 0 7 0 0 0 6 0
+    ++ line 22 0 4 0 8 0 0 0
+    ++ line 240 1 10 0 9 0 0 0
+
+-- a fixpoint that counts: x + .. + 1
+unfoldable pub triangle : List ℕ
+triangle =
+    line 1 0 0 0 0 0 0 0
+    ++ line 16 0 0 0 0 0 0 0
+    ++ line 17 0 0 0 0 0 0 0
+    ++ line 16 0 1 0 0 0 0 0
+    ++ line 17 0 0 0 255 255 255 255
+    ++ line 26 0 1 0 4 0 0 0
+    ++ line 20 0 3 0 5 0 0 0
+    ++ line 26 0 1 0 6 0 0 0
+    ++ line 27 0 1 0 2 0 7 0
+    ++ line 21 0 8 0 0 0 0 0
+    ++ line 3 0 0 0 0 0 0 0
+    ++ line 23 0 9 0 10 0 0 0
+    ++ line 17 0 0 0 4 0 0 0
+    ++ line 20 0 11 0 12 0 0 0
+    ++ line 240 1 14 0 13 0 0 0
+
+-- a sum names a and b alone
+unfoldable pub sumNamesC : List ℕ
+sumNamesC =
+    line 17 0 0 0 1 0 0 0
+    ++ line 26 0 0 0 0 0 1 0
+    ++ line 240 1 2 0 1 0 0 0
+
+-- and no label
+unfoldable pub labelledSum : List ℕ
+labelledSum =
+    line 17 0 0 0 1 0 0 0
+    ++ line 26 3 0 0 0 0 0 0
+    ++ line 240 1 2 0 1 0 0 0
+
+-- nor does a choice
+unfoldable pub labelledChoice : List ℕ
+labelledChoice =
+    line 17 0 0 0 1 0 0 0
+    ++ line 27 3 0 0 0 0 0 0
+    ++ line 240 1 2 0 1 0 0 0
+
+-- its third part is a reference
+unfoldable pub choiceOfItself : List ℕ
+choiceOfItself =
+    line 17 0 0 0 1 0 0 0
+    ++ line 27 0 0 0 0 0 1 0
+    ++ line 240 1 2 0 1 0 0 0
+
+-- to a term
+unfoldable pub choiceOfType : List ℕ
+choiceOfType =
+    line 1 0 0 0 0 0 0 0
+    ++ line 17 0 0 0 1 0 0 0
+    ++ line 27 0 1 0 1 0 0 0
+    ++ line 240 1 3 0 2 0 0 0
+
+-- the kind after them
+unfoldable pub unknownKind : List ℕ
+unknownKind =
+    line 17 0 0 0 1 0 0 0
+    ++ line 28 0 0 0 0 0 0 0
+    ++ line 240 1 2 0 1 0 0 0
+
+-- The sums and choices of document 02, (ii): the check, and the run with a limit equal to its steps, or below.
+unfoldable pub sumsAndChoices : List Sample
+sumsAndChoices =
+    sample "1 + 2" onePlusTwo check (accepted 1) (line 1 0 0 0 0 0 0 0 ++ line 240 1 1 0 0 0 0 0)
+    ∷ sample "1 + 2" onePlusTwo (run 0) (stopped spent 0) (line 17 0 0 0 1 0 0 0 ++ line 17 0 0 0 2 0 0 0 ++ line 26 0 0 0 1 0 0 0 ++ line 240 1 3 0 2 0 0 0)
+    ∷ sample "1 + 2" onePlusTwo (run 1) (stopped value 1) (line 17 0 0 0 3 0 0 0 ++ line 240 1 1 0 0 0 0 0)
+    ∷ sample "2147483647 + 1" pastUpperEnd (run 1) (stopped value 1) (line 17 0 0 0 255 255 255 127 ++ line 240 1 1 0 0 0 0 0)
+    ∷ sample "-2147483648 + -1" pastLowerEnd (run 1) (stopped value 1) (line 17 0 0 0 0 0 0 128 ++ line 240 1 1 0 0 0 0 0)
+    ∷ sample "2147483646 + 1" atUpperEnd (run 1) (stopped value 1) (line 17 0 0 0 255 255 255 127 ++ line 240 1 1 0 0 0 0 0)
+    ∷ sample "-2147483647 + -1" atLowerEnd (run 1) (stopped value 1) (line 17 0 0 0 0 0 0 128 ++ line 240 1 1 0 0 0 0 0)
+    ∷ sample "-2147483648 + 2147483647" bothEnds (run 1) (stopped value 1) (line 17 0 0 0 255 255 255 255 ++ line 240 1 1 0 0 0 0 0)
+    ∷ sample "(1 + 2) + (3 + 4)" sumOfSums (run 1) (stopped spent 1) (line 17 0 0 0 3 0 0 0 ++ line 17 0 0 0 3 0 0 0 ++ line 17 0 0 0 4 0 0 0 ++ line 26 0 1 0 2 0 0 0 ++ line 26 0 0 0 3 0 0 0 ++ line 240 1 5 0 4 0 0 0)
+    ∷ sample "(1 + 2) + (3 + 4)" sumOfSums (run 3) (stopped value 3) (line 17 0 0 0 10 0 0 0 ++ line 240 1 1 0 0 0 0 0)
+    ∷ sample "(1 merged with {7 = 5}) + 2" mergedSide (run 1) (stopped value 1) (line 17 0 0 0 3 0 0 0 ++ line 240 1 1 0 0 0 0 0)
+    ∷ sample "the top value + a free variable" topPlusVariable check (refused 15 0) []
+    ∷ sample "1 + the top value" onePlusTop check (refused 15 1) []
+    ∷ sample "if 0 then 5 else 7" choiceByZero check (accepted 1) (line 1 0 0 0 0 0 0 0 ++ line 240 1 1 0 0 0 0 0)
+    ∷ sample "if 0 then 5 else 7" choiceByZero (run 1) (stopped spent 1) (line 17 0 0 0 5 0 0 0 ++ line 1 0 0 0 0 0 0 0 ++ line 19 0 0 0 1 0 0 0 ++ line 240 1 3 0 2 0 0 0)
+    ∷ sample "if 0 then 5 else 7" choiceByZero (run 2) (stopped value 2) (line 17 0 0 0 5 0 0 0 ++ line 240 1 1 0 0 0 0 0)
+    ∷ sample "if 1 then 5 else 7" choiceByOne (run 1) (stopped spent 1) (line 17 0 0 0 7 0 0 0 ++ line 1 0 0 0 0 0 0 0 ++ line 19 0 0 0 1 0 0 0 ++ line 240 1 3 0 2 0 0 0)
+    ∷ sample "if 1 then 5 else 7" choiceByOne (run 2) (stopped value 2) (line 17 0 0 0 7 0 0 0 ++ line 240 1 1 0 0 0 0 0)
+    ∷ sample "if -1 then 5 else 7" choiceByMinusOne (run 1) (stopped spent 1) (line 17 0 0 0 7 0 0 0 ++ line 1 0 0 0 0 0 0 0 ++ line 19 0 0 0 1 0 0 0 ++ line 240 1 3 0 2 0 0 0)
+    ∷ sample "if -1 then 5 else 7" choiceByMinusOne (run 2) (stopped value 2) (line 17 0 0 0 7 0 0 0 ++ line 240 1 1 0 0 0 0 0)
+    ∷ sample "if 65536 then 5 else 7" choiceByHigh (run 1) (stopped spent 1) (line 17 0 0 0 7 0 0 0 ++ line 1 0 0 0 0 0 0 0 ++ line 19 0 0 0 1 0 0 0 ++ line 240 1 3 0 2 0 0 0)
+    ∷ sample "if 65536 then 5 else 7" choiceByHigh (run 2) (stopped value 2) (line 17 0 0 0 7 0 0 0 ++ line 240 1 1 0 0 0 0 0)
+    ∷ sample "if 1 then a loop else 4" waitingLoop (run 2) (stopped value 2) (line 17 0 0 0 4 0 0 0 ++ line 240 1 1 0 0 0 0 0)
+    ∷ sample "(if 0 then 1 merged with {1 = 2} else 3) merged with {1 = 5}" annotatedBranch check (accepted 4) (line 1 0 0 0 0 0 0 0 ++ line 1 0 0 0 0 0 0 0 ++ line 5 1 1 0 0 0 0 0 ++ line 4 0 0 0 2 0 0 0 ++ line 240 1 4 0 3 0 0 0)
+    ∷ sample "(if 0 then 1 merged with {1 = 2} else 3) merged with {1 = 5}" annotatedBranch (run 2) (stopped value 2) (line 17 0 0 0 1 0 0 0 ++ line 17 0 0 0 5 0 0 0 ++ line 24 1 1 0 0 0 0 0 ++ line 22 0 0 0 2 0 0 0 ++ line 240 1 4 0 3 0 0 0)
+    ∷ sample "if the top value then a free variable else another" choiceByTop check (refused 15 0) []
+    ∷ sample "if 0 then the top value else a free variable" topForZero check (refused 15 1) []
+    ∷ sample "if 0 then 1 else the top value" topForOther check (refused 15 2) []
+    ∷ sample "if 0 then 1 else a free variable" freeInOther check (refused 11 2) []
+    ∷ sample "(1 + 2) merged with 3" sumMerged check (refused 14 4) []
+    ∷ sample "two functions with the body x + 1" equalBodies check (accepted 9) (line 1 0 0 0 0 0 0 0 ++ line 1 0 0 0 0 0 0 0 ++ line 3 0 0 0 1 0 0 0 ++ line 1 0 0 0 0 0 0 0 ++ line 1 0 0 0 0 0 0 0 ++ line 2 0 0 0 0 0 0 0 ++ line 4 0 4 0 5 0 0 0 ++ line 3 0 3 0 6 0 0 0 ++ line 4 0 2 0 7 0 0 0 ++ line 240 1 9 0 8 0 0 0)
+    ∷ sample "functions with the bodies x + 1 and 1 + x" exchangedBodies check (refused 14 9) []
+    ∷ sample "the triangular number of 4" triangle (run 38) (stopped value 38) (line 17 0 0 0 10 0 0 0 ++ line 240 1 1 0 0 0 0 0)
+    ∷ sample "a sum with field c" sumNamesC check (refused 6 1) []
+    ∷ sample "a sum with a label" labelledSum check (refused 6 1) []
+    ∷ sample "a choice with a label" labelledChoice check (refused 6 1) []
+    ∷ sample "a choice whose third part is itself" choiceOfItself check (refused 7 1) []
+    ∷ sample "a choice whose third part is a type" choiceOfType check (refused 8 2) []
+    ∷ sample "kind 28" unknownKind check (refused 5 1) []
     ∷ []
 
 -- A small book for each row from 2 to 15, with the number and the cell that it is refused with. docs/FORMAT.md has the same books.

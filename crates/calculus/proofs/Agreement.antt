@@ -1,5 +1,5 @@
--- The source's definitions and document 01's lists agree, a field read counts parts as document 02 does, and the executable functions decide the
--- relations. Assumes nothing.
+-- The source's definitions and document 01's lists agree, a field read counts parts as document 02 does, sums and choices are as it says, and the
+-- executable functions decide the relations. Assumes nothing.
 use Rattle.calculus.specs.Agreement.{ListsAgree, PartsCounted, FieldsKept, Decides}
 use Rattle.calculus.proofs.Disjointness.{list→disjoint, disjoint→list}
 use Rattle.calculus.proofs.Decisions.{topLike?-says, below?-says, disjoint?-says}
@@ -10,6 +10,9 @@ use Rattle.calculus.proofs.Tests.{value?-says, consistent?-says}
 use Rattle.calculus.proofs.Typing.{typed-by-list}
 use Rattle.calculus.proofs.Inference.{no-field-refused, infer-says}
 use Rattle.calculus.proofs.Evaluation.{cast-says, next-says}
+-- Proved there, told here:
+-- sums-and-choices : SumsAndChoices
+pub use Rattle.calculus.proofs.Sums.{sums-and-choices}
 
 pub lists-agree : ListsAgree
 lists-agree =
@@ -47,5 +50,5 @@ decides =
       consistent = λ v w A B. consistent?-says;
       finds = infer-says;
       casts = λ v x A B. cast-says x;
-      steps = λ e f A. next-says f;
+      steps = λ h e f A. next-says h f;
     }

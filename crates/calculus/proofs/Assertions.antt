@@ -1,17 +1,18 @@
 -- Closed facts that show what the relations and the functions that decide them say. Each is proved from the definitions alone: no theorem
 -- of the other proofs stands between. Assumes nothing.
-use Prim.Native.Nat.{ℕ, zero, suc}
+use Prim.Native.Nat.{ℕ, zero, suc, _-_, _^_}
 use mathlib.Core.Path.{_≡_, refl}
 use mathlib.Core.Logic.{_≢_, _⊎_, inl, inr}
 use mathlib.Core.Bool.{true, false, decide}
 use mathlib.Core.Option.{Option, some, orElse, bind}
 use mathlib.Core.List.{[], _∷_, map}
-use lib.IntN.{pos}
+use lib.IntN.{pos, negsuc}
 use native.Mathlib.Omega.{arith}
 use native.Mathlib.Decide.{ℕ-discrete}
 use Rattle.calculus.specs.Syntax.{Ty, int, top, arrow, inter, field}
-use Rattle.calculus.specs.Syntax.{Term, var, lit, unit, anno, app, lam, merge, fix, rcd, proj, substitute, size-type}
+use Rattle.calculus.specs.Syntax.{Term, var, lit, unit, anno, app, lam, merge, fix, rcd, proj, sum, choice, substitute, size-type}
 use Rattle.calculus.specs.Syntax.{Value, v-lit, v-unit, v-lam, v-merge, v-rcd}
+use Rattle.calculus.specs.Numbers.{hold, chosen}
 use Rattle.calculus.specs.Subtyping.{Below, b-int, b-top, b-left, b-right, b-arrow, b-field}
 use Rattle.calculus.specs.Disjointness.{Disjoint, h-int, h-arrow, DisjointByList}
 use Rattle.calculus.specs.Disjointness.{d-heads, d-arrow}
@@ -19,12 +20,12 @@ use Rattle.calculus.specs.TypedReduction.{Cast, c-lit, c-top, c-arrow, c
 use Rattle.calculus.specs.Consistency.{Consistent, ConsistentByList, k-disjoint}
 use Rattle.calculus.specs.Fields.{o-left, o-right, f-here, f-left, f-right}
 use Rattle.calculus.specs.Typing.{p-one, p-none, Typed, t-lit, t-anno, t-merge, t-mergev, t-rcd, t-proj}
-use Rattle.calculus.specs.Step.{Step, s-app-left, s-app-right, s-merge-left, s-merge-right, s-anno, s-rcd, s-cast, s-beta, s-proj, s-proj-part, s-proj-none}
+use Rattle.calculus.specs.Step.{Step, s-app-left, s-app-right, s-merge-left, s-merge-right, s-anno, s-rcd, s-cast, s-beta, s-proj, s-proj-part, s-proj-none, s-sum-left, s-sum-right, s-sum, s-choice-first, s-choice}
 use Rattle.calculus.specs.Decide.{topLike?, bothParts, fieldPart, belowWithin, below?, disjointInt, disjointArrow, disjointField, disjoint?, value?, typeOf, closed?}
 use Rattle.calculus.specs.Decide.{sameUnder, sameInteger, sameType, sameTerm, eachPart, consistentLit, consistentLam, consistentRcd, consistent?}
 use Rattle.calculus.specs.Infer.{Reason, unbound, not-function, no-field, conflict, mismatch, Found, found, refused}
 use Rattle.calculus.specs.Infer.{lookup, checked, applied, picked, projected, labelled, mergeable?, merged, infer}
-use Rattle.calculus.specs.Evaluate.{mergeBoth, firstPart, castInt, castArrow, castField, cast, apply, content, topValue, readParts, project, next}
+use Rattle.calculus.specs.Evaluate.{mergeBoth, firstPart, castInt, castArrow, castField, cast, apply, content, topValue, readParts, project, numberOf, add, choose, next}
 
 abbrev number : ℕ → Term
 number n = lit (pos n)
@@ -33,7 +34,7 @@ one-not-two : number 1 ≢ number 2
 one-not-two p = let z : _≡_ {A = ℕ} 1 2 = cc in absurd (omega arith)
 
 -- a value has no successor
-stays : {v f : Term} {A : Ty} → Value v A → ¬ Step v f
+stays : {h : ℕ} {v f : Term} {A : Ty} → Value v A → ¬ Step h v f
 stays (v-merge v w) (s-merge-left s) = stays v s
 stays (v-merge v w) (s-merge-right u s) = stays w s
 stays (v-rcd v) (s-rcd s) = stays v s
@@ -53,13 +54,13 @@ unfolding infer checked merged mergeable? disjoint? disjointInt value? closed? c
 both-refused = refl
 
 -- It has exactly two successors: either half can be read.
-both-first : Step both (number 1)
+both-first : {h : ℕ} → Step h both (number 1)
 both-first = s-cast (c-left v-lit tt c-lit)
 
-both-second : Step both (number 2)
+both-second : {h : ℕ} → Step h both (number 2)
 both-second = s-cast (c-right v-lit tt c-lit)
 
-both-only : (f : Term) → Step both f → (f ≡ number 1) ⊎ (f ≡ number 2)
+both-only : {h : ℕ} (f : Term) → Step h both f → (f ≡ number 1) ⊎ (f ≡ number 2)
 both-only f (s-cast (c-top v o t)) = absurd t
 both-only f (s-cast (c-left v o c-lit)) = inl refl
 both-only f (s-cast (c-left v o (c-top w o′ t))) = absurd t
@@ -68,13 +69,13 @@ both-only f (s-cast (c-right v o (c-top w o′ t))) = absurd t
 both-only f (s-anno s) = absurd (stays (v-merge v-lit v-lit) s)
 
 -- The function takes the left half; the right one where the left cannot be read.
-both-next : next both ≡ some (number 1)
+both-next : (h : ℕ) → next h both ≡ some (number 1)
 unfolding next value? cast firstPart orElse castInt
-both-next = refl
+both-next h = refl
 
-right-next : next (anno (merge unit (number 2)) int) ≡ some (number 2)
+right-next : (h : ℕ) → next h (anno (merge unit (number 2)) int) ≡ some (number 2)
 unfolding next value? cast firstPart orElse castInt
-right-next = refl
+right-next h = refl
 
 -- ---- Int→Int below (Int&Top)→Int, and not below Top→Int: inputs are compared the other way about.
 
@@ -127,11 +128,11 @@ cast-tops = refl
 abbrev on-merge : Term
 on-merge = app (lam (var 0) int int) (merge (number 1) (rcd 7 (number 5)))
 
-on-merge-reads : Step on-merge (anno (number 1) int)
+on-merge-reads : {h : ℕ} → Step h on-merge (anno (number 1) int)
 unfolding substitute
 on-merge-reads = s-beta (c-left (v-rcd v-lit) tt c-lit)
 
-on-merge-only : (f : Term) → Step on-merge f → f ≡ anno (number 1) int
+on-merge-only : {h : ℕ} (f : Term) → Step h on-merge f → f ≡ anno (number 1) int
 unfolding substitute
 on-merge-only f (s-app-left s) = absurd (stays v-lam s)
 on-merge-only f (s-app-right v s) = absurd (stays (v-merge v-lit (v-rcd v-lit)) s)
@@ -140,26 +141,26 @@ on-merge-only f (s-beta (c-left v o c-lit)) = refl
 on-merge-only f (s-beta (c-left v o (c-top w o′ t))) = absurd t
 on-merge-only f (s-beta (c-right v o (c-top w o′ t))) = absurd t
 
-on-merge-next : next on-merge ≡ some (anno (number 1) int)
+on-merge-next : (h : ℕ) → next h on-merge ≡ some (anno (number 1) int)
 unfolding next value? apply cast firstPart orElse castInt substitute
-on-merge-next = refl
+on-merge-next h = refl
 
 -- ---- A top-like function type is not answered with a function: λ.#0 : Int→Int, annotated Int→Top, becomes ⊤, and nothing else.
 
 abbrev to-top : Term
 to-top = anno (lam (var 0) int int) (arrow int top)
 
-to-top-unit : Step to-top unit
+to-top-unit : {h : ℕ} → Step h to-top unit
 to-top-unit = s-cast (c-top v-lam tt tt)
 
-to-top-only : (f : Term) → Step to-top f → f ≡ unit
+to-top-only : {h : ℕ} (f : Term) → Step h to-top f → f ≡ unit
 to-top-only f (s-anno s) = absurd (stays v-lam s)
 to-top-only f (s-cast (c-top v o t)) = refl
 to-top-only f (s-cast (c-arrow n b c)) = absurd (n tt)
 
-to-top-next : next to-top ≡ some unit
+to-top-next : (h : ℕ) → next h to-top ≡ some unit
 unfolding next value? cast topLike? firstPart castArrow below? belowWithin size-type
-to-top-next = refl
+to-top-next h = refl
 
 -- ---- Two functions of one input and output type with different bodies are not consistent.
 
@@ -234,10 +235,14 @@ places = refl
 
 -- ---- Fields found inside a merge: document 02, (i).
 
+-- Sums are held to -2^31 .. 2^31 - 1.
+abbrev half : ℕ
+half = 2 ^ 31
+
 -- the term after n steps
 abbrev after : ℕ → Term → Option Term
 after zero e = some e
-after (suc n) e = bind (next e) (after n)
+after (suc n) e = bind (next half e) (after n)
 
 -- e has type A, and after n steps it is v
 abbrev Runs : Term → Ty → ℕ → Term → Type 0
@@ -318,19 +323,148 @@ twice-untyped A (t-proj (t-mergev (v-rcd v-lit) (v-rcd v-lit) s t k) (p-one (o-r
 twice-untyped A (t-proj (t-mergev (v-rcd v-lit) (v-rcd v-lit) s t k) (p-none n h)) = n .0 refl
 
 -- The part that is top-like is not read: the one successor is the content of the other, or the top value.
-one-proper-step : Step (proj 1 one-proper) (number 5)
+one-proper-step : {h : ℕ} → Step h (proj 1 one-proper) (number 5)
 one-proper-step = s-proj-part (v-merge (v-rcd v-unit) (v-rcd v-lit)) (f-right (f-here v-lit (λ t. t)))
 
-one-proper-only : (f : Term) → Step (proj 1 one-proper) f → f ≡ number 5
+one-proper-only : {h : ℕ} (f : Term) → Step h (proj 1 one-proper) f → f ≡ number 5
 one-proper-only f (s-proj s) = absurd (stays (v-merge (v-rcd v-unit) (v-rcd v-lit)) s)
 one-proper-only f (s-proj-part v (f-left (f-here v-unit n))) = absurd (n tt)
 one-proper-only f (s-proj-part v (f-right (f-here w n))) = refl
 one-proper-only f (s-proj-none (v-merge (v-rcd v-unit) (v-rcd v-lit)) n t) = absurd (n .1 refl)
 
-function-inside-step : Step (proj 1 function-inside) unit
+function-inside-step : {h : ℕ} → Step h (proj 1 function-inside) unit
 function-inside-step = s-proj-none (v-merge (v-rcd v-lam) (v-rcd v-lit)) (λ e. tt, λ e. let z : _≡_ {A = ℕ} 1 2 = e in absurd (omega arith)) (inl tt)
 
-function-inside-only : (f : Term) → Step (proj 1 function-inside) f → f ≡ unit
+function-inside-only : {h : ℕ} (f : Term) → Step h (proj 1 function-inside) f → f ≡ unit
 function-inside-only f (s-proj s) = absurd (stays (v-merge (v-rcd v-lam) (v-rcd v-lit)) s)
 function-inside-only f (s-proj-part v (f-left (f-here v-lam n))) = absurd (n tt)
 function-inside-only f (s-proj-none v n t) = refl
+
+-- ---- Sums and a choice: document 02, (ii).
+
+-- -n
+abbrev negative : ℕ → Term
+negative n = lit (negsuc (n - 1))
+
+-- n,,{7=5}
+abbrev beside : ℕ → Term
+beside n = merge (number n) (record-of 7 5)
+
+sums-run :
+    Runs (sum (number 1) (number 2)) int 1 (number 3)
+    -- past the ends: held to them
+    × Runs (sum (number 2147483647) (number 1)) int 1 (number 2147483647)
+    × Runs (sum (number 2147483647) (number 2147483647)) int 1 (number 2147483647)
+    × Runs (sum (negative 2147483648) (negative 1)) int 1 (negative 2147483648)
+    × Runs (sum (negative 2147483648) (negative 2147483648)) int 1 (negative 2147483648)
+    -- from end to end, up to the ends and away from them
+    × Runs (sum (negative 2147483648) (number 2147483647)) int 1 (negative 1)
+    × Runs (sum (number 2147483646) (number 1)) int 1 (number 2147483647)
+    × Runs (sum (negative 2147483647) (negative 1)) int 1 (negative 2147483648)
+    × Runs (sum (number 2147483647) (negative 1)) int 1 (number 2147483646)
+    × Runs (sum (negative 2147483648) (number 1)) int 1 (negative 2147483647)
+    -- (1,,{7=5})+2 : a merge is read in the same step
+    × Runs (sum (beside 1) (number 2)) int 1 (number 3)
+    -- (1:Int)+(2:Int) : the left side first
+    × Runs (sum (anno (number 1) int) (anno (number 2) int)) int 1 (sum (number 1) (anno (number 2) int))
+    × Runs (sum (anno (number 1) int) (anno (number 2) int)) int 2 (sum (number 1) (number 2))
+unfolding infer checked labelled merged mergeable? disjoint? disjointInt below? belowWithin topLike? size-type next value? bind cast firstPart orElse castInt add numberOf hold
+sums-run = (refl, refl, refl, refl, refl, refl, refl, refl, refl, refl, refl, refl, refl)
+
+-- if e then 5 else 7 becomes n:Int, then n
+abbrev Chooses : Term → ℕ → Type 0
+Chooses e n = Runs (choice e (number 5) (number 7)) int 1 (anno (number n) int) × Runs (choice e (number 5) (number 7)) int 2 (number n)
+
+-- a term that runs for ever
+abbrev loop : Term
+loop = fix (var 0) int
+
+-- (if 0 then 1,,{1=2} else 3),,{1=5} : the choice is annotated, so that no field comes to meet its like
+abbrev narrowed : Term
+narrowed = merge (choice (number 0) (merge (number 1) (record-of 1 2)) (number 3)) (record-of 1 5)
+
+choices-run :
+    Chooses (number 0) 5
+    × Chooses (number 1) 7
+    × Chooses (negative 1) 7
+    -- numbers whose low half is zero
+    × Chooses (number 65536) 7
+    × Chooses (negative 65536) 7
+    -- a merge is read in the same step
+    × Chooses (beside 0) 5
+    × Chooses (beside 1) 7
+    -- the part that is not chosen never runs,
+    × Runs (choice (number 0) (number 5) loop) int 2 (number 5)
+    × Runs (choice (number 1) loop (number 7)) int 2 (number 7)
+    -- nor do both while the first does
+    × Runs (choice (anno (number 0) int) loop loop) int 1 (choice (number 0) loop loop)
+    × Runs narrowed (inter int (field 1 int)) 1 (merge (anno (merge (number 1) (record-of 1 2)) int) (record-of 1 5))
+    × Runs narrowed (inter int (field 1 int)) 2 (merge (number 1) (record-of 1 5))
+unfolding infer lookup checked labelled merged mergeable? disjoint? disjointInt below? belowWithin topLike? size-type next value? bind cast firstPart orElse castInt choose numberOf chosen
+choices-run = ((refl, refl), (refl, refl), (refl, refl), (refl, refl), (refl, refl), (refl, refl), (refl, refl), refl, refl, refl, refl, refl)
+
+-- "Typing checks each part before it walks the next."
+parts-refused :
+    map (infer [])
+    (sum unit (var 0)
+    ∷ sum (number 1) unit
+    ∷ sum (var 0) unit
+    ∷ sum (number 1) (sum (number 2) unit)
+    ∷ choice unit (var 3) (var 4)
+    ∷ choice (number 0) unit (var 0)
+    ∷ choice (number 0) (var 0) unit
+    ∷ choice (number 0) (number 1) unit
+    ∷ choice (number 0) (number 1) (var 0)
+    ∷ [])
+    ≡ (refused mismatch (0 ∷ [])
+    ∷ refused mismatch (1 ∷ [])
+    ∷ refused unbound (0 ∷ [])
+    ∷ refused mismatch (1 ∷ 1 ∷ [])
+    ∷ refused mismatch (0 ∷ [])
+    ∷ refused mismatch (1 ∷ [])
+    ∷ refused unbound (1 ∷ [])
+    ∷ refused mismatch (2 ∷ [])
+    ∷ refused unbound (2 ∷ [])
+    ∷ [])
+unfolding infer lookup checked below? belowWithin topLike? size-type
+parts-refused = refl
+
+-- λ.e : Int→Int
+abbrev function : Term → Term
+function e = lam e int int
+
+sums-merged :
+    -- (1+2),,3 : a sum is no value
+    Refused (merge (sum (number 1) (number 2)) (number 3)) conflict
+    -- λ.#0+1 with itself, and with λ.1+#0 : bodies are compared as they stand
+    × (infer [] (merge (function (sum (var 0) (number 1))) (function (sum (var 0) (number 1)))) ≡ found (inter (arrow int int) (arrow int int)))
+    × Refused (merge (function (sum (var 0) (number 1))) (function (sum (number 1) (var 0)))) conflict
+unfolding infer lookup checked merged mergeable? below? belowWithin topLike? size-type disjoint? disjointInt disjointArrow value? closed? consistent? eachPart consistentLam sameTerm sameType decide sameInteger sameUnder ℕ-discrete
+sums-merged = (refl, refl, refl)
+
+-- (1,,{7=5})+({7=5},,2) becomes 3, and nothing else.
+abbrev of-merges : Term
+of-merges = sum (beside 1) (merge (record-of 7 5) (number 2))
+
+of-merges-step : Step half of-merges (number 3)
+unfolding hold
+of-merges-step = s-sum (c-left (v-rcd v-lit) tt c-lit) (c-right (v-rcd v-lit) tt c-lit)
+
+of-merges-only : (f : Term) → Step half of-merges f → f ≡ number 3
+unfolding hold
+of-merges-only f (s-sum-left s) = absurd (stays (v-merge v-lit (v-rcd v-lit)) s)
+of-merges-only f (s-sum-right v s) = absurd (stays (v-merge (v-rcd v-lit) v-lit) s)
+of-merges-only f (s-sum (c-left v o c-lit) (c-right w o′ c-lit)) = refl
+
+-- if 0,,{7=5} then 5 else a term that runs for ever becomes 5:Int, and nothing else.
+abbrev chooses-first : Term
+chooses-first = choice (beside 0) (number 5) loop
+
+chooses-first-step : {h : ℕ} → Step h chooses-first (anno (number 5) int)
+unfolding chosen
+chooses-first-step = s-choice (c-left (v-rcd v-lit) tt c-lit)
+
+chooses-first-only : {h : ℕ} (f : Term) → Step h chooses-first f → f ≡ anno (number 5) int
+unfolding chosen
+chooses-first-only f (s-choice-first s) = absurd (stays (v-merge v-lit (v-rcd v-lit)) s)
+chooses-first-only f (s-choice (c-left v o c-lit)) = refl

@@ -1,6 +1,6 @@
 -- infer finds exactly the types that the rules derive. Assumes nothing.
 use Prim.Native.Nat.{ℕ, zero, suc}
-use mathlib.Core.Path.{_≡_, refl, subst}
+use mathlib.Core.Path.{_≡_, refl, _∙_, subst}
 use mathlib.Core.Logic.{_↔_, _⊎_, inl, inr, Iff·rfl, Iff·trans}
 use mathlib.Core.Bool.{Bool, cond}
 use mathlib.Core.List.{List, [], _∷_}
@@ -8,12 +8,12 @@ use borrow.Author.Tests.{eq-eqb, ne-eqb}
 use lib.Dec.{T, eqb, eqb→eq}
 use lib.ListN.{getElem?}
 use Rattle.calculus.specs.Syntax.{Ty, int, top, arrow, inter, field}
-use Rattle.calculus.specs.Syntax.{Term, var, lit, unit, anno, app, lam, merge, fix, rcd, proj, Value, v-merge, IsValue}
+use Rattle.calculus.specs.Syntax.{Term, var, lit, unit, anno, app, lam, merge, fix, rcd, proj, sum, choice, Value, v-merge, IsValue}
 use Rattle.calculus.specs.Subtyping.{Below}
 use Rattle.calculus.specs.Disjointness.{Disjoint}
 use Rattle.calculus.specs.Consistency.{Consistent}
 use Rattle.calculus.specs.Typing.{Lookup, here, there, Applies, a-arrow, a-top, Projects, p-field, p-top, p-one, p-none}
-use Rattle.calculus.specs.Typing.{Typed, t-unit, t-lit, t-var, t-anno, t-app, t-lam, t-merge, t-mergev, t-fix, t-rcd, t-proj}
+use Rattle.calculus.specs.Typing.{Typed, t-unit, t-lit, t-var, t-anno, t-app, t-lam, t-merge, t-mergev, t-fix, t-rcd, t-proj, t-sum, t-choice}
 use Rattle.calculus.specs.Decide.{FieldPart, no-part, top-part, more-parts, one-part, fieldPart, below?, disjoint?, value?, closed?, consistent?}
 use Rattle.calculus.specs.Infer.{Reason, no-field, Found, found, refused, lookup, checked, applied, picked, projected, labelled, mergeable?, merged, infer}
 use Rattle.calculus.proofs.Bools.{T-true, by-test, T-and, Test, _and_, _or_}
@@ -45,18 +45,18 @@ gives-lookup [] n = refuses
 gives-lookup (A ∷ Γ) zero = finds here
 gives-lookup (A ∷ Γ) (suc n) = gives-map (λ B. there) (gives-lookup Γ n)
 
-gives-checked : {P Q : Ty → Type 0} {r : Found} (f : ℕ) (A B : Ty) →
-    Gives P r → ((C : Ty) → P C → Below C A → Q B) → Gives Q (checked f r A B)
+gives-checked : {P Q : Ty → Type 0} {r s : Found} (f : ℕ) (A : Ty) →
+    Gives P r → ((C : Ty) → P C → Below C A → Gives Q s) → Gives Q (checked f r A s)
 unfolding checked
-gives-checked f A B (finds {A = C} p) k = gives-cond (below? C A) B _ _ (λ t. k C p (below?-says C A .0 t))
-gives-checked f A B refuses k = refuses
+gives-checked {Q} f A (finds {A = C} p) k = by-test (Gives Q) (below? C A) (λ t. k C p (below?-says C A .0 t)) (λ n. refuses)
+gives-checked f A refuses k = refuses
 
 gives-applied : {P Q R : Ty → Type 0} {r s : Found} → Gives P r → Gives Q s →
     ((A B C E : Ty) → P C → Applies C A B → Q E → Below E A → R B) → Gives R (applied r s)
 unfolding applied
 gives-applied (finds {A = int} p) q k = refuses
-gives-applied (finds {A = top} p) q k = gives-checked 1 top top q (λ E. k top top top E p a-top)
-gives-applied (finds {A = arrow A B} p) q k = gives-checked 1 A B q (λ E. k A B (arrow A B) E p a-arrow)
+gives-applied (finds {A = top} p) q k = gives-checked 1 top q (λ E u b. finds (k top top top E p a-top u b))
+gives-applied (finds {A = arrow A B} p) q k = gives-checked 1 A q (λ E u b. finds (k A B (arrow A B) E p a-arrow u b))
 gives-applied (finds {A = inter A B} p) q k = refuses
 gives-applied (finds {A = field l A} p) q k = refuses
 gives-applied refuses q k = refuses
@@ -127,23 +127,32 @@ unfolding infer
 infer-sound Γ (var n) = gives-map (λ A. t-var) (gives-lookup Γ n)
 infer-sound Γ (lit i) = finds t-lit
 infer-sound Γ unit = finds t-unit
-infer-sound Γ (anno e A) = gives-checked 0 A A (infer-sound Γ e) (λ C. t-anno)
+infer-sound Γ (anno e A) = gives-checked 0 A (infer-sound Γ e) (λ C t b. finds (t-anno t b))
 infer-sound Γ (app e f) = gives-applied (infer-sound Γ e) (infer-sound Γ f) (λ A B C E. t-app)
-infer-sound Γ (lam e A B) = gives-checked 0 B (arrow A B) (infer-sound (A ∷ Γ) e) (λ C. t-lam)
+infer-sound Γ (lam e A B) = gives-checked 0 B (infer-sound (A ∷ Γ) e) (λ C t b. finds (t-lam t b))
 infer-sound Γ (merge e f) = gives-merged e f (infer-sound Γ e) (infer-sound Γ f) (λ A B s t m. mergeable-typed s t (mergeable-says s t .0 m))
-infer-sound Γ (fix e A) = gives-checked 0 A A (infer-sound (A ∷ Γ) e) (λ C. t-fix)
+infer-sound Γ (fix e A) = gives-checked 0 A (infer-sound (A ∷ Γ) e) (λ C t b. finds (t-fix t b))
 infer-sound Γ (rcd l e) = gives-labelled l (infer-sound Γ e) (λ A. t-rcd)
 infer-sound Γ (proj l e) = gives-projected l (infer-sound Γ e) (λ A B. t-proj)
+infer-sound Γ (sum e f) = gives-checked 0 int (infer-sound Γ e) λ A t b. gives-checked 1 int (infer-sound Γ f) λ B u c. finds (t-sum t b u c)
+infer-sound Γ (choice e f g) =
+    gives-checked 0 int (infer-sound Γ e) λ A t b. gives-checked 1 int (infer-sound Γ f) λ B u c.
+    gives-checked 2 int (infer-sound Γ g) λ C s a. finds (t-choice t b u c s a)
 
 lookup-complete : {Γ : List Ty} {n : ℕ} {A : Ty} → Lookup Γ n A → lookup (getElem? Γ n) ≡ found A
 unfolding lookup
 lookup-complete here = refl
 lookup-complete (there x) = lookup-complete x
 
+-- a checked part of a type below the wanted one passes
+pub checked-passes : (f : ℕ) {r s : Found} {A B : Ty} → r ≡ found A → Below A B → checked f r B s ≡ s
+unfolding checked
+checked-passes f e b = rw (e, below?-true b)
+
 applied-complete : {A B C E : Ty} → Applies C A B → Below E A → applied (found C) (found E) ≡ found B
-unfolding applied checked
-applied-complete a-arrow b = rw (below?-true b)
-applied-complete a-top b = rw (below?-true b)
+unfolding applied
+applied-complete a-arrow b = checked-passes 1 refl b
+applied-complete a-top b = checked-passes 1 refl b
 
 projected-complete : {l : ℕ} {A B : Ty} → Projects l A B → projected l (found A) ≡ found B
 unfolding projected picked
@@ -153,13 +162,13 @@ projected-complete (p-one {l} {A} {B} {C} o) = rw (one-part-says l (inter A B) C
 projected-complete (p-none {l} {A} {B} n t) = rw (top-part-says l (inter A B) .1 (n, t))
 
 infer-complete : (Γ : List Ty) (e : Term) (A : Ty) → Typed Γ e A → infer Γ e ≡ found A
-unfolding infer checked labelled merged
+unfolding infer labelled merged
 infer-complete Γ (var n) A (t-var x) = lookup-complete x
 infer-complete Γ (lit i) A t-lit = refl
 infer-complete Γ unit A t-unit = refl
-infer-complete Γ (anno e B) A (t-anno {A = C} t b) = rw (infer-complete Γ e C t, below?-true b)
+infer-complete Γ (anno e B) A (t-anno t b) = checked-passes 0 (infer-complete Γ e _ t) b
 infer-complete Γ (app e f) A (t-app {C} {E} s a t b) = rw (infer-complete Γ e C s, infer-complete Γ f E t) (applied-complete a b)
-infer-complete Γ (lam e B C) A (t-lam {C = E} t b) = rw (infer-complete (B ∷ Γ) e E t, below?-true b)
+infer-complete Γ (lam e B C) A (t-lam t b) = checked-passes 0 (infer-complete (B ∷ Γ) e _ t) b
 infer-complete Γ (merge e f) A (t-merge {A = B} {B = C} s t d) =
     rw (infer-complete Γ e B s, infer-complete Γ f C t, T-true {b = mergeable? e f B C} (mergeable-says s t) (inl d))
 infer-complete Γ (merge e f) A (t-mergev {A = B} {B = C} v w s t k) =
@@ -168,9 +177,12 @@ infer-complete Γ (merge e f) A (t-mergev {A = B} {B = C} v w s t k) =
       infer-complete Γ f C (typed-weaken t Γ),
       T-true {b = mergeable? e f B C} (mergeable-says s t) (inr (v, w, s, t, k)),
     )
-infer-complete Γ (fix e B) A (t-fix {B = C} t b) = rw (infer-complete (B ∷ Γ) e C t, below?-true b)
+infer-complete Γ (fix e B) A (t-fix t b) = checked-passes 0 (infer-complete (B ∷ Γ) e _ t) b
 infer-complete Γ (rcd l e) A (t-rcd {A = B} t) = rw (infer-complete Γ e B t)
 infer-complete Γ (proj l e) A (t-proj {A = B} t p) = rw (infer-complete Γ e B t) (projected-complete p)
+infer-complete Γ (sum e f) A (t-sum t b u c) = checked-passes 0 (infer-complete Γ e _ t) b ∙ checked-passes 1 (infer-complete Γ f _ u) c
+infer-complete Γ (choice e f g) A (t-choice t b u c s a) =
+    checked-passes 0 (infer-complete Γ e _ t) b ∙ checked-passes 1 (infer-complete Γ f _ u) c ∙ checked-passes 2 (infer-complete Γ g _ s) a
 
 -- "Otherwise 13."
 picked-none : (l : ℕ) (A B : Ty) (p : FieldPart) → Says l (inter A B) p → ((C : Ty) → ¬ Projects l (inter A B) C) → picked p ≡ refused no-field []

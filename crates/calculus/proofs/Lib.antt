@@ -5,14 +5,16 @@ pub mod Disjointness
 pub mod Runtime
 pub mod Decisions
 pub mod TypedReduction
+pub mod Numbers
 pub mod Fields
 pub mod Parts
 pub mod Consistency
 pub mod Tests
 pub mod Typing
 pub mod Soundness
-pub mod Chain
 pub mod Inference
 pub mod RefusalPaths
 pub mod Evaluation
+pub mod Chain
+pub mod Sums
 pub mod Agreement

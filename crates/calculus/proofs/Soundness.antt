@@ -1,15 +1,16 @@
--- Typed values are read in one way; substitution and steps keep types, up to runtime subtyping; a typed term is a value or has exactly
--- one successor: source 001, lemmas 5.5, 5.6, 5.7, 5.9, 5.10, theorems 5.1 and 5.3. Assumes nothing.
+-- Typed values are read in one way; substitution and steps keep types, up to runtime subtyping; a typed term is a value or has a successor:
+-- source 001, lemmas 5.5, 5.6, 5.7, 5.9, 5.10, theorem 5.3. Assumes nothing.
 use Prim.Native.Nat.{ℕ, _<_, _+_}
 use native.Mathlib.Omega.{arith}
-use mathlib.Core.Path.{_≡_, refl, sym, _∙_, ap, subst}
+use mathlib.Core.Path.{_≡_, refl, sym, _∙_, subst}
 use mathlib.Core.Logic.{_⊎_, inl, inr, _≢_}
 use mathlib.Core.Bool.{cond}
 use mathlib.Core.List.{List, [], _∷_, _++_}
 use lib.Dec.{eqb}
 use lib.ListN.{length, length-append}
+use lib.IntN.{ℤ}
 use Rattle.calculus.specs.Syntax.{Ty, int, top, inter, field}
-use Rattle.calculus.specs.Syntax.{Term, var, unit, anno, app, merge, rcd, proj, substitute}
+use Rattle.calculus.specs.Syntax.{Term, var, lit, unit, anno, app, merge, rcd, proj, sum, choice, substitute}
 use Rattle.calculus.specs.Syntax.{Value, v-lit, v-unit, v-lam, v-merge, v-rcd, IsValue}
 use Rattle.calculus.specs.Subtyping.{Below, b-top}
 use Rattle.calculus.specs.Disjointness.{Disjoint, d-top-left}
@@ -17,15 +18,17 @@ use Rattle.calculus.specs.TypedReduction.{Cast, c-lit, c-top, c-arrow, c
 use Rattle.calculus.specs.Consistency.{Consistent, ConsistentByList, k-lit, k-lam, k-rcd, k-left, k-right, k-disjoint}
 use Rattle.calculus.specs.Fields.{NoField, OneField, HasField, f-here, f-left, f-right}
 use Rattle.calculus.specs.Typing.{Lookup, here, there, Applies, a-arrow, a-top, Projects, p-field, p-top, p-one, p-none, Typed}
-use Rattle.calculus.specs.Typing.{t-unit, t-lit, t-var, t-anno, t-app, t-lam, t-merge, t-mergev, t-fix, t-rcd, t-proj}
+use Rattle.calculus.specs.Typing.{t-unit, t-lit, t-var, t-anno, t-app, t-lam, t-merge, t-mergev, t-fix, t-rcd, t-proj, t-sum, t-choice}
 use Rattle.calculus.specs.Step.{Step, s-app-left, s-app-right, s-merge-left, s-merge-right, s-anno, s-rcd, s-proj}
 use Rattle.calculus.specs.Step.{s-cast, s-beta, s-app-unit, s-proj-unit, s-proj-rcd, s-proj-part, s-proj-none, s-fix}
+use Rattle.calculus.specs.Step.{s-sum-left, s-sum-right, s-sum, s-choice-first, s-choice}
 use Rattle.calculus.specs.Runtime.{Runtime, r-refl, r-top, r-arrow, r-inter, r-field}
 use Rattle.calculus.proofs.Bools.{by-test, eqb-says}
 use Rattle.calculus.proofs.Subtyping.{below-refl, below-trans}
 use Rattle.calculus.proofs.Disjointness.{disjoint→list}
 use Rattle.calculus.proofs.Runtime.{runtime-below, runtime-disjoint}
 use Rattle.calculus.proofs.TypedReduction.{value-unique, cast-from, cast-to, below-cast, cast-trans}
+use Rattle.calculus.proofs.Numbers.{chosen-either, below-number}
 use Rattle.calculus.proofs.Fields.{one-not-none, one-not-topLike, runtime-one, runtime-none, no-content, part-unique}
 use Rattle.calculus.proofs.Consistency.{list→consistent, consistent→list, consistent-sym}
 use Rattle.calculus.proofs.Typing.{typed-value, typed-closed, typed-weaken, substitute-closed, lookup-within, lookup-strengthen}
@@ -119,6 +122,13 @@ refine-rcd {l} h = (field l (h .0), t-rcd (h .1), r-field (h .2))
 refine-proj : {Γ : List Ty} {l : ℕ} {e : Term} {A B : Ty} → Refines Γ e A → Projects l A B → Refines Γ (proj l e) B
 refine-proj h p = let k = runtime-projects p (h .2) in (k .0, t-proj (h .1) (k .1), k .2)
 
+refine-sum : {Γ : List Ty} {e f : Term} {A B : Ty} → Refines Γ e A → Below A int → Refines Γ f B → Below B int → Refines Γ (sum e f) int
+refine-sum h b k c = exact (t-sum (h .1) (refine-below (h .2) b) (k .1) (refine-below (k .2) c))
+
+refine-choice : {Γ : List Ty} {e f g : Term} {A B C : Ty} → Refines Γ e A → Below A int → Refines Γ f B → Below B int →
+    Refines Γ g C → Below C int → Refines Γ (choice e f g) int
+refine-choice h b k c m a = exact (t-choice (h .1) (refine-below (h .2) b) (k .1) (refine-below (k .2) c) (m .1) (refine-below (m .2) a))
+
 -- 5.7
 pub cast-typed : {v x : Term} {A B : Ty} → Typed [] v B → Cast v A x → (C : Ty) × Typed [] x C × Runtime C A
 cast-typed t c-lit = (int, t-lit, r-refl)
@@ -167,8 +177,11 @@ substitute-typed Δ {s = e} (t-mergev {v = x} {w = y} {A} {B} v w t u k) s r =
 substitute-typed Δ (t-fix {A} t b) s r = let h = substitute-typed (A ∷ Δ) t s r in exact (t-fix (h .1) (refine-below (h .2) b))
 substitute-typed Δ (t-rcd t) s r = refine-rcd (substitute-typed Δ t s r)
 substitute-typed Δ (t-proj t p) s r = refine-proj (substitute-typed Δ t s r) p
+substitute-typed Δ (t-sum t b u c) s r = refine-sum (substitute-typed Δ t s r) b (substitute-typed Δ u s r) c
+substitute-typed Δ (t-choice t b u c w a) s r =
+    refine-choice (substitute-typed Δ t s r) b (substitute-typed Δ u s r) c (substitute-typed Δ w s r) a
 
-pub value-no-step : {v f : Term} {A : Ty} → Value v A → ¬ Step v f
+pub value-no-step : {h : ℕ} {v f : Term} {A : Ty} → Value v A → ¬ Step h v f
 value-no-step (v-merge v w) (s-merge-left s) = value-no-step v s
 value-no-step (v-merge v w) (s-merge-right p s) = value-no-step w s
 value-no-step (v-rcd v) (s-rcd s) = value-no-step v s
@@ -180,28 +193,36 @@ content-typed t (f-left f) = content-typed (typed-halves t .2) f
 content-typed t (f-right f) = content-typed (typed-halves t .3) f
 
 -- the successors of a field read of a merge of values
-reads-one : {l : ℕ} {v w x y : Term} {A C : Ty} → Value (merge v w) A → OneField l A C →
-    ((z : Term) → HasField l (merge v w) z → z ≡ x) → Step (proj l (merge v w)) y → y ≡ x
+reads-one : {h l : ℕ} {v w x y : Term} {A C : Ty} → Value (merge v w) A → OneField l A C →
+    ((z : Term) → HasField l (merge v w) z → z ≡ x) → Step h (proj l (merge v w)) y → y ≡ x
 reads-one v o k (s-proj s) = absurd (value-no-step v s)
 reads-one v o k (s-proj-part u f) = k _ f
 reads-one {l} v o k (s-proj-none u n t) = absurd (one-not-none o (subst (NoField l) (value-unique u v) n))
 
-reads-none : (l : ℕ) {v w y : Term} {A : Ty} → Value (merge v w) A → NoField l A → Step (proj l (merge v w)) y → y ≡ unit
+reads-none : {h : ℕ} (l : ℕ) {v w y : Term} {A : Ty} → Value (merge v w) A → NoField l A → Step h (proj l (merge v w)) y → y ≡ unit
 reads-none l v n (s-proj s) = absurd (value-no-step v s)
 reads-none l v n (s-proj-part u f) = absurd (no-content n v _ f)
 reads-none l v n (s-proj-none u m t) = refl
 
 -- of a typed merge: no more than one, and it has the type found
-merge-read : {l : ℕ} {v w : Term} {A B : Ty} → Typed [] (merge v w) A → Value (merge v w) A → Projects l A B →
-    (x : Term) × Typed [] x B × ((y : Term) → Step (proj l (merge v w)) y → y ≡ x)
-merge-read t (v-merge v w) (p-one o) =
+merge-read : (h : ℕ) {l : ℕ} {v w : Term} {A B : Ty} → Typed [] (merge v w) A → Value (merge v w) A → Projects l A B →
+    (x : Term) × Typed [] x B × ((y : Term) → Step h (proj l (merge v w)) y → y ≡ x)
+merge-read h t (v-merge v w) (p-one o) =
     let (x, u, f, k) = part-unique o (v-merge v w) in
     let (C, s) = content-typed t f in
     (x, subst (Typed [] x) (typed-value s u) s, λ y. reads-one (v-merge v w) o k)
-merge-read {l} t (v-merge v w) (p-none n h) = (unit, t-unit, λ y. reads-none l (v-merge v w) n)
+merge-read h {l} t (v-merge v w) (p-none n m) = (unit, t-unit, λ y. reads-none l (v-merge v w) n)
+
+read-typed : (h : ℕ) {l : ℕ} {v w y : Term} {A B : Ty} → Typed [] (proj l (merge v w)) B → Value (merge v w) A →
+    Step h (proj l (merge v w)) y → Refines [] y B
+read-typed h (t-proj t p) v s = let (x, u, k) = merge-read h t (value-typed t v) p in exact (rw (k _ s) u)
+
+pub read-unique : {h l : ℕ} {v w y z : Term} {A B : Ty} → Typed [] (proj l (merge v w)) B → Value (merge v w) A →
+    Step h (proj l (merge v w)) y → Step h (proj l (merge v w)) z → y ≡ z
+read-unique {h} (t-proj t p) v s s′ = let (x, u, k) = merge-read h t (value-typed t v) p in k _ s ∙ sym (k _ s′)
 
 -- 5.9
-pub step-typed : {e f : Term} {A : Ty} → Typed [] e A → Step e f → (B : Ty) × Typed [] f B × Runtime B A
+pub step-typed : {h : ℕ} {e f : Term} {A : Ty} → Typed [] e A → Step h e f → (B : Ty) × Typed [] f B × Runtime B A
 step-typed (t-app t a u b) (s-app-left s) = refine-app (step-typed t s) a (exact u) b
 step-typed (t-app t a u b) (s-app-right v s) = refine-app (exact t) a (step-typed u s) b
 step-typed (t-merge t u d) (s-merge-left s) = refine-merge (step-typed t s) (exact u) d
@@ -216,37 +237,47 @@ step-typed (t-app (t-lam t b) a-arrow u d) (s-beta c) = let h = cast-typed u c i
 step-typed (t-app t-unit a-top u b) (s-app-unit v) = exact t-unit
 step-typed (t-proj t-unit p-top) s-proj-unit = exact t-unit
 step-typed (t-proj (t-rcd t) p-field) (s-proj-rcd v) = exact t
-step-typed (t-proj t p) (s-proj-part v f) = let (x, s, k) = merge-read t (value-typed t v) p in exact (rw (k _ (s-proj-part v f)) s)
-step-typed (t-proj t p) (s-proj-none v n m) = let (x, s, k) = merge-read t (value-typed t v) p in exact (rw (k _ (s-proj-none v n m)) s)
+step-typed {h} (t-proj t p) (s-proj-part v f) = read-typed h (t-proj t p) v (s-proj-part v f)
+step-typed {h} (t-proj t p) (s-proj-none v n m) = read-typed h (t-proj t p) v (s-proj-none v n m)
 step-typed (t-fix t b) s-fix = refine-anno (substitute-typed [] t (t-fix t b) r-refl) b
+step-typed (t-sum t b u c) (s-sum-left s) = refine-sum (step-typed t s) b (exact u) c
+step-typed (t-sum t b u c) (s-sum-right v s) = refine-sum (exact t) b (step-typed u s) c
+step-typed (t-sum t b u c) (s-sum p q) = exact t-lit
+step-typed (t-choice t b u c w a) (s-choice-first s) = refine-choice (step-typed t s) b (exact u) c (exact w) a
+step-typed (t-choice t b u c w a) (s-choice {b = e} {c = f} {i} p) =
+    exact (chosen-either (λ x. Typed [] (anno x int) int) i e f (t-anno u c) (t-anno w a))
 
 -- e has a successor
-abbrev Steps : Term → Type 0
-Steps e = (f : Term) × Step e f
+abbrev Steps : ℕ → Term → Type 0
+Steps h e = (f : Term) × Step h e f
 
--- a value applied to a value, or with a field read, steps
-applies-step : {v w : Term} {A B C E : Ty} → Applies C A B → Value v C → Value w E → Below E A → Steps (app v w)
+-- a value applied to a value, or with a field read, steps; a value that is checked against Int is read as a number
+applies-step : {h : ℕ} {v w : Term} {A B C E : Ty} → Applies C A B → Value v C → Value w E → Below E A → Steps h (app v w)
 applies-step a-arrow v-lam w b = (_, s-beta (below-cast w b .1))
 applies-step a-top v-unit w b = (unit, s-app-unit w)
 
-projects-step : {l : ℕ} {v : Term} {A B : Ty} → Projects l A B → Value v A → Steps (proj l v)
+projects-step : {h l : ℕ} {v : Term} {A B : Ty} → Projects l A B → Value v A → Steps h (proj l v)
 projects-step p-field (v-rcd v) = (_, s-proj-rcd v)
 projects-step p-top v-unit = (unit, s-proj-unit)
 projects-step (p-one o) (v-merge v w) = (_, s-proj-part (v-merge v w) (part-unique o (v-merge v w) .2))
 projects-step (p-none n t) (v-merge v w) = (unit, s-proj-none (v-merge v w) n t)
 
+typed-number : {v : Term} {A : Ty} → Typed [] v A → Below A int → IsValue v → (i : ℤ) × Cast v int (lit i)
+typed-number t b v = below-number (value-typed t (v .1)) b
+
 -- a term g with a part e that is evaluated first: what if e is a value, and what if it steps
-progress-part : {e g : Term} → IsValue e ⊎ Steps e → (IsValue e → IsValue g ⊎ Steps g) → ((f : Term) → Step e f → Steps g) → IsValue g ⊎ Steps g
-progress-part (inl v) k h = k v
-progress-part (inr s) k h = inr (h (s .0) (s .1))
+progress-part : {h : ℕ} {e g : Term} → IsValue e ⊎ Steps h e → (IsValue e → IsValue g ⊎ Steps h g) →
+    ((f : Term) → Step h e f → Steps h g) → IsValue g ⊎ Steps h g
+progress-part (inl v) k m = k v
+progress-part (inr s) k m = inr (m (s .0) (s .1))
 
 -- the same with two parts, in their order
-progress-parts : {d e g : Term} → IsValue d ⊎ Steps d → IsValue e ⊎ Steps e → (IsValue d → IsValue e → IsValue g ⊎ Steps g)
-    → ((f : Term) → Step d f → Steps g) → (IsValue d → (f : Term) → Step e f → Steps g) → IsValue g ⊎ Steps g
+progress-parts : {h : ℕ} {d e g : Term} → IsValue d ⊎ Steps h d → IsValue e ⊎ Steps h e → (IsValue d → IsValue e → IsValue g ⊎ Steps h g)
+    → ((f : Term) → Step h d f → Steps h g) → (IsValue d → (f : Term) → Step h e f → Steps h g) → IsValue g ⊎ Steps h g
 progress-parts p q k left right = progress-part p (λ v. progress-part q (k v) (right v)) left
 
 -- 5.3
-pub progress : {e : Term} {A : Ty} → Typed [] e A → IsValue e ⊎ ((f : Term) × Step e f)
+pub progress : {h : ℕ} {e : Term} {A : Ty} → Typed [] e A → IsValue e ⊎ ((f : Term) × Step h e f)
 progress t-unit = inl (top, v-unit)
 progress t-lit = inl (int, v-lit)
 progress (t-anno t b) =
@@ -261,41 +292,6 @@ progress (t-mergev v w t u k) = inl (_, v-merge v w)
 progress (t-fix t b) = inr (_, s-fix)
 progress (t-rcd t) = progress-part (progress t) (λ v. inl (_, v-rcd (v .1))) (λ f s. (_, s-rcd s))
 progress (t-proj t p) = progress-part (progress t) (λ v. inr (projects-step p (value-typed t (v .1)))) (λ f s. (_, s-proj s))
-
--- 5.1, with both halves of every merge open
-pub step-unique : {e f g : Term} {A : Ty} → Typed [] e A → Step e f → Step e g → f ≡ g
-step-unique (t-app t a u b) (s-app-left {g} s) (s-app-left s′) = ap (λ x. app x g) (step-unique t s s′)
-step-unique (t-app t a u b) (s-app-left s) (s-app-right v s′) = absurd (value-no-step v s)
-step-unique (t-app t a u b) (s-app-left s) (s-beta c) = absurd (value-no-step v-lam s)
-step-unique (t-app t a u b) (s-app-left s) (s-app-unit v) = absurd (value-no-step v-unit s)
-step-unique (t-app t a u b) (s-app-right v s) (s-app-left s′) = absurd (value-no-step v s′)
-step-unique (t-app t a u b) (s-app-right {v = x} v s) (s-app-right w s′) = ap (app x) (step-unique u s s′)
-step-unique (t-app t a u b) (s-app-right v s) (s-beta c) = absurd (value-no-step (cast-from c .1) s)
-step-unique (t-app t a u b) (s-app-right v s) (s-app-unit w) = absurd (value-no-step w s)
-step-unique (t-app t a u b) (s-beta c) (s-app-left s) = absurd (value-no-step v-lam s)
-step-unique (t-app t a u b) (s-beta c) (s-app-right v s) = absurd (value-no-step (cast-from c .1) s)
-step-unique (t-app t a u b) (s-beta {e} {B} c) (s-beta d) = ap (λ x. anno (substitute 0 x e) B) (cast-unique u c d)
-step-unique (t-app t a u b) (s-app-unit w) (s-app-left s) = absurd (value-no-step v-unit s)
-step-unique (t-app t a u b) (s-app-unit w) (s-app-right v s) = absurd (value-no-step w s)
-step-unique (t-app t a u b) (s-app-unit w) (s-app-unit w′) = refl
-step-unique t (s-merge-left {g} s) (s-merge-left s′) = ap (λ x. merge x g) (step-unique (typed-halves t .2) s s′)
-step-unique t (s-merge-left s) (s-merge-right v s′) = absurd (value-no-step v s)
-step-unique t (s-merge-right v s) (s-merge-left s′) = absurd (value-no-step v s′)
-step-unique t (s-merge-right {v = x} v s) (s-merge-right w s′) = ap (merge x) (step-unique (typed-halves t .3) s s′)
-step-unique (t-anno t b) (s-anno {A} s) (s-anno s′) = ap (λ x. anno x A) (step-unique t s s′)
-step-unique (t-anno t b) (s-anno s) (s-cast c) = absurd (value-no-step (cast-from c .1) s)
-step-unique (t-anno t b) (s-cast c) (s-anno s) = absurd (value-no-step (cast-from c .1) s)
-step-unique (t-anno t b) (s-cast c) (s-cast d) = cast-unique t c d
-step-unique (t-rcd {l} t) (s-rcd s) (s-rcd s′) = ap (rcd l) (step-unique t s s′)
-step-unique (t-proj {l} t p) (s-proj s) (s-proj s′) = ap (proj l) (step-unique t s s′)
-step-unique (t-proj t p) (s-proj s) s-proj-unit = absurd (value-no-step v-unit s)
-step-unique (t-proj t p) (s-proj s) (s-proj-rcd v) = absurd (value-no-step (v-rcd v) s)
-step-unique (t-proj t p) s-proj-unit (s-proj s) = absurd (value-no-step v-unit s)
-step-unique (t-proj t p) s-proj-unit s-proj-unit = refl
-step-unique (t-proj t p) (s-proj-rcd v) (s-proj s) = absurd (value-no-step (v-rcd v) s)
-step-unique (t-proj t p) (s-proj-rcd v) (s-proj-rcd w) = refl
-step-unique (t-proj t p) (s-proj s) (s-proj-part v f) = absurd (value-no-step v s)
-step-unique (t-proj t p) (s-proj s) (s-proj-none v n h) = absurd (value-no-step v s)
-step-unique (t-proj t p) (s-proj-part v f) s = let (x, u, k) = merge-read t (value-typed t v) p in k _ (s-proj-part v f) ∙ sym (k _ s)
-step-unique (t-proj t p) (s-proj-none v n h) s = let (x, u, k) = merge-read t (value-typed t v) p in k _ (s-proj-none v n h) ∙ sym (k _ s)
-step-unique t s-fix s-fix = refl
+progress (t-sum t b u c) = progress-parts (progress t) (progress u)
+    (λ v w. inr (_, s-sum (typed-number t b v .1) (typed-number u c w .1))) (λ f s. (_, s-sum-left s)) (λ v f s. (_, s-sum-right (v .1) s))
+progress (t-choice t b u c w a) = progress-part (progress t) (λ v. inr (_, s-choice (typed-number t b v .1))) (λ f s. (_, s-choice-first s))

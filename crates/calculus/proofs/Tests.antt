@@ -7,7 +7,7 @@ use mathlib.Core.Bool.{Bool, _&&_, cond}
 use mathlib.Core.Option.{Option, none, some, Option·map, orElse}
 use borrow.Author.Tests.{eq-eqb}
 use lib.Dec.{T, eqb}
-use Rattle.calculus.specs.Syntax.{Ty, int, top, arrow, inter, field, Term, var, lit, unit, anno, app, lam, merge, fix, rcd, proj}
+use Rattle.calculus.specs.Syntax.{Ty, int, top, arrow, inter, field, Term, var, lit, unit, anno, app, lam, merge, fix, rcd, proj, sum, choice}
 use Rattle.calculus.specs.Syntax.{Value, v-lit, v-unit, v-lam, v-merge, v-rcd, IsValue}
 use Rattle.calculus.specs.Subtyping.{TopLike, Ordinary}
 use Rattle.calculus.specs.TypedReduction.{Cast, c-lit, c-top, c-arrow, c-rcd, c-left, c-right, c-both}
@@ -36,6 +36,8 @@ value?-sound (merge e f) t =
 value?-sound (fix e A) t = absurd t
 value?-sound (rcd l e) t = let (A, v) = value?-sound e t in (field l A, v-rcd v)
 value?-sound (proj l e) t = absurd t
+value?-sound (sum e f) t = absurd t
+value?-sound (choice e f g) t = absurd t
 
 value?-complete : {e : Term} {A : Ty} → Value e A → T (value? e)
 unfolding value?

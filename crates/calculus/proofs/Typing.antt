@@ -2,18 +2,18 @@
 use Prim.Native.Nat.{ℕ, suc, _≤_, _<_}
 use native.Mathlib.Omega.{arith}
 use mathlib.Core.Path.{_≡_, refl, sym, ap, ap₂}
-use mathlib.Core.Logic.{_↔_}
+use mathlib.Core.Logic.{_↔_, Iff·rfl}
 use mathlib.Core.Bool.{_&&_}
 use mathlib.Core.List.{List, [], _∷_, _++_}
 use lib.Dec.{T, eqb, ltb→lt, lt→ltb, eqb→eq}
 use lib.ListN.{length}
 use Rattle.calculus.specs.Syntax.{Ty, inter, field, size-type}
-use Rattle.calculus.specs.Syntax.{Term, var, lit, unit, anno, app, lam, merge, fix, rcd, proj, substitute, size}
+use Rattle.calculus.specs.Syntax.{Term, var, lit, unit, anno, app, lam, merge, fix, rcd, proj, sum, choice, substitute, size}
 use Rattle.calculus.specs.Syntax.{Value, v-lit, v-unit, v-lam, v-merge, v-rcd}
 use Rattle.calculus.specs.Decide.{closed?}
 use Rattle.calculus.specs.Typing.{Lookup, here, there, Applies, a-arrow, a-top, Projects, p-field, p-top, p-one, p-none, TypedWith, Typed, TypedByList}
-use Rattle.calculus.specs.Typing.{t-unit, t-lit, t-var, t-anno, t-app, t-lam, t-merge, t-mergev, t-fix, t-rcd, t-proj}
-use Rattle.calculus.proofs.Bools.{T-and, by-test}
+use Rattle.calculus.specs.Typing.{t-unit, t-lit, t-var, t-anno, t-app, t-lam, t-merge, t-mergev, t-fix, t-rcd, t-proj, t-sum, t-choice}
+use Rattle.calculus.proofs.Bools.{and-says, T-and, by-test}
 use Rattle.calculus.proofs.Disjointness.{list→disjoint, disjoint→list}
 use Rattle.calculus.proofs.TypedReduction.{value-unique}
 use Rattle.calculus.proofs.Fields.{one-not-none, one-unique, one-size}
@@ -34,6 +34,8 @@ finds-map d k (t-mergev v w t u c) = t-mergev v w (finds-map d k t) (finds-map d
 finds-map d k (t-fix t b) = t-fix (finds-map d k t) b
 finds-map d k (t-rcd t) = t-rcd (finds-map d k t)
 finds-map d k (t-proj t p) = t-proj (finds-map d k t) p
+finds-map d k (t-sum t b u c) = t-sum (finds-map d k t) b (finds-map d k u) c
+finds-map d k (t-choice t b u c s a) = t-choice (finds-map d k t) b (finds-map d k u) c (finds-map d k s) a
 
 -- source's definitions and document 01's lists derive the same judgements
 pub typed-by-list : {Γ : List Ty} {e : Term} {A : Ty} → Typed Γ e A ↔ TypedByList Γ e A
@@ -82,10 +84,19 @@ typed-unique (t-mergev v w s s′ k) (t-mergev p q t t′ m) = ap₂ inter (valu
 typed-unique (t-fix s b) (t-fix t c) = refl
 typed-unique (t-rcd {l} s) (t-rcd t) = ap (field l) (typed-unique s t)
 typed-unique (t-proj s a) (t-proj t c) = projects-unique (rw (typed-unique s t) at a) c
+typed-unique (t-sum s b s′ c) (t-sum t d t′ e) = refl
+typed-unique (t-choice s b s′ c s″ a) (t-choice t d t′ e t″ f) = refl
 
--- two parts of one term
+-- two parts of one term, and three
 closed-both : (k : ℕ) (e f : Term) → T (closed? k e && closed? k f) ↔ (T (closed? k e) × T (closed? k f))
 closed-both k e f = T-and (closed? k e) (closed? k f)
+
+closed-three : (k : ℕ) (e f g : Term) → T (closed? k e && closed? k f && closed? k g) ↔ ((T (closed? k e) × T (closed? k f)) × T (closed? k g))
+closed-three k e f g = and-says (closed? k e && closed? k f) (closed? k g) (closed-both k e f) Iff·rfl
+
+more-both : (j k : ℕ) (e f : Term) → (T (closed? j e) → T (closed? k e)) → (T (closed? j f) → T (closed? k f)) →
+    T (closed? j e && closed? j f) → T (closed? k e && closed? k f)
+more-both j k e f m n c = let (p, q) = closed-both j e f .0 c in closed-both k e f .1 (m p, n q)
 
 -- closed below k, and below all that is more
 pub closed-more : (j k : ℕ) (e : Term) → j ≤ k → T (closed? j e) → T (closed? k e)
@@ -94,14 +105,16 @@ closed-more j k (var n) h c = let m : n < j = ltb→lt n j c in lt→ltb n k (om
 closed-more j k (lit i) h c = tt
 closed-more j k unit h c = tt
 closed-more j k (anno e A) h c = closed-more j k e h c
-closed-more j k (app e f) h c =
-    let p = closed-both j e f .0 c in closed-both k e f .1 (closed-more j k e h (p .0), closed-more j k f h (p .1))
+closed-more j k (app e f) h c = more-both j k e f (closed-more j k e h) (closed-more j k f h) c
 closed-more j k (lam e A B) h c = closed-more (suc j) (suc k) e (omega arith) c
-closed-more j k (merge e f) h c =
-    let p = closed-both j e f .0 c in closed-both k e f .1 (closed-more j k e h (p .0), closed-more j k f h (p .1))
+closed-more j k (merge e f) h c = more-both j k e f (closed-more j k e h) (closed-more j k f h) c
 closed-more j k (fix e A) h c = closed-more (suc j) (suc k) e (omega arith) c
 closed-more j k (rcd l e) h c = closed-more j k e h c
 closed-more j k (proj l e) h c = closed-more j k e h c
+closed-more j k (sum e f) h c = more-both j k e f (closed-more j k e h) (closed-more j k f h) c
+closed-more j k (choice e f g) h c =
+    let ((p, q), r) = closed-three j e f g .0 c in
+    closed-three k e f g .1 ((closed-more j k e h p, closed-more j k f h q), closed-more j k g h r)
 
 pub lookup-within : {Γ : List Ty} {n : ℕ} {A : Ty} → Lookup Γ n A → n < length Γ
 lookup-within here = omega arith
@@ -122,6 +135,8 @@ typed-closed (t-mergev {Γ} {v = e} {w = f} v w t u k) =
 typed-closed (t-fix t b) = typed-closed t
 typed-closed (t-rcd t) = typed-closed t
 typed-closed (t-proj t p) = typed-closed t
+typed-closed (t-sum {Γ} {e} {f} t b u c) = closed-both (length Γ) e f .1 (typed-closed t, typed-closed u)
+typed-closed (t-choice {Γ} {e} {f} {g} t b u c s a) = closed-three (length Γ) e f g .1 ((typed-closed t, typed-closed u), typed-closed s)
 
 lookup-weaken : {Δ : List Ty} {n : ℕ} {A : Ty} → Lookup Δ n A → (Γ : List Ty) → Lookup (Δ ++ Γ) n A
 lookup-weaken here Γ = here
@@ -140,6 +155,8 @@ typed-weaken (t-mergev v w t u k) Γ = t-mergev v w t u k
 typed-weaken (t-fix t b) Γ = t-fix (typed-weaken t Γ) b
 typed-weaken (t-rcd t) Γ = t-rcd (typed-weaken t Γ)
 typed-weaken (t-proj t p) Γ = t-proj (typed-weaken t Γ) p
+typed-weaken (t-sum t b u c) Γ = t-sum (typed-weaken t Γ) b (typed-weaken u Γ) c
+typed-weaken (t-choice t b u c s a) Γ = t-choice (typed-weaken t Γ) b (typed-weaken u Γ) c (typed-weaken s Γ) a
 
 pub lookup-strengthen : (Δ Γ : List Ty) (n : ℕ) {A : Ty} → Lookup (Δ ++ Γ) n A → n < length Δ → Lookup Δ n A
 lookup-strengthen [] Γ n l h = absurd (omega arith)
@@ -161,6 +178,11 @@ typed-strengthen Δ Γ (t-mergev v w t u k) c = t-mergev v w t u k
 typed-strengthen Δ Γ (t-fix {A} t b) c = t-fix (typed-strengthen (A ∷ Δ) Γ t c) b
 typed-strengthen Δ Γ (t-rcd t) c = t-rcd (typed-strengthen Δ Γ t c)
 typed-strengthen Δ Γ (t-proj t p) c = t-proj (typed-strengthen Δ Γ t c) p
+typed-strengthen Δ Γ (t-sum {e} {f} t b u d) c =
+    let (p, q) = closed-both (length Δ) e f .0 c in t-sum (typed-strengthen Δ Γ t p) b (typed-strengthen Δ Γ u q) d
+typed-strengthen Δ Γ (t-choice {e} {f} {g} t b u d s a) c =
+    let ((p, q), r) = closed-three (length Δ) e f g .0 c in
+    t-choice (typed-strengthen Δ Γ t p) b (typed-strengthen Δ Γ u q) d (typed-strengthen Δ Γ s r) a
 
 -- nothing is substituted into a closed term
 pub substitute-closed : (k : ℕ) (s e : Term) → T (closed? k e) → substitute k s e ≡ e
@@ -176,6 +198,9 @@ substitute-closed k s (merge e f) c = let p = closed-both k e f .0 c in ap₂ me
 substitute-closed k s (fix e A) c = rw (substitute-closed (suc k) s e c)
 substitute-closed k s (rcd l e) c = rw (substitute-closed k s e c)
 substitute-closed k s (proj l e) c = rw (substitute-closed k s e c)
+substitute-closed k s (sum e f) c = let (p, q) = closed-both k e f .0 c in ap₂ sum (substitute-closed k s e p) (substitute-closed k s f q)
+substitute-closed k s (choice e f g) c =
+    let ((p, q), r) = closed-three k e f g .0 c in rw (substitute-closed k s e p, substitute-closed k s f q, substitute-closed k s g r)
 
 applies-size : {A B C : Ty} → Applies C A B → size-type B ≤ size-type C
 unfolding size-type
@@ -202,3 +227,5 @@ typed-size (t-mergev v w t u k) = let h = typed-size t in let j = typed-size u i
 typed-size (t-fix t b) = omega arith
 typed-size (t-rcd t) = let h = typed-size t in omega arith
 typed-size (t-proj t p) = let h = typed-size t in let k = projects-size p in omega arith
+typed-size (t-sum t b u c) = omega arith
+typed-size (t-choice t b u c s a) = omega arith

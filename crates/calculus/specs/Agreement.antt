@@ -1,12 +1,15 @@
 -- What is promised of the definitions beside the theorem: the source's definitions and document 01's lists agree, the rules of a field read
--- count parts as document 02 does, and the executable functions decide the relations. Assumes nothing.
-use Prim.Native.Nat.{ℕ}
+-- count parts as document 02 does, those of sums and choices say what it says, and the executable functions decide the relations. Assumes nothing.
+use Prim.Native.Nat.{ℕ, _-_, _≤_, _<_}
 use mathlib.Core.Path.{_≡_}
-use mathlib.Core.Logic.{_↔_, _⊎_}
+use mathlib.Core.Logic.{_↔_, _⊎_, _≢_}
 use mathlib.Core.Option.{some}
-use mathlib.Core.List.{List, []}
+use mathlib.Core.List.{List, [], _∷_}
 use lib.Dec.{T}
-use Rattle.calculus.specs.Syntax.{Ty, top, inter, field, Term, proj, Value, IsValue}
+use lib.IntN.{ℤ, pos, negsuc, _+ℤ_}
+use lib.Signed.{mag}
+use Rattle.calculus.specs.Syntax.{Ty, int, top, inter, field, Term, lit, anno, proj, sum, choice, Value, IsValue}
+use Rattle.calculus.specs.Numbers.{hold}
 use Rattle.calculus.specs.Subtyping.{TopLike, Ordinary, Below}
 use Rattle.calculus.specs.Disjointness.{Disjoint, DisjointByList}
 use Rattle.calculus.specs.TypedReduction.{Cast}
@@ -16,7 +19,7 @@ use Rattle.calculus.specs.Typing.{Projects, Typed, TypedByList}
 use Rattle.calculus.specs.Runtime.{Runtime}
 use Rattle.calculus.specs.Step.{Step}
 use Rattle.calculus.specs.Decide.{topLike?, FieldPart, no-part, top-part, more-parts, one-part, fieldPart, below?, disjoint?, value?, consistent?}
-use Rattle.calculus.specs.Infer.{no-field, found, refused, infer}
+use Rattle.calculus.specs.Infer.{Reason, no-field, mismatch, found, refused, infer}
 use Rattle.calculus.specs.Evaluate.{cast, next}
 
 -- "This list decides; the source's definition by all readings has to agree with it on typed values." Here on all values; and so do disjoint
@@ -65,6 +68,47 @@ pub data SamePart : FieldPart → FieldPart → Type 0 where
 pub record FieldsKept : Type 0 where
   pub says : (l : ℕ) (A B : Ty) → Runtime A B → SamePart (fieldPart l A) (fieldPart l B)
 
+-- The part e is "checked against Int": it has a type, which is below Int;
+abbrev pub ChecksInt : List Ty → Term → Type 0
+ChecksInt Γ e = (A : Ty) × Typed Γ e A × Below A int
+
+-- or it is refused for r, at the end of the path p: no type is found for it, or one that is not below Int.
+abbrev pub RefusesInt : List Ty → Term → Reason → List ℕ → Type 0
+RefusesInt Γ e r p = (infer Γ e ≡ refused r p) ⊎ ((A : Ty) × Typed Γ e A × (¬ Below A int) × (r ≡ mismatch) × (p ≡ []))
+
+-- Document 02, (ii), in its words.
+pub record SumsAndChoices : Type 0 where
+  -- "Kind 26 adds a and b: both are checked against Int", "a sum with type Int";
+  pub sum-checked : (Γ : List Ty) (e f : Term) (C : Ty) → Typed Γ (sum e f) C ↔ (ChecksInt Γ e × ChecksInt Γ f × (C ≡ int))
+  -- "both are read under Int, and the sum is held":
+  pub sum-read : (h : ℕ) (v w g : Term) → IsValue v → IsValue w →
+      Step h (sum v w) g ↔ ((i : ℤ) × (j : ℤ) × Cast v int (lit i) × Cast w int (lit j) × (g ≡ lit (hold h (i +ℤ j))))
+  -- a held number fits the range, one that fits is held unchanged, and any other "to the ends of the .. range".
+  pub held-fits : (h : ℕ) (z : ℤ) → 0 < h → mag (hold h z) < h
+  pub held-same : (h : ℕ) (z : ℤ) → mag z < h → hold h z ≡ z
+  pub held-above : (h n : ℕ) → h ≤ n → hold h (pos n) ≡ pos (h - 1)
+  pub held-below : (h n : ℕ) → h ≤ n → hold h (negsuc n) ≡ negsuc (h - 1)
+  -- "Kind 27 chooses: a, b, c are checked against Int and the result is Int."
+  pub choice-checked : (Γ : List Ty) (e f g : Term) (C : Ty) →
+      Typed Γ (choice e f g) C ↔ (ChecksInt Γ e × ChecksInt Γ f × ChecksInt Γ g × (C ≡ int))
+  -- "When a is a value, it is read under Int; the choice becomes b for zero and c for anything else, either one annotated Int."
+  pub choice-read : (h : ℕ) (v b c g : Term) → IsValue v →
+      Step h (choice v b c) g
+      ↔ ((i : ℤ) × Cast v int (lit i) × (((i ≡ pos 0) × (g ≡ anno b int)) ⊎ ((i ≢ pos 0) × (g ≡ anno c int))))
+  -- "Sides of a sum run left first;
+  pub sum-left : (h : ℕ) (e f g : Term) → ¬ IsValue e → Step h (sum e f) g ↔ ((d : Term) × Step h e d × (g ≡ sum d f))
+  pub sum-right : (h : ℕ) (v f g : Term) → IsValue v → ¬ IsValue f → Step h (sum v f) g ↔ ((d : Term) × Step h f d × (g ≡ sum v d))
+  -- of a choice only a runs, while b and c wait."
+  pub choice-first : (h : ℕ) (e b c g : Term) → ¬ IsValue e → Step h (choice e b c) g ↔ ((d : Term) × Step h e d × (g ≡ choice d b c))
+  -- "Typing checks each part before it walks the next."
+  pub sum-refuses-a : (Γ : List Ty) (e f : Term) (r : Reason) (p : List ℕ) → RefusesInt Γ e r p → infer Γ (sum e f) ≡ refused r (0 ∷ p)
+  pub sum-refuses-b : (Γ : List Ty) (e f : Term) (r : Reason) (p : List ℕ) → ChecksInt Γ e → RefusesInt Γ f r p → infer Γ (sum e f) ≡ refused r (1 ∷ p)
+  pub choice-refuses-a : (Γ : List Ty) (e f g : Term) (r : Reason) (p : List ℕ) → RefusesInt Γ e r p → infer Γ (choice e f g) ≡ refused r (0 ∷ p)
+  pub choice-refuses-b : (Γ : List Ty) (e f g : Term) (r : Reason) (p : List ℕ) → ChecksInt Γ e → RefusesInt Γ f r p →
+      infer Γ (choice e f g) ≡ refused r (1 ∷ p)
+  pub choice-refuses-c : (Γ : List Ty) (e f g : Term) (r : Reason) (p : List ℕ) → ChecksInt Γ e → ChecksInt Γ f → RefusesInt Γ g r p →
+      infer Γ (choice e f g) ≡ refused r (2 ∷ p)
+
 -- Each function answers exactly what its relation says: of readings and steps, where the term is typed.
 pub record Decides : Type 0 where
   pub top-like : (A : Ty) → T (topLike? A) ↔ TopLike A
@@ -76,4 +120,4 @@ pub record Decides : Type 0 where
   pub consistent : (v w : Term) (A B : Ty) → Value v A → Value w B → T (consistent? v w) ↔ ConsistentByList v w
   pub finds : (Γ : List Ty) (e : Term) (A : Ty) → (infer Γ e ≡ found A) ↔ Typed Γ e A
   pub casts : (v x : Term) (A B : Ty) → Typed [] v B → IsValue v → (cast A v ≡ some x) ↔ Cast v A x
-  pub steps : (e f : Term) (A : Ty) → Typed [] e A → (next e ≡ some f) ↔ Step e f
+  pub steps : (h : ℕ) (e f : Term) (A : Ty) → Typed [] e A → (next h e ≡ some f) ↔ Step h e f

@@ -7,7 +7,7 @@ use lib.Dec.{eqb, ltb}
 use lib.IntN.{ℤ, pos, negsuc, pos-ne-negsuc}
 use native.Mathlib.Decide.{ℕ-discrete}
 use Rattle.calculus.specs.Syntax.{Ty, int, top, arrow, inter, field, size-type, Ty-discrete, Term-discrete}
-use Rattle.calculus.specs.Syntax.{Term, var, lit, unit, anno, app, lam, merge, fix, rcd, proj, byForm, foldValue, foldParts}
+use Rattle.calculus.specs.Syntax.{Term, var, lit, unit, anno, app, lam, merge, fix, rcd, proj, sum, choice, byForm, foldValue, foldParts}
 
 -- "Top-like: Top; a function type with a top-like output; an intersection of two such; a record type over one."
 unfoldable pub topLike? : Ty → Bool
@@ -120,6 +120,8 @@ closed? k (merge e f) = closed? k e && closed? k f
 closed? k (fix e A) = closed? (suc k) e
 closed? k (rcd l e) = closed? k e
 closed? k (proj l e) = closed? k e
+closed? k (sum e f) = closed? k e && closed? k f
+closed? k (choice e f g) = closed? k e && closed? k f && closed? k g
 
 -- Equality of integers under one sign, from that of their numbers. (The library's decision of integers does not compute.)
 unfoldable pub sameUnder : (f : ℕ → ℤ) → ((m n : ℕ) → f m ≡ f n → m ≡ n) → (m n : ℕ) → Dec (m ≡ n) → Dec (f m ≡ f n)

@@ -4,8 +4,10 @@ use Prim.Native.Nat.{ℕ}
 use mathlib.Core.Bool.{true, false, not, _&&_, cond}
 use mathlib.Core.Option.{Option, none, some, Option·map, orElse}
 use lib.Dec.{eqb}
+use lib.IntN.{ℤ, pos, _+ℤ_}
 use Rattle.calculus.specs.Syntax.{Ty, int, top, arrow, inter, field}
-use Rattle.calculus.specs.Syntax.{Term, var, lit, unit, anno, app, lam, merge, fix, rcd, proj, substitute, byForm, foldParts}
+use Rattle.calculus.specs.Syntax.{Term, var, lit, unit, anno, app, lam, merge, fix, rcd, proj, sum, choice, substitute, byForm, foldParts}
+use Rattle.calculus.specs.Numbers.{hold, chosen}
 use Rattle.calculus.specs.Decide.{FieldPart, no-part, top-part, more-parts, one-part, topLike?, fieldPart, below?, value?, typeOf}
 
 -- "under an intersection, merge both readings"
@@ -62,19 +64,40 @@ readParts l e = orElse (firstPart (content l) e) (topValue (fieldPart l (typeOf 
 unfoldable pub project : ℕ → Term → Option Term
 project l e = byForm (λ i. none) (some unit) (λ b A B. none) (λ k f. cond (eqb l k) (some f) none) (readParts l e) e
 
--- The successor, where there is one: "Steps go leftmost first, never under a binder".
-unfoldable pub next : Term → Option Term
-next (var n) = none
-next (lit i) = none
-next unit = none
-next (anno e A) = elim (value? e) [ true ↦ cast A e | false ↦ Option·map (λ x. anno x A) (next e) ]
-next (app e f) =
-    elim (value? e) [
-      | true ↦ elim (value? f) [ true ↦ apply e f | false ↦ Option·map (app e) (next f) ]
-      | false ↦ Option·map (λ x. app x f) (next e)
-    ]
-next (lam e A B) = none
-next (merge e f) = elim (value? e) [ true ↦ Option·map (merge e) (next f) | false ↦ Option·map (λ x. merge x f) (next e) ]
-next (fix e A) = some (anno (substitute 0 (fix e A) e) A)
-next (rcd l e) = Option·map (rcd l) (next e)
-next (proj l e) = elim (value? e) [ true ↦ project l e | false ↦ Option·map (proj l) (next e) ]
+-- The number that a reading under Int is.
+unfoldable pub numberOf : Term → ℤ
+numberOf e = byForm (λ i. i) (pos 0) (λ b A B. pos 0) (λ l f. pos 0) (pos 0) e
+
+-- A choice, from the reading of its first part: "the choice becomes b for zero and c for anything else, either one annotated Int."
+unfoldable pub choose : Option Term → Term → Term → Option Term
+choose x e f = Option·map (λ v. anno (chosen (numberOf v) e f) int) x
+
+-- Over h, half of the range that sums are held to.
+module _ (h : ℕ) where
+  -- A sum, from the readings of its sides: "the sum is held to the ends of the .. range"
+  unfoldable pub add : Option Term → Option Term → Option Term
+  add none y = none
+  add (some v) y = Option·map (λ w. lit (hold h (numberOf v +ℤ numberOf w))) y
+
+  -- The successor, where there is one: "Steps go leftmost first, never under a binder".
+  unfoldable pub next : Term → Option Term
+  next (var n) = none
+  next (lit i) = none
+  next unit = none
+  next (anno e A) = elim (value? e) [ true ↦ cast A e | false ↦ Option·map (λ x. anno x A) (next e) ]
+  next (app e f) =
+      elim (value? e) [
+        | true ↦ elim (value? f) [ true ↦ apply e f | false ↦ Option·map (app e) (next f) ]
+        | false ↦ Option·map (λ x. app x f) (next e)
+      ]
+  next (lam e A B) = none
+  next (merge e f) = elim (value? e) [ true ↦ Option·map (merge e) (next f) | false ↦ Option·map (λ x. merge x f) (next e) ]
+  next (fix e A) = some (anno (substitute 0 (fix e A) e) A)
+  next (rcd l e) = Option·map (rcd l) (next e)
+  next (proj l e) = elim (value? e) [ true ↦ project l e | false ↦ Option·map (proj l) (next e) ]
+  next (sum e f) =
+      elim (value? e) [
+        | true ↦ elim (value? f) [ true ↦ add (cast int e) (cast int f) | false ↦ Option·map (sum e) (next f) ]
+        | false ↦ Option·map (λ x. sum x f) (next e)
+      ]
+  next (choice e f g) = elim (value? e) [ true ↦ choose (cast int e) f g | false ↦ Option·map (λ x. choice x f g) (next e) ]

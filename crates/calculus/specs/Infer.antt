@@ -1,5 +1,5 @@
 -- Finding a type, as a function. What it finds is a theorem of proofs/: exactly what the rules derive. A refusal carries the path from
--- the term to the part that it names, field by field: 0 for a, 1 for b of document 01's table. Assumes nothing.
+-- the term to the part that it names, field by field: 0 for a, 1 for b, 2 for c of document 01's table. Assumes nothing.
 use Prim.Native.Nat.{ℕ}
 use mathlib.Core.Bool.{Bool, _&&_, _||_, cond}
 use mathlib.Core.Option.{Option, none, some}
@@ -7,7 +7,7 @@ use mathlib.Core.List.{List, [], _∷_}
 use lib.Dec.{eqb}
 use lib.ListN.{getElem?}
 use Rattle.calculus.specs.Syntax.{Ty, int, top, arrow, inter, field}
-use Rattle.calculus.specs.Syntax.{Term, var, lit, unit, anno, app, lam, merge, fix, rcd, proj}
+use Rattle.calculus.specs.Syntax.{Term, var, lit, unit, anno, app, lam, merge, fix, rcd, proj, sum, choice}
 use Rattle.calculus.specs.Decide.{FieldPart, no-part, top-part, more-parts, one-part, fieldPart, below?, disjoint?, value?, closed?, consistent?}
 
 -- Rows 11 to 15 of document 01's table: "variable without binder", "application of something else", "field read of something else",
@@ -25,16 +25,16 @@ unfoldable pub lookup : Option Ty → Found
 lookup none = refused unbound []
 lookup (some A) = found A
 
--- The part at field f, for which r was found, is checked against A; then the whole has type B.
-unfoldable pub checked : ℕ → Found → Ty → Ty → Found
-checked f (found C) A B = cond (below? C A) (found B) (refused mismatch (f ∷ []))
-checked f (refused r p) A B = refused r (f ∷ p)
+-- The part at field f, for which r was found, is checked against A; then the whole is as s says.
+unfoldable pub checked : ℕ → Found → Ty → Found → Found
+checked f (found C) A s = cond (below? C A) s (refused mismatch (f ∷ []))
+checked f (refused r p) A s = refused r (f ∷ p)
 
 -- "12 is tested before the right side is walked"
 unfoldable pub applied : Found → Found → Found
 applied (found int) r = refused not-function []
-applied (found top) r = checked 1 r top top
-applied (found (arrow A B)) r = checked 1 r A B
+applied (found top) r = checked 1 r top (found top)
+applied (found (arrow A B)) r = checked 1 r A (found B)
 applied (found (inter A B)) r = refused not-function []
 applied (found (field l A)) r = refused not-function []
 applied (refused r p) s = refused r (0 ∷ p)
@@ -70,15 +70,18 @@ merged e f (found A) (found B) = cond (mergeable? e f A B) (found (inter A B)) (
 merged e f (found A) (refused r p) = refused r (1 ∷ p)
 merged e f (refused r p) s = refused r (0 ∷ p)
 
--- "Finding a type", in the context Γ. "Typing walks left before right and parts before wholes".
+-- "Finding a type", in the context Γ. "Typing walks left before right and parts before wholes"; of a sum and a choice it "checks each part before it
+-- walks the next".
 unfoldable pub infer : List Ty → Term → Found
 infer Γ (var n) = lookup (getElem? Γ n)
 infer Γ (lit i) = found int
 infer Γ unit = found top
-infer Γ (anno e A) = checked 0 (infer Γ e) A A
+infer Γ (anno e A) = checked 0 (infer Γ e) A (found A)
 infer Γ (app e f) = applied (infer Γ e) (infer Γ f)
-infer Γ (lam e A B) = checked 0 (infer (A ∷ Γ) e) B (arrow A B)
+infer Γ (lam e A B) = checked 0 (infer (A ∷ Γ) e) B (found (arrow A B))
 infer Γ (merge e f) = merged e f (infer Γ e) (infer Γ f)
-infer Γ (fix e A) = checked 0 (infer (A ∷ Γ) e) A A
+infer Γ (fix e A) = checked 0 (infer (A ∷ Γ) e) A (found A)
 infer Γ (rcd l e) = labelled l (infer Γ e)
 infer Γ (proj l e) = projected l (infer Γ e)
+infer Γ (sum e f) = checked 0 (infer Γ e) int (checked 1 (infer Γ f) int (found int))
+infer Γ (choice e f g) = checked 0 (infer Γ e) int (checked 1 (infer Γ f) int (checked 2 (infer Γ g) int (found int)))

@@ -1,4 +1,5 @@
 pub mod Syntax
+pub mod Numbers
 pub mod Subtyping
 pub mod Disjointness
 pub mod TypedReduction

@@ -14,7 +14,7 @@ pub data Ty : Type 0 where
   deriving Discrete as Ty-discrete
 
 -- One constructor a kind, in document 01's order: variable, number, top value, annotation, application, function (body, input,
--- output), merge, fixpoint (body, type), record, field read.
+-- output), merge, fixpoint (body, type), record, field read; document 02, (ii): sum, choice.
 pub data Term : Type 0 where
   var : ℕ → Term
   lit : ℤ → Term
@@ -26,6 +26,8 @@ pub data Term : Type 0 where
   fix : Term → Ty → Term
   rcd : ℕ → Term → Term
   proj : ℕ → Term → Term
+  sum : Term → Term → Term
+  choice : Term → Term → Term → Term
   deriving Discrete as Term-discrete
 
 -- "The size of a term or type is its count of cells with sharing opened, types included."
@@ -48,6 +50,8 @@ size (merge e f) = 1 + size e + size f
 size (fix e A) = 1 + size e + size-type A
 size (rcd l e) = 1 + size e
 size (proj l e) = 1 + size e
+size (sum e f) = 1 + size e + size f
+size (choice e f g) = 1 + size e + size f + size g
 
 -- "Values: numbers, the top value, functions, merges of values, records of values." The second index is the type that a value
 -- shows by its form: the principal type of source 001, figure 14.
@@ -75,6 +79,8 @@ substitute k s (merge e f) = merge (substitute k s e) (substitute k s f)
 substitute k s (fix e A) = fix (substitute (suc k) s e) A
 substitute k s (rcd l e) = rcd l (substitute k s e)
 substitute k s (proj l e) = proj l (substitute k s e)
+substitute k s (sum e f) = sum (substitute k s e) (substitute k s f)
+substitute k s (choice e f g) = choice (substitute k s e) (substitute k s f) (substitute k s g)
 
 -- ---- what evaluation asks of a term goes by five forms: a number, the top value, a function, a merge, a record; all else is other
 
@@ -90,6 +96,8 @@ byForm n u f r z (merge e g) = z
 byForm n u f r z (fix e A) = z
 byForm n u f r z (rcd l e) = r l e
 byForm n u f r z (proj l e) = z
+byForm n u f r z (sum e g) = z
+byForm n u f r z (choice e g d) = z
 
 -- The same of a value as a whole: merges and records from what their parts give.
 abbrev pub foldValue : {X : Type 0} (number : ℤ → X) (top-value : X) (function : Term → Ty → Ty → X) (merged : X → X → X) (recorded : ℕ → X → X) (other : X)
@@ -104,6 +112,8 @@ foldValue n u f m r z (merge e g) = m (foldValue n u f m r z e) (foldValue n u f
 foldValue n u f m r z (fix e A) = z
 foldValue n u f m r z (rcd l e) = r l (foldValue n u f m r z e)
 foldValue n u f m r z (proj l e) = z
+foldValue n u f m r z (sum e g) = z
+foldValue n u f m r z (choice e g d) = z
 
 -- f of the parts of a value that are no merges, joined by m.
 abbrev pub foldParts : {X : Type 0} (f : Term → X) (m : X → X → X) → Term → X
@@ -117,3 +127,5 @@ foldParts f m (merge e g) = m (foldParts f m e) (foldParts f m g)
 foldParts f m (fix e A) = f (fix e A)
 foldParts f m (rcd l e) = f (rcd l e)
 foldParts f m (proj l e) = f (proj l e)
+foldParts f m (sum e g) = f (sum e g)
+foldParts f m (choice e g d) = f (choice e g d)

@@ -1,10 +1,10 @@
--- Typing: source 001, figure 4, with document 01's records and the field reads of document 02, (i): "Accepted books are now compared with this
--- wider calculus". One family finds types; checking against B is finding a type below B (TYP-SUB). It is stated over what disjoint and
+-- Typing: source 001, figure 4, with document 01's records, the field reads of document 02, (i), "Accepted books are now compared with this
+-- wider calculus", and its sums and choices, (ii): "Both join the calculus that demands 2 and 3 cite". One family finds types; checking against B is finding a type below B (TYP-SUB). It is stated over what disjoint and
 -- consistent mean: `Typed` takes the source's definitions, `TypedByList` document 01's lists. Assumes nothing.
 use Prim.Native.Nat.{ℕ, zero, suc}
 use mathlib.Core.List.{List, [], _∷_}
 use lib.IntN.{ℤ}
-use Rattle.calculus.specs.Syntax.{Ty, int, top, arrow, inter, field, Term, var, lit, unit, anno, app, lam, merge, fix, rcd, proj, Value}
+use Rattle.calculus.specs.Syntax.{Ty, int, top, arrow, inter, field, Term, var, lit, unit, anno, app, lam, merge, fix, rcd, proj, sum, choice, Value}
 use Rattle.calculus.specs.Subtyping.{Below}
 use Rattle.calculus.specs.Disjointness.{Disjoint, DisjointByList}
 use Rattle.calculus.specs.Consistency.{Consistent, ConsistentByList}
@@ -51,6 +51,11 @@ pub data TypedWith (D : Ty → Ty → Type 0) (K : Term → Term → Type 0) : L
   t-rcd : {Γ : List Ty} {l : ℕ} {e : Term} {A : Ty} → TypedWith D K Γ e A → TypedWith D K Γ (rcd l e) (field l A)
   -- "Field read: the term's type must be a record type of exactly that label, or Top"; or an intersection that has the field
   t-proj : {Γ : List Ty} {l : ℕ} {e : Term} {A B : Ty} → TypedWith D K Γ e A → Projects l A B → TypedWith D K Γ (proj l e) B
+  -- Document 02, (ii): "Kind 26 adds a and b: both are checked against Int", "a sum with type Int";
+  t-sum : {Γ : List Ty} {e f : Term} {A B : Ty} → TypedWith D K Γ e A → Below A int → TypedWith D K Γ f B → Below B int → TypedWith D K Γ (sum e f) int
+  -- "Kind 27 chooses: a, b, c are checked against Int and the result is Int."
+  t-choice : {Γ : List Ty} {e f g : Term} {A B C : Ty} → TypedWith D K Γ e A → Below A int → TypedWith D K Γ f B → Below B int →
+      TypedWith D K Γ g C → Below C int → TypedWith D K Γ (choice e f g) int
 
 -- Γ finds A for e, with the source's definitions 3.1 and 3.2.
 abbrev pub Typed : List Ty → Term → Ty → Type 0

@@ -59,6 +59,7 @@ type-rows =
     (λ l a b c p q r. cc) also (λ l a b c p q r. cc) also (λ l a b c p q r. cc) also (λ l a b c p q r. cc) also (λ l a b c p q r. cc)
     also (λ l a b c p q r. tt) also (λ l a b c p q r. tt) also (λ l a b c p q r. tt) also (λ l a b c p q r. tt) also (λ l a b c p q r. tt)
     also (λ l a b c p q r. tt) also (λ l a b c p q r. tt) also (λ l a b c p q r. tt) also (λ l a b c p q r. tt) also (λ l a b c p q r. tt)
+    also (λ l a b c p q r. tt) also (λ l a b c p q r. tt)
     also tt
 
 own : {s : List ℕ} {n x : ℕ} {u : Use} {t : Tree} → HeldField true s n u x t → Own u t

@@ -2,7 +2,7 @@
 use Prim.Native.Nat.{ℕ}
 use mathlib.Core.Path.{_≡_, refl, ap, _∙_}
 use lib.IntN.{ℤ}
-use Rattle.calculus.specs.Syntax.{Ty, Term, var, lit, unit, anno, app, lam, merge, fix, rcd, proj, byForm, foldValue, foldParts}
+use Rattle.calculus.specs.Syntax.{Ty, Term, var, lit, unit, anno, app, lam, merge, fix, rcd, proj, sum, choice, byForm, foldValue, foldParts}
 use Rattle.format.specs.Table.{term-sort}
 use Rattle.format.specs.Tree.{kindIn}
 use Rattle.format.specs.Terms.{fromTerm}
@@ -23,6 +23,8 @@ form-else (merge e f) p q g h = refl
 form-else (fix e A) p q g h = refl
 form-else (rcd l e) p q g h = h refl l e
 form-else (proj l e) p q g h = refl
+form-else (sum e f) p q g h = refl
+form-else (choice e f d) p q g h = refl
 
 -- the kinds of values
 pub record NoValue (k : ℕ) : Type 0 where
@@ -45,6 +47,8 @@ fold-else n u g m r (merge e f) h = absurd (h .merged refl)
 fold-else n u g m r (fix e A) h = refl
 fold-else n u g m r (rcd l e) h = absurd (h .recorded refl)
 fold-else n u g m r (proj l e) h = refl
+fold-else n u g m r (sum e f) h = refl
+fold-else n u g m r (choice e f d) h = refl
 
 -- a function of the parts asks a term that is no merge itself
 pub parts-single : {X : Type 0} (f : Term → X) (m : X → X → X) (e : Term) → ((v w : Term) → e ≡ merge v w → ⊥) → foldParts f m e ≡ f e
@@ -58,6 +62,8 @@ parts-single f m (merge v w) h = absurd (h v w refl)
 parts-single f m (fix e A) h = refl
 parts-single f m (rcd l e) h = refl
 parts-single f m (proj l e) h = refl
+parts-single f m (sum e g) h = refl
+parts-single f m (choice e g d) h = refl
 
 -- and goes by form there
 pub parts-else : {X : Type 0} (n : ℤ → X) (u : X) (f : Term → Ty → Ty → X) (r : ℕ → Term → X) {z : X} (m : X → X → X) (e : Term)

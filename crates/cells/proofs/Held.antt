@@ -10,7 +10,7 @@ use lib.ListN.{length, take, drop, set}
 use lib.Seq.{sets, length-sets, sets-eq, length-take-le, take-set-le, take-take, getD-take}
 use borrow.Author.Tests.{eq-eqb, ne-eqb}
 use Rattle.calculus.specs.Syntax.{Ty, int, top, arrow, inter}
-use Rattle.calculus.specs.Syntax.{Term, var, lit, unit, anno, app, merge, fix, rcd, proj}
+use Rattle.calculus.specs.Syntax.{Term, var, lit, unit, anno, app, merge, fix, rcd, proj, sum, choice}
 use Rattle.calculus.specs.Decide.{topLike?}
 use Rattle.calculus.proofs.Bools.{T-and, Test, _and_, at-most}
 use Rattle.format.specs.Table.{Sort, type-sort, term-sort, Use, plain, refers, Row, table, rowIn, rowOf}
@@ -139,6 +139,9 @@ OneType s i = Shapes.OneType (Holds s) (cellAt s i) i
 abbrev pub OneTerm : List ℕ → ℕ → (ℕ → Term → Term) → Term → Type 0
 OneTerm s i = Shapes.OneTerm (Holds s) (cellAt s i) i
 
+abbrev pub ChoiceAt : List ℕ → ℕ → Term → Type 0
+ChoiceAt s i = Shapes.ChoiceAt (Holds s) (cellAt s i) i
+
 abbrev pub FunctionAt : List ℕ → ℕ → Term → Type 0
 FunctionAt s i = Shapes.FunctionAt (Holds s) (cellAt s i) i
 
@@ -230,6 +233,25 @@ module _ {s : List ℕ} {i : ℕ} {e : Term} (h : HoldsTerm s i e) where
   unfolding table rowIn rowOf toTerm
   proj-at k = let w = by-row h k refl in one-term proj (h .is ∙ ap toTerm (w .is)) (w .held-a)
 
+  pub sum-at : cellAt s i .kind ≡ 26 → TwoTerms s i sum e
+  unfolding table rowIn rowOf toTerm
+  sum-at k = let w = by-row h k refl in two {o = term-sort} sum (h .is ∙ ap toTerm (w .is)) (w .held-a) (w .held-b)
+
+  pub choice-at : cellAt s i .kind ≡ 27 → ChoiceAt s i e
+  unfolding table rowIn rowOf toTerm
+  choice-at k = let w = by-row h k refl in record {
+    tested = _;
+    zero = _;
+    other = _;
+    is = h .is ∙ ap toTerm (w .is);
+    tested-lower = lower (w .held-a);
+    zero-lower = lower (w .held-b);
+    other-lower = lower (w .held-c);
+    holds-tested = holds (w .held-a);
+    holds-zero = holds (w .held-b);
+    holds-other = holds (w .held-c);
+  }
+
 -- ---- the kind of a held cell
 
 -- every row of a list passes a test
@@ -246,14 +268,14 @@ pub row-passes : (q : Row → Bool) → T (allRows q table) → (k : ℕ) (r : R
 unfolding rowOf
 row-passes q t k r e = view (λ r. T (q r)) table (rows-pass q table t) k r e
 
--- 1 to 5, 16 to 25
+-- 1 to 5, 16 to 27
 abbrev pub firstKind : Sort → ℕ
 firstKind type-sort = 1
 firstKind term-sort = 16
 
 abbrev pub lastKind : Sort → ℕ
 lastKind type-sort = 5
-lastKind term-sort = 25
+lastKind term-sort = 27
 
 abbrev kindTest : (r : Row) → Test ((firstKind (r .sort) ≤ r .kind) × (r .kind ≤ lastKind (r .sort)))
 kindTest r = at-most (firstKind (r .sort)) (r .kind) and at-most (r .kind) (lastKind (r .sort))
@@ -281,6 +303,7 @@ rows =
     (λ l a b c. refl) also (λ l a b c. refl) also (λ l a b c. refl) also (λ l a b c. refl) also (λ l a b c. refl)
     also (λ l a b c. refl) also (λ l a b c. refl) also (λ l a b c. refl) also (λ l a b c. refl) also (λ l a b c. refl)
     also (λ l a b c. refl) also (λ l a b c. refl) also (λ l a b c. refl) also (λ l a b c. refl) also (λ l a b c. refl)
+    also (λ l a b c. refl) also (λ l a b c. refl)
     also tt
 
 kind-back : (k : ℕ) (r : Row) {o : Sort} → rowOf k ≡ some r → r .sort ≡ o → (l : ℕ) (a b c : Tree) → kindOf o (thing o (node k l a b c)) ≡ k

@@ -1,7 +1,7 @@
 -- What stands in cell t as cell i, by the shape of its kind: its parts, their cells lower, each held there as H says. Assumes nothing.
 use Prim.Native.Nat.{ℕ, _<_}
 use mathlib.Core.Path.{_≡_}
-use Rattle.calculus.specs.Syntax.{Ty, field, Term, lam}
+use Rattle.calculus.specs.Syntax.{Ty, field, Term, lam, choice}
 use Rattle.format.specs.Table.{Sort, type-sort, term-sort}
 use Rattle.format.specs.Cell.{Cell}
 use Rattle.cells.specs.Held.{Thing}
@@ -50,3 +50,16 @@ pub record FunctionAt (H : (o : Sort) → ℕ → Thing o → Type 0) (t : Cell)
   pub holds-body : H term-sort (t .a) body
   pub holds-input : H type-sort (t .b) input
   pub holds-output : H type-sort (t .c) output
+
+-- a choice: the tested part, the branch for zero, the other
+pub record ChoiceAt (H : (o : Sort) → ℕ → Thing o → Type 0) (t : Cell) (i : ℕ) (e : Term) : Type 0 where
+  pub tested : Term
+  pub zero : Term
+  pub other : Term
+  pub is : e ≡ choice tested zero other
+  pub tested-lower : t .a < i
+  pub zero-lower : t .b < i
+  pub other-lower : t .c < i
+  pub holds-tested : H term-sort (t .a) tested
+  pub holds-zero : H term-sort (t .b) zero
+  pub holds-other : H term-sort (t .c) other

@@ -41,6 +41,6 @@ rowWith k e (some t) = some (record { kind = k; sort = t; label = useOf (e .labe
 abbrev pub rowFrom : ℕ → Entry → Option Row
 rowFrom k e = rowWith k e (sortOf (e .sort))
 
--- Where the code's table has a kind: 1 to 5 after the line for the unknown ones, then 16 to 25.
+-- Where the code's table has a kind: 1 to 5 after the line for the unknown ones, then 16 to 27.
 abbrev pub placeOf : ℕ → ℕ
-placeOf k = cond (ltb k 1) 0 (cond (ltb k 6) k (cond (ltb k 16) 0 (cond (ltb k 26) (k - 10) 0)))
+placeOf k = cond (ltb k 1) 0 (cond (ltb k 6) k (cond (ltb k 16) 0 (cond (ltb k 28) (k - 10) 0)))

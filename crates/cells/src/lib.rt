@@ -99,7 +99,9 @@ const C_NUMBER: u16 = 0o1;
 
 const C_TYPE: u16 = 0o2;
 
-const TABLE: [u16; 16] = [
+const C_TERM: u16 = 0o3;
+
+const TABLE: [u16; 18] = [
     // every other kind
     0,
     // 1, 2: Int, Top
@@ -131,20 +133,24 @@ const TABLE: [u16; 16] = [
     TERM + LABEL + A_TERM,
     // 25: field read
     TERM + LABEL + A_TERM,
+    // 26: sum
+    TERM + A_TERM + B_TERM,
+    // 27: choice, a tested, b for zero, c for anything else
+    TERM + A_TERM + B_TERM + C_TERM,
 ];
 
 // The place of a kind in the table.
 fn place(kind: u8) -> usize
-    ensures { λ r. ⌜ (r ≡ placeOf kind) × (r < 16) ⌝ }
+    ensures { λ r. ⌜ (r ≡ placeOf kind) × (r < 18) ⌝ }
 {
     match kind {
         1..=5 => wide(kind),
-        16..=25 => wide(kind) - 10,
+        16..=27 => wide(kind) - 10,
         _ => 0,
     }
 }
 
-// The row of a kind: 1 to 5 types, 16 to 25 terms, all else unknown.
+// The row of a kind: 1 to 5 types, 16 to 27 terms, all else unknown.
 pub fn entry_of(kind: u8) -> Entry
     ensures { λ r. ⌜ rowFrom kind r ≡ rowOf kind ⌝ }
 {

@@ -35,6 +35,14 @@ and-true : (b : Bool) → b ≡ (b && true)
 and-true true = refl
 and-true false = refl
 
+-- a choice's parts, the third asked first
+third-first : (a b c : Bool) → (a && b && c) ≡ (c && (a && b))
+third-first true true c = and-true c
+third-first true false true = refl
+third-first true false false = refl
+third-first false b true = refl
+third-first false b false = refl
+
 closed-rows : (k : ℕ) → All (ClosedRow k) table
 unfolding table toTerm closed?
 closed-rows k =
@@ -49,6 +57,8 @@ closed-rows k =
     also (λ l a b c n. and-true _)
     also (λ l a b c n. and-true _)
     also (λ l a b c n. and-true _)
+    also (λ l a b c n. refl)
+    also (λ l a b c n. third-first (closed? k (toTerm a)) (closed? k (toTerm b)) (closed? k (toTerm c)))
     also tt
 
 closed-law : (k kind : ℕ) (r : Row) → rowOf kind ≡ some r → r .sort ≡ term-sort → (kind ≡ 16 → ⊥) → (l : ℕ) (a b c : Tree)

@@ -292,6 +292,8 @@ bare-row k r e = view (λ (q : Row). Bare (q .a) → Bare (q .b) × Bare (q .c))
         also (λ h. absurd h)
         also (λ h. absurd h)
         also (λ h. absurd h)
+        also (λ h. absurd h)
+        also (λ h. absurd h)
         also Prim.tt
 
 bare-use : (u : ℕ) → u < 2 → Bare (useOf u)

@@ -4,7 +4,7 @@ use mathlib.Core.Path.{_≡_, sym, _∙_, subst}
 use mathlib.Core.List.{List, []}
 use Rattle.calculus.specs.Syntax.{Ty}
 use Rattle.calculus.specs.Typing.{Typed}
-use Rattle.format.specs.Cell.{IsBytes}
+use Rattle.format.specs.Cell.{IsBytes, half}
 use Rattle.format.specs.Book.{rootTerm, WellFormed}
 use Rattle.answers.specs.Answer.{Answer, accepted, Result, result}
 use Rattle.answers.specs.Engine.{Engine, IsWork, IsLimit}
@@ -49,7 +49,7 @@ module _ (E : Engine) (c : MeetsContracts E) where
       record {
         accepts = ((λ a. d .accepts .0 (to a)), λ t. from (d .accepts .1 t));
         shows = λ A f t w k. check-fixed b w y ∙ d .shows A f t w k;
-        runs = λ a w l k i. subst (TakesSteps (rootTerm b) l) (sym (run-fixed b w l y i)) (d .runs (to a) w l k i);
+        runs = λ a w l k i. subst (TakesSteps half (rootTerm b) l) (sym (run-fixed b w l y i)) (d .runs (to a) w l k i);
         refuses = λ n w l i. run-fixed b w l y i ∙ d .refuses (λ a. n (from a)) w l i ∙ sym (check-fixed b w y);
       }
 

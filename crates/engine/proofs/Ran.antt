@@ -7,7 +7,7 @@ use mathlib.Core.List.{List, []}
 use native.Mathlib.Omega.{arith}
 use Rattle.calculus.specs.Syntax.{Ty, Term}
 use Rattle.calculus.specs.Typing.{Typed}
-use Rattle.format.specs.Cell.{IsBytes}
+use Rattle.format.specs.Cell.{IsBytes, half}
 use Rattle.format.specs.Book.{rootTerm, sizeLimit, WellFormed}
 use Rattle.answers.specs.Answer.{refused, Result, result}
 use Rattle.answers.specs.Engine.{IsWork}
@@ -94,9 +94,9 @@ module _ {b w v : List ℕ} {l : ℕ} {r : Outcome} (bytes : IsBytes b) where
       same : {x : Result} → Gives v r x → result (answerOf r) v ≡ x
       same h = rw (h .answer, h .left)
 
-      runs : IsWork w → WellFormed b → (A : Ty) → Typed [] (rootTerm b) A → Demands.TakesSteps (rootTerm b) l (result (answerOf r) v)
+      runs : IsWork w → WellFormed b → (A : Ty) → Typed [] (rootTerm b) A → Demands.TakesSteps half (rootTerm b) l (result (answerOf r) v)
       runs k f A t =
-          subst (λ (x : Result). Demands.TakesSteps (rootTerm b) l x) (sym (same g)) (definition-runs b w l bytes k (typed-accepts b (f, (A, t))))
+          subst (λ (x : Result). Demands.TakesSteps half (rootTerm b) l x) (sym (same g)) (definition-runs b w l bytes k (typed-accepts b (f, (A, t))))
 
   pub ran-as : Gives v r (judge b w (reported b l)) → Ran b w v l r
   unfolding run

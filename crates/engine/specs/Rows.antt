@@ -54,7 +54,7 @@ pub data RefusalRow (b w : List ℕ) : ℕ → ℕ → Type 0 where
   field-read : {i : ℕ} → Mistyped b no-field i → cellAt b i .kind ≡ 25 → RefusalRow b w 13 i
   -- "merge neither disjoint nor consistent": kind 22
   merge : {i : ℕ} → Mistyped b conflict i → cellAt b i .kind ≡ 22 → RefusalRow b w 14 i
-  -- "type not below the wanted one": cell j, an annotation, application, function or fixpoint, checks it
+  -- "type not below the wanted one": cell j, an annotation, application, function, fixpoint, sum or choice, checks it
   checked : {i j : ℕ} → Mistyped b mismatch i → Checking b j i → RefusalRow b w 15 i
 
 -- A refusal with number n and cell i, of the book b; the work buffer w as lent and v as left.

@@ -4,6 +4,7 @@ use mathlib.Core.Path.{_≡_}
 use mathlib.Core.List.{List, []}
 use Rattle.calculus.specs.Syntax.{Ty}
 use Rattle.calculus.specs.Typing.{Typed}
+use Rattle.format.specs.Cell.{half}
 use Rattle.format.specs.Book.{WellFormed, rootTerm}
 use Rattle.answers.specs.Answer.{refused, Result, result}
 use Rattle.answers.specs.Engine.{IsWork}
@@ -21,10 +22,10 @@ pub record Ran (b w v : List ℕ) (limit : ℕ) (r : Outcome) : Type 0 where
   -- refused: by the number of a row that meets the book, with the cell that it names
   pub refuses : (n i : ℕ) → answerOf r ≡ refused n i → Refuses b w v n i
   -- demand 2: the run takes the calculus's steps, one by one, up to its value or to the limit that stopped it
-  pub runs : IsWork w → WellFormed b → (A : Ty) → Typed [] (rootTerm b) A → TakesSteps (rootTerm b) limit (result (answerOf r) v)
+  pub runs : IsWork w → WellFormed b → (A : Ty) → Typed [] (rootTerm b) A → TakesSteps half (rootTerm b) limit (result (answerOf r) v)
   -- demand 3, whole, of this book and the engine that the two public calls are: their contracts say that they are the definitions
   pub book : Accepts definition b → Demand3For definition b
   -- and of this very run: y is what demand 2 allows of any run of the book, in whatever work buffer and under any limit; this one and that one
   -- agree, whichever limit is the lower
-  pub agree : IsWork w → WellFormed b → (A : Ty) → Typed [] (rootTerm b) A → (other : ℕ) (y : Result) → TakesSteps (rootTerm b) other y →
+  pub agree : IsWork w → WellFormed b → (A : Ty) → Typed [] (rootTerm b) A → (other : ℕ) (y : Result) → TakesSteps half (rootTerm b) other y →
       Agree limit other (result (answerOf r) v) y × Agree other limit y (result (answerOf r) v)

@@ -6,6 +6,7 @@ use mathlib.Core.List.{List, []}
 use lib.ListN.{length}
 use Rattle.calculus.specs.Syntax.{Ty, size, Term}
 use Rattle.calculus.specs.Typing.{Typed}
+use Rattle.format.specs.Cell.{half}
 use Rattle.format.specs.Book.{WellFormed, rootTerm, rootOf, follow, sizeLimit}
 use Rattle.answers.specs.Answer.{Result, refused, reasonNumber}
 use Rattle.answers.specs.Engine.{IsWork, zeros, workLength}
@@ -82,4 +83,4 @@ pub record SomeRoot (w : List ℕ) (i : ℕ) : Type 0 where
 
 -- The run of the root: the definition's answer and bytes.
 pub record RunsRoot (w v : List ℕ) (i limit : ℕ) (r : Outcome) : Type 0 where
-  pub says : (e : Term) → RootAt w i e → Gives v r (endResult (evaluate sizeLimit limit 0 e))
+  pub says : (e : Term) → RootAt w i e → Gives v r (endResult (evaluate half sizeLimit limit 0 e))

@@ -9,7 +9,7 @@ use Rattle.calculus.proofs.Bools.{by-test}
 use Rattle.format.specs.Cell.{signed, unsigned}
 
 -- What is asked of a stored number, by its half: below half it is itself, from half on it is negative.
-by-half : (P : ℤ → Type 0) (h n : ℕ) → (n < h → P (pos n)) → (h ≤ n → P (negsuc (2 * h - suc n))) → P (signed h n)
+pub by-half : (P : ℤ → Type 0) (h n : ℕ) → (n < h → P (pos n)) → (h ≤ n → P (negsuc (2 * h - suc n))) → P (signed h n)
 unfolding signed
 by-half P h n low high = by-test P (ltb n h) (λ t. low (ltb→lt n h t)) (λ f. high (nltb→le n h (not-T (ltb n h) f)))
 

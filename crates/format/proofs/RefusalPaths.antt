@@ -8,14 +8,15 @@ use native.Mathlib.Omega.{arith}
 use Rattle.calculus.specs.Syntax.{Term}
 use Rattle.calculus.specs.Infer.{Reason, unbound, not-function, no-field, conflict, mismatch, refused, infer}
 use Rattle.calculus.specs.RefusalPaths.{At, here, in-anno, in-left, in-right, in-body, in-first, in-second, in-fix, in-content, in-read}
-use Rattle.calculus.specs.RefusalPaths.{ChecksPart, of-anno, of-argument, of-body, of-fix, NamesPart}
+use Rattle.calculus.specs.RefusalPaths.{in-sum-left, in-sum-right, in-tested, in-zero, in-other}
+use Rattle.calculus.specs.RefusalPaths.{ChecksPart, of-anno, of-argument, of-body, of-fix, of-sum-left, of-sum-right, of-tested, of-zero, of-other, NamesPart}
 use Rattle.calculus.proofs.RefusalPaths.{infer-names}
 use Rattle.format.specs.Table.{Sort, term-sort, Use, refers, Row, table, rowIn, rowOf, useIn}
 use Rattle.format.specs.Cell.{IsBytes, cellAt}
 use Rattle.format.specs.Tree.{Tree, node, fieldTree, cellTree, treeAt}
 use Rattle.format.specs.Terms.{fromTerm}
 use Rattle.format.specs.Book.{count, rootOf, fieldIn, follow, rootTerm, WellFormedCells, WellFormed}
-use Rattle.format.specs.Checking.{Checking, by-anno, by-application, by-function, by-fixpoint, Names}
+use Rattle.format.specs.Checking.{Checking, by-anno, by-application, by-function, by-fixpoint, by-sum-left, by-sum-right, by-tested, by-zero, by-other, Names}
 use Rattle.format.proofs.Unsharing.{fieldTree-lower, treeAt-cell}
 use Rattle.format.proofs.Paths.{leads-at, follow-on}
 use Rattle.format.proofs.Tests.{FieldOk, CellOk, cellFault-says, rootTerm-tree}
@@ -110,14 +111,24 @@ module _ (s : List ℕ) (w : WellFormedCells s) where
   arrives (in-fix {p = p} h) i b t = onward p b (leads s w 0 i 23 0 _ _ _ _ b t refl term-sort refl) (arrives h)
   arrives (in-content {l = l} {p = p} h) i b t = onward p b (leads s w 0 i 24 l _ _ _ _ b t refl term-sort refl) (arrives h)
   arrives (in-read {l = l} {p = p} h) i b t = onward p b (leads s w 0 i 25 l _ _ _ _ b t refl term-sort refl) (arrives h)
+  arrives (in-sum-left {p = p} h) i b t = onward p b (leads s w 0 i 26 0 _ _ _ _ b t refl term-sort refl) (arrives h)
+  arrives (in-sum-right {p = p} h) i b t = onward p b (leads s w 1 i 26 0 _ _ _ _ b t refl term-sort refl) (arrives h)
+  arrives (in-tested {p = p} h) i b t = onward p b (leads s w 0 i 27 0 _ _ _ _ b t refl term-sort refl) (arrives h)
+  arrives (in-zero {p = p} h) i b t = onward p b (leads s w 1 i 27 0 _ _ _ _ b t refl term-sort refl) (arrives h)
+  arrives (in-other {p = p} h) i b t = onward p b (leads s w 2 i 27 0 _ _ _ _ b t refl term-sort refl) (arrives h)
 
-  -- the cell j around a checked part: the part is its field a or b
+  -- the cell j around a checked part: the part is one of its fields
   checks-at : {e f : Term} {n : ℕ} → ChecksPart e n f → (j : ℕ) → j < count s → treeAt s j ≡ fromTerm e → Checking s j (follow s j (n ∷ []))
   unfolding follow fromTerm table rowIn rowOf
   checks-at of-anno j b t = by-anno (kind-is s j 19 _ _ _ _ t) (leads s w 0 j 19 0 _ _ _ _ b t refl term-sort refl .path [])
   checks-at of-argument j b t = by-application (kind-is s j 20 _ _ _ _ t) (leads s w 1 j 20 0 _ _ _ _ b t refl term-sort refl .path [])
   checks-at of-body j b t = by-function (kind-is s j 21 _ _ _ _ t) (leads s w 0 j 21 0 _ _ _ _ b t refl term-sort refl .path [])
   checks-at of-fix j b t = by-fixpoint (kind-is s j 23 _ _ _ _ t) (leads s w 0 j 23 0 _ _ _ _ b t refl term-sort refl .path [])
+  checks-at of-sum-left j b t = by-sum-left (kind-is s j 26 _ _ _ _ t) (leads s w 0 j 26 0 _ _ _ _ b t refl term-sort refl .path [])
+  checks-at of-sum-right j b t = by-sum-right (kind-is s j 26 _ _ _ _ t) (leads s w 1 j 26 0 _ _ _ _ b t refl term-sort refl .path [])
+  checks-at of-tested j b t = by-tested (kind-is s j 27 _ _ _ _ t) (leads s w 0 j 27 0 _ _ _ _ b t refl term-sort refl .path [])
+  checks-at of-zero j b t = by-zero (kind-is s j 27 _ _ _ _ t) (leads s w 1 j 27 0 _ _ _ _ b t refl term-sort refl .path [])
+  checks-at of-other j b t = by-other (kind-is s j 27 _ _ _ _ t) (leads s w 2 j 27 0 _ _ _ _ b t refl term-sort refl .path [])
 
 module _ (s : List ℕ) (w : WellFormedCells s) (i : ℕ) (b : i < count s) (e : Term) (t : treeAt s i ≡ fromTerm e) where
   named-cell : (r : Reason) (p : List ℕ) (f : Term) → At e p f → NamesPart r e p f → Names s r (follow s i p)

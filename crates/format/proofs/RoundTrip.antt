@@ -7,7 +7,7 @@ use mathlib.Core.List.{[]}
 use lib.Dec.{lit<}
 use lib.ListN.{length, length-append}
 use Rattle.calculus.specs.Syntax.{Ty, int, top, arrow, inter, field, size-type}
-use Rattle.calculus.specs.Syntax.{Term, var, lit, unit, anno, app, lam, merge, fix, rcd, proj, size}
+use Rattle.calculus.specs.Syntax.{Term, var, lit, unit, anno, app, lam, merge, fix, rcd, proj, sum, choice, size}
 use Rattle.format.specs.Table.{Sort, type-sort, term-sort, Use, unused, refers, rowOf, rowIn, table}
 use Rattle.format.specs.Cell.{IsBytes, half, unsigned, Cell, cellAt, cellBytes}
 use Rattle.format.specs.Tree.{Tree, raw, cells, treeAt, refer, encode}
@@ -47,6 +47,8 @@ term-good (merge e g) f = cell refl refl (lit< tt) blank (term-good e (f .0)) (t
 term-good (fix e A) f = cell refl refl (lit< tt) blank (term-good e (f .0)) (type-good A (f .1)) nothing
 term-good (rcd l e) f = cell refl refl (lit< tt) (number (f .0)) (term-good e (f .1)) nothing nothing
 term-good (proj l e) f = cell refl refl (lit< tt) (number (f .0)) (term-good e (f .1)) nothing nothing
+term-good (sum e g) f = cell refl refl (lit< tt) blank (term-good e (f .0)) (term-good g (f .1)) nothing
+term-good (choice e g h) f = cell refl refl (lit< tt) blank (term-good e (f .0)) (term-good g (f .1)) (term-good h (f .2))
 
 pub book-length : (t : Tree) → length (book t) ≡ 8 * (cells t + 1)
 unfolding book trailer

@@ -12,7 +12,7 @@ use borrow.Author.Tests.{eqb-true}
 use lib.Dec.{T, ltb, eqb}
 use lib.ListN.{length}
 use Rattle.calculus.specs.Syntax.{Ty, int, top, arrow, inter, field}
-use Rattle.calculus.specs.Syntax.{Term, var, lit, unit, anno, app, lam, merge, fix, rcd, proj, size}
+use Rattle.calculus.specs.Syntax.{Term, var, lit, unit, anno, app, lam, merge, fix, rcd, proj, sum, choice, size}
 use Rattle.calculus.proofs.Bools.{true-says, eqb-says, ltb-says, nltb-says, Test, _and_, passing, equal, less, at-most}
 use Rattle.format.specs.Table.{Sort, type-sort, term-sort, Use, unused, plain, refers, Row, table, rowIn, rowOf}
 pub use Rattle.format.specs.Table.{All}
@@ -255,6 +255,8 @@ rows =
     also (λ p. (fix (p .a .0) (p .b .0), cc, (p .a .2, p .b .2)))
     also (λ p. (rcd (p .label) (p .a .0), cc, (p .name, p .a .2)))
     also (λ p. (proj (p .label) (p .a .0), cc, (p .name, p .a .2)))
+    also (λ p. (sum (p .a .0) (p .b .0), cc, (p .a .2, p .b .2)))
+    also (λ p. (choice (p .a .0) (p .b .0) (p .c .0), cc, (p .a .2, p .b .2, p .c .2)))
     also tt
 
 pair-fits : (s : List ℕ) → IsBytes s → (j : ℕ) → pair s j < 65536

@@ -3,7 +3,7 @@ use Prim.Native.Nat.{_≤_}
 use mathlib.Core.Path.{_≡_, refl, ap, _∙_}
 use native.Mathlib.Omega.{arith}
 use Rattle.calculus.specs.Syntax.{Ty, int, top, arrow, inter, field}
-use Rattle.calculus.specs.Syntax.{Term, var, lit, unit, anno, app, lam, merge, fix, rcd, proj, size, size-type}
+use Rattle.calculus.specs.Syntax.{Term, var, lit, unit, anno, app, lam, merge, fix, rcd, proj, sum, choice, size, size-type}
 use Rattle.format.specs.Cell.{half, signed}
 use Rattle.format.specs.Tree.{cells}
 use Rattle.format.specs.Terms.{fromType, fromTerm, plainOf, toType, toTerm, TermFits}
@@ -29,6 +29,8 @@ term-cells (merge e f) = omega (arith, term-cells e, term-cells f)
 term-cells (fix e A) = omega (arith, term-cells e, type-cells A)
 term-cells (rcd l e) = omega (arith, term-cells e)
 term-cells (proj l e) = omega (arith, term-cells e)
+term-cells (sum e f) = omega (arith, term-cells e, term-cells f)
+term-cells (choice e f g) = omega (arith, term-cells e, term-cells f, term-cells g)
 
 -- there is a last cell
 pub type-positive : (A : Ty) → 1 ≤ cells (fromType A)
@@ -51,6 +53,8 @@ term-positive (merge e f) = omega arith
 term-positive (fix e A) = omega arith
 term-positive (rcd l e) = omega arith
 term-positive (proj l e) = omega arith
+term-positive (sum e f) = omega arith
+term-positive (choice e f g) = omega arith
 
 pub type-back : (A : Ty) → toType (fromType A) ≡ A
 unfolding toType fromType
@@ -72,3 +76,5 @@ term-back (merge e g) f = cc (term-back e (f .0), term-back g (f .1))
 term-back (fix e A) f = cc (term-back e (f .0), type-back A)
 term-back (rcd l e) f = cc (term-back e (f .1))
 term-back (proj l e) f = cc (term-back e (f .1))
+term-back (sum e g) f = cc (term-back e (f .0), term-back g (f .1))
+term-back (choice e g h) f = cc (term-back e (f .0), term-back g (f .1), term-back h (f .2))

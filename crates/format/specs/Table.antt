@@ -1,4 +1,5 @@
--- Document 01, "Bytes of a book": the table of kinds, as data. One row a kind, once for all readers. Assumes nothing.
+-- Document 01, "Bytes of a book": the table of kinds, as data, with document 02's kinds 26 and 27. One row a kind, once for all readers. Assumes
+-- nothing.
 use Prim.Native.Nat.{ℕ, zero, suc}
 use mathlib.Core.Bool.{true, false, cond}
 use mathlib.Core.List.{List, [], _∷_}
@@ -62,6 +63,9 @@ table =
     ∷ row 23 term-sort unused terms types unused
     ∷ row 24 term-sort plain terms unused unused
     ∷ row 25 term-sort plain terms unused unused
+    -- document 02, (ii): sum, choice
+    ∷ row 26 term-sort unused terms terms unused
+    ∷ row 27 term-sort unused terms terms terms
     ∷ []
 
 -- Something of every element of a list: of a row, of a sample.

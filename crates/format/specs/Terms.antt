@@ -4,7 +4,7 @@ use mathlib.Core.List.{[], _∷_}
 use lib.ListN.{getD}
 use lib.Signed.{mag}
 use Rattle.calculus.specs.Syntax.{Ty, int, top, arrow, inter, field}
-use Rattle.calculus.specs.Syntax.{Term, var, lit, unit, anno, app, lam, merge, fix, rcd, proj}
+use Rattle.calculus.specs.Syntax.{Term, var, lit, unit, anno, app, lam, merge, fix, rcd, proj, sum, choice}
 use Rattle.format.specs.Cell.{half, signed, unsigned}
 use Rattle.format.specs.Tree.{Tree, raw, node}
 
@@ -20,7 +20,7 @@ fromType (arrow A B) = node 3 0 (fromType A) (fromType B) absent
 fromType (inter A B) = node 4 0 (fromType A) (fromType B) absent
 fromType (field l A) = node 5 l (fromType A) absent absent
 
--- A term's tree: kinds 16 to 25.
+-- A term's tree: kinds 16 to 27.
 unfoldable pub fromTerm : Term → Tree
 fromTerm (var n) = node 16 0 (raw n) absent absent
 fromTerm (lit z) = node 17 0 absent (raw (unsigned half z % 65536)) (raw (unsigned half z / 65536))
@@ -32,6 +32,8 @@ fromTerm (merge e f) = node 22 0 (fromTerm e) (fromTerm f) absent
 fromTerm (fix e A) = node 23 0 (fromTerm e) (fromType A) absent
 fromTerm (rcd l e) = node 24 l (fromTerm e) absent absent
 fromTerm (proj l e) = node 25 l (fromTerm e) absent absent
+fromTerm (sum e f) = node 26 0 (fromTerm e) (fromTerm f) absent
+fromTerm (choice e f g) = node 27 0 (fromTerm e) (fromTerm f) (fromTerm g)
 
 -- The number of a field that is no reference.
 unfoldable pub plainOf : Tree → ℕ
@@ -46,12 +48,13 @@ toType (node k l a b c) =
     let B = toType b in
     getD (top ∷ int ∷ top ∷ arrow A B ∷ inter A B ∷ field l A ∷ []) k top
 
--- Kinds 16 to 25. Of a tree of another kind nothing is asked.
+-- Kinds 16 to 27. Of a tree of another kind nothing is asked.
 unfoldable pub toTerm : Tree → Term
 toTerm (raw x) = unit
 toTerm (node k l a b c) =
     let e = toTerm a in
     let f = toTerm b in
+    let g = toTerm c in
     getD
     (var (plainOf a)
     ∷ lit (signed half (plainOf b + 65536 * plainOf c))
@@ -63,6 +66,8 @@ toTerm (node k l a b c) =
     ∷ fix e (toType b)
     ∷ rcd l e
     ∷ proj l e
+    ∷ sum e f
+    ∷ choice e f g
     ∷ [])
     (k - 16)
     unit
@@ -87,3 +92,5 @@ TermFits (merge e f) = TermFits e × TermFits f
 TermFits (fix e A) = TermFits e × TypeFits A
 TermFits (rcd l e) = (l < 256) × TermFits e
 TermFits (proj l e) = (l < 256) × TermFits e
+TermFits (sum e f) = TermFits e × TermFits f
+TermFits (choice e f g) = TermFits e × TermFits f × TermFits g

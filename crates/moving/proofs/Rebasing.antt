@@ -79,6 +79,8 @@ of-type k r e = view OfType table every k r e
         also of-term (omega arith)
         also of-term (omega arith)
         also of-term (omega arith)
+        also of-term (omega arith)
+        also of-term (omega arith)
         also Prim.tt
 
 -- ---- the three fields of a cell

@@ -11,7 +11,7 @@ use Rattle.format.specs.Tree.{raw, node}
 use Rattle.format.specs.Terms.{fromType, fromTerm}
 use Rattle.format.proofs.Trees.{term-positive}
 use Rattle.cells.proofs.Held.{held-within, unit-at}
-use Rattle.emission.specs.Emits.{Emits}
+use Rattle.emission.specs.Emits.{Space, Emits}
 use Rattle.emission.specs.Copies.{StartReady, StartsAt, EmitsEnd}
 use Rattle.emission.specs.declared.Emitted.{Emitted}
 use Rattle.emission.proofs.Chain.{of-none, of-type, of-term, Each, Chain}
@@ -23,6 +23,17 @@ use Rattle.typed_reduction.specs.Casting.{CastReady, EmitsCast}
 use Rattle.reduction.specs.Steps.{Substitutes, casts, stands, SubstituteReady, EmitsSubstituted, InstanceReady, EmitsInstance, ContractReady, ContractAt, EmitsContractum}
 use Rattle.reduction.specs.declared.Source.{Source}
 use Rattle.reduction.proofs.Nexts.{fix-instance, anno-redex, Arguments, app-redex, fix-redex, last-kind, unit-applies, Applied, applied}
+
+-- ---- a term, annotated
+
+pub anno-tree : (e : Term) (A : Ty) → fromTerm (anno e A) ≡ node 19 0 (fromTerm e) (fromType A) (raw 0)
+unfolding fromTerm
+anno-tree e A = refl
+
+-- W is all that the cells may be said to hold
+abbrev pub anno-chain : {W : Type 0} {d : List ℕ} {m : ℕ} (e : W → Term) (A : W → Ty) → Space d m → W → Chain W (λ w. fromTerm (anno (e w) (A w))) d m
+anno-chain e A h own =
+    record { space = h; own = own; kind = 19; label = 0; a = of-term e; b = of-type A; c = of-none; is = λ w. anno-tree (e w) (A w) }
 
 -- ---- `emit_instance`
 
@@ -42,23 +53,12 @@ pub instance : {s d o : List ℕ} {i a m : ℕ} {p : Source} {r : Emitted}
     → Each {W = Instances s i a p} (λ w. fromTerm (anno (substitute 0 (w .1) (w .0)) (w .2))) d o m r → EmitsInstance s d o i a m p r
 instance q = record { says = λ e x A h v k. q (e, x, A, h, v, k) }
 
-pub anno-tree : (e : Term) (A : Ty) → fromTerm (anno e A) ≡ node 19 0 (fromTerm e) (fromType A) (raw 0)
-unfolding fromTerm
-anno-tree e A = refl
-
 module _ {s d : List ℕ} {i a m : ℕ} {p : Source} (o : InstanceReady s d i a m p) where
   abbrev pub instance-chain : Chain (Instances s i a p) (λ w. fromTerm (anno (substitute 0 (w .1) (w .0)) (w .2))) d m
   instance-chain =
-      record {
-        space = o .body .source .space;
-        own = (o .body .body, o .body .source .substituted, o .type, o .body .holds, o .body .source .substitutes, o .holds);
-        kind = 19;
-        label = 0;
-        a = of-term (λ w. substitute 0 (w .1) (w .0));
-        b = of-type (λ w. w .2);
-        c = of-none;
-        is = λ w. anno-tree (substitute 0 (w .1) (w .0)) (w .2);
-      }
+      let b = o .body in
+      anno-chain (λ w. substitute 0 (w .1) (w .0)) (λ w. w .2) (b .source .space)
+      (b .body, b .source .substituted, o .type, b .holds, b .source .substitutes, o .holds)
 
   pub body-each : {f : List ℕ} {r : Emitted} → EmitsSubstituted s d f i 0 m p r → Each (instance-chain .a .tree) d f m r
   body-each q w = q .says (w .0) (w .1) (w .3) (w .4)
@@ -193,5 +193,5 @@ module _ {s d : List ℕ} {i m : ℕ} {t : Cell} (c : t ≡ cellAt s i) (r : Con
   pub at-kind : {k : ℕ} → t .kind ≡ k → ContractAt s d i m k
   at-kind e = record { ready = r; kind = rw (← c) e }
 
-  pub at-last : (t .kind ≡ 19 → ⊥) → (t .kind ≡ 20 → ⊥) → ContractAt s d i m 23
-  at-last n o = record { ready = r; kind = last-kind (r .redex) (rw c at n) (rw c at o) }
+  pub at-last : (t .kind ≡ 19 → ⊥) → (t .kind ≡ 20 → ⊥) → (t .kind ≡ 27 → ⊥) → ContractAt s d i m 23
+  at-last n o q = record { ready = r; kind = last-kind (r .redex) (rw c at n) (rw c at o) (rw c at q) }

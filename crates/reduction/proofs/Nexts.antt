@@ -7,10 +7,11 @@ use mathlib.Core.Bool.{true}
 use mathlib.Core.Option.{Option, none, some, Option·map, Option·some-injective, Option·none-ne-some}
 use mathlib.Core.List.{List}
 use lib.ListN.{length}
-use Rattle.calculus.specs.Syntax.{Ty, Term, unit, anno, app, fix, substitute}
+use Rattle.calculus.specs.Syntax.{Ty, int, Term, unit, anno, app, fix, choice, substitute}
+use Rattle.calculus.specs.Numbers.{chosen}
 use Rattle.calculus.specs.Decide.{value?}
-use Rattle.calculus.specs.Evaluate.{cast, apply, next}
-use Rattle.format.specs.Cell.{Cell, cellAt}
+use Rattle.calculus.specs.Evaluate.{cast, apply, numberOf, choose, next}
+use Rattle.format.specs.Cell.{Cell, cellAt, half}
 use Rattle.format.specs.Tree.{kindIn}
 use Rattle.format.specs.Terms.{fromTerm}
 use Rattle.cells.specs.Held.{HoldsTerm}
@@ -19,7 +20,7 @@ use Rattle.cells.proofs.Forms.{form-else}
 use Rattle.emission.specs.Runs.{RunsType, RunsTerm}
 use Rattle.emission.proofs.Runs.{holds-term}
 use Rattle.emission.proofs.RunParts.{lam-at}
-use Rattle.reduction.specs.Steps.{Redex, at-anno, at-app, at-fix}
+use Rattle.reduction.specs.Steps.{Redex, at-anno, at-app, at-choice, at-fix}
 
 -- f of an answer
 record Within (f : Term → Term) (o : Option Term) (g : Term) : Type 0 where
@@ -35,15 +36,19 @@ no-answer : {A : Type 0} {g : Term} → _≡_ {A = Option Term} none (some g) �
 no-answer {g = g} h = absurd (Option·none-ne-some g h)
 
 module _ {g : Term} where
-  pub anno-reads : (e : Term) (A : Ty) → value? e ≡ true → next (anno e A) ≡ some g → cast A e ≡ some g
+  pub anno-reads : (e : Term) (A : Ty) → value? e ≡ true → next half (anno e A) ≡ some g → cast A e ≡ some g
   unfolding next
   anno-reads e A v h = rw (v, next) at h
 
-  app-applies : (e f : Term) → value? e ≡ true → value? f ≡ true → next (app e f) ≡ some g → apply e f ≡ some g
+  app-applies : (e f : Term) → value? e ≡ true → value? f ≡ true → next half (app e f) ≡ some g → apply e f ≡ some g
   unfolding next
   app-applies e f v w h = rw (v, w, next) at h
 
-  pub fix-instance : (e : Term) (A : Ty) → next (fix e A) ≡ some g → g ≡ anno (substitute 0 (fix e A) e) A
+  choice-chooses : (e a b : Term) → value? e ≡ true → next half (choice e a b) ≡ some g → choose (cast int e) a b ≡ some g
+  unfolding next
+  choice-chooses e a b v h = rw (v, next) at h
+
+  pub fix-instance : (e : Term) (A : Ty) → next half (fix e A) ≡ some g → g ≡ anno (substitute 0 (fix e A) e) A
   unfolding next
   fix-instance e A h = sym (Option·some-injective _ g h)
 
@@ -52,6 +57,7 @@ module _ {g : Term} where
 pub redex-within : {s : List ℕ} {i : ℕ} {e : Term} → Redex s i e → 8 * i + 8 ≤ length s
 redex-within (at-anno p _ _ _ _ _) = p .within
 redex-within (at-app p _ _ _ _ _ _) = p .within
+redex-within (at-choice p _ _ _ _ _ _ _) = p .within
 redex-within (at-fix r) = held-within (holds-term r)
 
 fix-kind : {s : List ℕ} {i : ℕ} {e : Term} {A : Ty} → HoldsTerm s i (fix e A) → cellAt s i .kind ≡ 23
@@ -66,10 +72,11 @@ pub record Read (s : List ℕ) (i : ℕ) (g : Term) : Type 0 where
   pub holds-type : RunsType s (cellAt s i .b) type
   pub casts : cast type value ≡ some g
 
-pub anno-redex : {s : List ℕ} {i : ℕ} {e g : Term} → Redex s i e → next e ≡ some g → cellAt s i .kind ≡ 19 → Read s i g
+pub anno-redex : {s : List ℕ} {i : ℕ} {e g : Term} → Redex s i e → next half e ≡ some g → cellAt s i .kind ≡ 19 → Read s i g
 anno-redex (at-anno {v = v} {A = A} p _ _ d h k) n _ =
     record { value = v; type = A; holds-value = rw (p .is) h; holds-type = rw (p .is) k; casts = anno-reads v A d n }
 anno-redex (at-app p _ _ _ _ _ _) n o = absurd (omega (arith, kind-of p, o))
+anno-redex (at-choice p _ _ _ _ _ _ _) n o = absurd (omega (arith, kind-of p, o))
 anno-redex (at-fix r) n o = absurd (omega (arith, fix-kind (holds-term r), o))
 
 -- a value applied to a value
@@ -82,22 +89,57 @@ pub record Arguments (s : List ℕ) (i : ℕ) (g : Term) : Type 0 where
   pub holds-second : RunsTerm s (cellAt s i .b) second
   pub applies : apply first second ≡ some g
 
-pub app-redex : {s : List ℕ} {i : ℕ} {e g : Term} → Redex s i e → next e ≡ some g → cellAt s i .kind ≡ 20 → Arguments s i g
+pub app-redex : {s : List ℕ} {i : ℕ} {e g : Term} → Redex s i e → next half e ≡ some g → cellAt s i .kind ≡ 20 → Arguments s i g
 app-redex (at-anno p _ _ _ _ _) n o = absurd (omega (arith, kind-of p, o))
 app-redex (at-app {v = v} {u = u} p l m c d h k) n _ =
     record { first = v; second = u; lower = rw (p .is) l; second-lower = rw (p .is) m; holds-first = rw (p .is) h; holds-second = rw (p .is) k; applies = app-applies v u c d n }
+app-redex (at-choice p _ _ _ _ _ _ _) n o = absurd (omega (arith, kind-of p, o))
 app-redex (at-fix r) n o = absurd (omega (arith, fix-kind (holds-term r), o))
+
+-- a choice by a value, which is read under Int
+pub record Choosing (s : List ℕ) (i : ℕ) (g : Term) : Type 0 where
+  pub tested : Term
+  pub zero : Term
+  pub other : Term
+  pub holds-tested : RunsTerm s (cellAt s i .a) tested
+  pub holds-zero : RunsTerm s (cellAt s i .b) zero
+  pub holds-other : RunsTerm s (cellAt s i .c) other
+  pub reduct : Term
+  pub casts : cast int tested ≡ some reduct
+  pub is : g ≡ anno (chosen (numberOf reduct) zero other) int
+
+pub choice-redex : {s : List ℕ} {i : ℕ} {e g : Term} → Redex s i e → next half e ≡ some g → cellAt s i .kind ≡ 27 → Choosing s i g
+unfolding choose
+choice-redex (at-anno p _ _ _ _ _) n o = absurd (omega (arith, kind-of p, o))
+choice-redex (at-app p _ _ _ _ _ _) n o = absurd (omega (arith, kind-of p, o))
+choice-redex (at-choice {v = v} {e = e} {f = f} p _ _ _ d h k m) n _ =
+    let a = within-some (λ x. anno (chosen (numberOf x) e f) int) (cast int v) (choice-chooses v e f d n) in
+    record {
+      tested = v;
+      zero = e;
+      other = f;
+      holds-tested = rw (p .is) h;
+      holds-zero = rw (p .is) k;
+      holds-other = rw (p .is) m;
+      reduct = a .to;
+      casts = a .answers;
+      is = a .is;
+    }
+choice-redex (at-fix r) n o = absurd (omega (arith, fix-kind (holds-term r), o))
 
 -- a fixpoint
 pub fix-redex : {s : List ℕ} {i : ℕ} {e : Term} → Redex s i e → cellAt s i .kind ≡ 23 → RunsTerm s i e
 fix-redex (at-anno p _ _ _ _ _) o = absurd (omega (arith, kind-of p, o))
 fix-redex (at-app p _ _ _ _ _ _) o = absurd (omega (arith, kind-of p, o))
+fix-redex (at-choice p _ _ _ _ _ _ _) o = absurd (omega (arith, kind-of p, o))
 fix-redex (at-fix r) _ = r
 
-pub last-kind : {s : List ℕ} {i : ℕ} {e : Term} → Redex s i e → (cellAt s i .kind ≡ 19 → ⊥) → (cellAt s i .kind ≡ 20 → ⊥) → cellAt s i .kind ≡ 23
-last-kind (at-anno p _ _ _ _ _) n m = absurd (n (kind-of p))
-last-kind (at-app p _ _ _ _ _ _) n m = absurd (m (kind-of p))
-last-kind (at-fix r) n m = fix-kind (holds-term r)
+pub last-kind : {s : List ℕ} {i : ℕ} {e : Term} → Redex s i e → (cellAt s i .kind ≡ 19 → ⊥) → (cellAt s i .kind ≡ 20 → ⊥) → (cellAt s i .kind ≡ 27 → ⊥)
+    → cellAt s i .kind ≡ 23
+last-kind (at-anno p _ _ _ _ _) n m o = absurd (n (kind-of p))
+last-kind (at-app p _ _ _ _ _ _) n m o = absurd (m (kind-of p))
+last-kind (at-choice p _ _ _ _ _ _ _) n m o = absurd (o (kind-of p))
+last-kind (at-fix r) n m o = fix-kind (holds-term r)
 
 -- ---- a value applied to a value, by the cell that holds the value
 

@@ -7,7 +7,7 @@ use mathlib.Core.Bool.{true}
 use mathlib.Core.Option.{Option, none, some}
 use mathlib.Core.List.{List}
 use borrow.Author.Tests.{eq-eqb, ne-eqb}
-use Rattle.calculus.specs.Syntax.{Ty, Term, var, lit, unit, anno, app, lam, merge, fix, rcd, proj, substitute}
+use Rattle.calculus.specs.Syntax.{Ty, Term, var, lit, unit, anno, app, lam, merge, fix, rcd, proj, sum, choice, substitute}
 use Rattle.format.specs.Table.{Sort, type-sort, term-sort, Use, unused, plain, refers, Row, table, rowIn, rowOf, inside}
 use Rattle.format.specs.Cell.{IsBytes, Cell, cellAt}
 use Rattle.format.specs.Tree.{Tree, raw, node, kindIn}
@@ -175,6 +175,8 @@ substitute-law k x (merge e g) f h = cc (term-back e (f .0), term-back g (f .1))
 substitute-law k x (fix e A) f h = cc (term-back e (f .0))
 substitute-law k x (rcd l e) f h = cc (term-back e (f .1))
 substitute-law k x (proj l e) f h = cc (term-back e (f .1))
+substitute-law k x (sum e g) f h = cc (term-back e (f .0), term-back g (f .1))
+substitute-law k x (choice e g d) f h = cc (term-back e (f .0), term-back g (f .1), term-back d (f .2))
 
 -- a field that refers to a run is the tree of a type or a term
 run-fields : {s : List ℕ} {v n z : ℕ} {o : Sort} {f : Tree} → IsBytes s → Run true s v (refers o) n f z → Decodes o f

@@ -4,10 +4,10 @@ use mathlib.Core.Path.{_≡_}
 use mathlib.Core.Bool.{true}
 use mathlib.Core.Option.{some}
 use mathlib.Core.List.{List}
-use Rattle.calculus.specs.Syntax.{Ty, Term, anno, app, fix, substitute}
+use Rattle.calculus.specs.Syntax.{Ty, int, Term, anno, app, fix, choice, substitute}
 use Rattle.calculus.specs.Decide.{value?}
 use Rattle.calculus.specs.Evaluate.{cast, next}
-use Rattle.format.specs.Cell.{cellAt}
+use Rattle.format.specs.Cell.{half, cellAt}
 use Rattle.format.specs.Table.{Use, unused, plain, refers, type-sort, term-sort}
 use Rattle.format.specs.Tree.{Tree, raw}
 use Rattle.format.specs.Terms.{fromType, fromTerm}
@@ -89,11 +89,23 @@ pub record InstanceReady (s d : List ℕ) (i a m : ℕ) (p : Source) : Type 0 wh
 pub record EmitsInstance (s d t : List ℕ) (i a m : ℕ) (p : Source) (r : Emitted) : Type 0 where
   pub says : (e x : Term) (A : Ty) → RunsTerm s i e → Substitutes s p x → RunsType s a A → Emits d t m r (fromTerm (anno (substitute 0 x e) A))
 
--- A redex at i: an annotated value, a value applied to a value, each part the end of a run; or a fixpoint, the end of a run itself.
+-- A term at i that is to be annotated Int, and a buffer for it.
+pub record AnnotateReady (s d : List ℕ) (i m : ℕ) : Type 0 where
+  pub space : Space d m
+  pub term : Term
+  pub holds : RunsTerm s i term
+
+-- The term, annotated Int, is emitted.
+pub record EmitsAnnotated (s d t : List ℕ) (i m : ℕ) (r : Emitted) : Type 0 where
+  pub says : (e : Term) → RunsTerm s i e → Emits d t m r (fromTerm (anno e int))
+
+-- A redex at i: an annotated value, a value applied to a value, a choice by a value, each part the end of a run; or a fixpoint, the end of a run itself.
 pub data Redex (s : List ℕ) (i : ℕ) : Term → Type 0 where
   at-anno : {l a b c : ℕ} {v : Term} {A : Ty} → IsCell s i 19 l a b c → a < i → b < i → value? v ≡ true → RunsTerm s a v → RunsType s b A → Redex s i (anno v A)
   at-app : {l a b c : ℕ} {v u : Term} → IsCell s i 20 l a b c → a < i → b < i → value? v ≡ true → value? u ≡ true → RunsTerm s a v → RunsTerm s b u →
       Redex s i (app v u)
+  at-choice : {l a b c : ℕ} {v e f : Term} → IsCell s i 27 l a b c → a < i → b < i → c < i → value? v ≡ true → RunsTerm s a v → RunsTerm s b e →
+      RunsTerm s c f → Redex s i (choice v e f)
   at-fix : {e : Term} {A : Ty} → RunsTerm s i (fix e A) → Redex s i (fix e A)
 
 -- A redex that has a successor, and a buffer for it.
@@ -103,7 +115,7 @@ pub record ContractReady (s d : List ℕ) (i m : ℕ) : Type 0 where
   pub term : Term
   pub redex : Redex s i term
   pub successor : Term
-  pub steps : next term ≡ some successor
+  pub steps : next half term ≡ some successor
 
 -- The same, at a cell of kind k.
 pub record ContractAt (s d : List ℕ) (i m k : ℕ) : Type 0 where
@@ -112,4 +124,4 @@ pub record ContractAt (s d : List ℕ) (i m k : ℕ) : Type 0 where
 
 -- The successor is emitted.
 pub record EmitsContractum (s d t : List ℕ) (i m : ℕ) (r : Emitted) : Type 0 where
-  pub says : (e f : Term) → Redex s i e → next e ≡ some f → Emits d t m r (fromTerm f)
+  pub says : (e f : Term) → Redex s i e → next half e ≡ some f → Emits d t m r (fromTerm f)

@@ -12,12 +12,13 @@ use emission::finish_row;
 use emission::finish_top;
 use emission::start_of;
 use typed_reduction::emit_value_cast;
+use typed_reduction::read_number;
 ghost use mathlib.Core.Path.{_≡_};
 ghost use Prim.Native.Nat.{_<_};
 ghost use Rattle.emission.specs.Emits.{emittedOf};
 ghost use Rattle.reduction.specs.Steps.{SourceLow, sourceOf, SourceReady, EmitsSource};
 ghost use Rattle.reduction.specs.Steps.{FieldSubstituteReady, EmitsSubstitutedField, SubstituteReady, VariableReady, EmitsSubstituted, InstanceReady, EmitsInstance};
-ghost use Rattle.reduction.specs.Steps.{ContractReady, ContractAt, EmitsContractum};
+ghost use Rattle.reduction.specs.Steps.{AnnotateReady, EmitsAnnotated, ContractReady, ContractAt, EmitsContractum};
 
 // What is substituted for a variable. Reading is 1: the reading of the value at term under the type at under; 0: the term as it stands, the
 // run of cells from under to term.
@@ -184,7 +185,55 @@ fn next_fix(s: &[u8], d: &mut [u8], i: usize, m: usize) -> Emitted
     emit_instance(s, d, t.a, itself, t.b, m)
 }
 
-// Emits what the redex at i becomes: an annotated value, a value applied to a value, a fixpoint.
+// The term at i, annotated Int.
+fn emit_annotated(s: &[u8], d: &mut [u8], i: usize, m: usize) -> Emitted
+    requires { ⌜ AnnotateReady (now s) (now d) i m ⌝ }
+    ensures { λ r. ⌜ EmitsAnnotated (now (s .entry)) (now (d .entry)) (now (d .exit)) i m r ⌝ }
+{
+    let Emitted::Next(x) = emit_run_to(s, d, i, m) else {
+        return Emitted::Full;
+    };
+    let integer = finish(
+        d,
+        x,
+        Cell {
+            kind: 1,
+            label: 0,
+            a: 0,
+            b: 0,
+            c: 0,
+        },
+    );
+    let Emitted::Next(y) = integer else {
+        return Emitted::Full;
+    };
+    finish(
+        d,
+        y,
+        Cell {
+            kind: 19,
+            label: 0,
+            a: x - 1,
+            b: y - 1,
+            c: 0,
+        },
+    )
+}
+
+// A choice whose tested part is a value: b for zero, c for anything else, annotated Int.
+fn next_choice(s: &[u8], d: &mut [u8], i: usize, m: usize) -> Emitted
+    requires { ⌜ ContractAt (now s) (now d) i m 27 ⌝ }
+    ensures { λ r. ⌜ EmitsContractum (now (s .entry)) (now (d .entry)) (now (d .exit)) i m r ⌝ }
+{
+    let t = read_cell(s, i);
+    let tested = read_number(s, t.a);
+    if tested == 0 {
+        return emit_annotated(s, d, t.b, m);
+    }
+    emit_annotated(s, d, t.c, m)
+}
+
+// Emits what the redex at i becomes: an annotated value, a value applied to a value, a choice by a value, a fixpoint.
 pub fn emit_contractum(s: &[u8], d: &mut [u8], i: usize, m: usize) -> Emitted
     requires { ⌜ ContractReady (now s) (now d) i m ⌝ }
     ensures { λ r. ⌜ EmitsContractum (now (s .entry)) (now (d .entry)) (now (d .exit)) i m r ⌝ }
@@ -194,6 +243,7 @@ pub fn emit_contractum(s: &[u8], d: &mut [u8], i: usize, m: usize) -> Emitted
     match kind {
         19 => emit_value_cast(s, d, t.a, t.b, m),
         20 => next_apply(s, d, i, m),
+        27 => next_choice(s, d, i, m),
         _ => next_fix(s, d, i, m),
     }
 }

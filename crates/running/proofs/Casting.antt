@@ -15,7 +15,7 @@ use Rattle.calculus.specs.Evaluate.{next, cast, firstPart, castInt, castArrow}
 use Rattle.calculus.proofs.Decisions.{topLike?-says, not-topLike}
 use Rattle.calculus.proofs.Tests.{cast-top, cast-arrow}
 use Rattle.format.specs.Table.{type-sort, term-sort, refers, rowOf, rowIn, table}
-use Rattle.format.specs.Cell.{Cell, cellAt, cellBytes}
+use Rattle.format.specs.Cell.{Cell, cellAt, cellBytes, half}
 use Rattle.format.specs.Terms.{fromType, fromTerm}
 use Rattle.cells.specs.Held.{HoldsType}
 use Rattle.cells.proofs.Held.{top-like, not-top-like, int-at, arrow-at}
@@ -64,15 +64,15 @@ module _ {w : List ℕ} (p : Place) (t : Cell) (d : RedexAt w p t 19) where
   pub type-in : 8 * t .b + 8 ≤ length w
   type-in = run-within (annotated (d .ready .standing) .under)
 
-  cast-is : {e : Term} (s : Standing w (Redex p) e) {h : Term} → next (s .focus) ≡ some h → cast (annotated s .type) (annotated s .value) ≡ some h
-  cast-is s n = let q = annotated s in anno-reads (q .value) (q .type) (q .final) (sym (ap next (q .is)) ∙ n)
+  cast-is : {e : Term} (s : Standing w (Redex p) e) {h : Term} → next half (s .focus) ≡ some h → cast (annotated s .type) (annotated s .value) ≡ some h
+  cast-is s n = let q = annotated s in anno-reads (q .value) (q .type) (q .final) (sym (ap (next half) (q .is)) ∙ n)
 
 -- ---- the top value
 
 pub casts-top : {w v : List ℕ} {p : Place} {t y : Cell} {r : Focus} → TopAt w p t y → BecomesTop w v p r → Becomes w v p r
 casts-top {w} {p = p} {t} {y} d o = o .says becomes-top
   where
-    becomes-top : (e : Term) (s : Standing w (Redex p) e) (h : Term) → next (s .focus) ≡ some h → unit ≡ h
+    becomes-top : (e : Term) (s : Standing w (Redex p) e) (h : Term) → next half (s .focus) ≡ some h → unit ≡ h
     becomes-top e s h n =
         let q = annotated p t (d .at) s in
         let u = held-type p t (d .at) s in
@@ -89,12 +89,12 @@ number-read h (k-lit {z}) c = Option·some-injective (lit z) h c
 pub casts-number : {w : List ℕ} {p : Place} {t v y : Cell} → RedexAt w p t 19 → v ≡ cellAt w (t .a) → y ≡ cellAt w (t .b) → v .kind ≡ 17 → y .kind ≡ 1 →
     Becomes w w p (doneAt p (p .left))
 unfolding size
-casts-number {w} {p} {t} d i o x y = becomes p (unchanged p) (omega (arith, r .apart, r .right)) content
+casts-number {w} {p} {t} d i o x y = becomes p (unchanged p) (omega (arith, r .apart, r .right)) (λ e s _. content e s)
   where
     r : RedexRange p
     r = redex-range (d .ready .standing .at)
 
-    content : (e : Term) (s : Standing w (Redex p) e) (h : Term) → next (s .focus) ≡ some h → Reduct w (p .start) (p .left) (size (s .focus)) h
+    content : (e : Term) (s : Standing w (Redex p) e) (h : Term) → next half (s .focus) ≡ some h → Reduct w (p .start) (p .left) (size (s .focus)) h
     content e s h n =
         let q = annotated p t d s in
         let k = term-kind (q .value) (q .run) (kind-at i x) in
@@ -250,7 +250,7 @@ module _ {w : List ℕ} (p : Place) (t v y : Cell) (d : FunctionAt w p t v y) wh
         refl
         (refl, tt)
 
-    read-is : {e h : Term} (s : Standing w (Redex p) e) (q : Retyped w p (s .focus) v y) → next (s .focus) ≡ some h → lam (q .body) (q .input) (q .second) ≡ h
+    read-is : {e h : Term} (s : Standing w (Redex p) e) (q : Retyped w p (s .focus) v y) → next half (s .focus) ≡ some h → lam (q .body) (q .input) (q .second) ≡ h
     unfolding topLike? value?
     read-is {e} {h} s q n =
         let a = annotated p t (d .at) s in
@@ -264,9 +264,9 @@ module _ {w : List ℕ} (p : Place) (t v y : Cell) (d : FunctionAt w p t v y) wh
 
     pub retypes : {left : ℕ} → left ≡ v .b + 1 + (y .b - y .a) + 1 → Becomes w z p (doneAt p left)
     unfolding size size-type value?
-    retypes i = subst (λ (n : ℕ). Becomes w z p (doneAt p n)) (sym i) (becomes p kept (omega (arith, places)) content)
+    retypes i = subst (λ (n : ℕ). Becomes w z p (doneAt p n)) (sym i) (becomes p kept (omega (arith, places)) (λ e s _. content e s))
       where
-        content : (e : Term) (s : Standing w (Redex p) e) (h : Term) → next (s .focus) ≡ some h → Reduct z (p .start) (v .b + 1 + (y .b - y .a) + 1) (size (s .focus)) h
+        content : (e : Term) (s : Standing w (Redex p) e) (h : Term) → next half (s .focus) ≡ some h → Reduct z (p .start) (v .b + 1 + (y .b - y .a) + 1) (size (s .focus)) h
         content e s h n =
             let q = retyped s in
             reduct-of (q .is) (read-is s q n) (record { final = refl; run = at-run refl (omega arith) (omega arith) (retyped-run s q); small = omega arith })

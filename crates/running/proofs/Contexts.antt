@@ -3,12 +3,14 @@ use mathlib.Core.Path.{_≡_, refl, sym, ap, _∙_}
 use mathlib.Core.Bool.{false}
 use mathlib.Core.Option.{Option, none, some, Option·map, Option·some-injective, Option·none-ne-some}
 use mathlib.Core.List.{List, [], _∷_}
-use Rattle.calculus.specs.Syntax.{Term, rcd}
+use Rattle.calculus.specs.Syntax.{Term}
 use Rattle.calculus.specs.Decide.{value?}
 use Rattle.calculus.specs.Evaluate.{next}
+use Rattle.format.specs.Cell.{half}
 use Rattle.format.specs.Terms.{fromTerm}
 use Rattle.running.specs.Waiting.{plug, fill}
-use Rattle.running.specs.Contexts.{Around, anno-of, app-left, app-right, merge-left, merge-right, rcd-of, proj-of, plugTerm, whole, Proper, AllProper, p-more, frame, frames}
+use Rattle.running.specs.Contexts.{Around, anno-of, app-left, app-right, merge-left, merge-right, rcd-of, proj-of, sum-left, sum-right, choice-of}
+use Rattle.running.specs.Contexts.{plugTerm, whole, Proper, AllProper, p-more, frame, frames}
 
 stays : (f : Around) (e : Term) → Proper f → value? e ≡ false → value? (plugTerm f e) ≡ false
 unfolding plugTerm value?
@@ -19,56 +21,59 @@ stays (merge-left f) e p h = rw h
 stays (merge-right v) e p h = rw (p, h)
 stays (rcd-of l) e p h = h
 stays (proj-of l) e p h = refl
+stays (sum-left f) e p h = refl
+stays (sum-right v) e p h = refl
+stays (choice-of f g) e p h = refl
 
-steps : (f : Around) (e x : Term) → Proper f → value? e ≡ false → next e ≡ some x → next (plugTerm f e) ≡ some (plugTerm f x)
+-- the step of a term around e, if any, is that of e
+around-steps : (f : Around) (e : Term) → Proper f → value? e ≡ false → next half (plugTerm f e) ≡ Option·map (plugTerm f) (next half e)
 unfolding plugTerm next
-steps (anno-of A) e x p h n = rw (h, next, n) refl
-steps (app-left f) e x p h n = rw (h, next, n) refl
-steps (app-right v) e x p h n = rw (p, next, h, n) refl
-steps (merge-left f) e x p h n = rw (h, next, n) refl
-steps (merge-right v) e x p h n = rw (p, next, n) refl
-steps (rcd-of l) e x p h n = ap (Option·map (rcd l)) n
-steps (proj-of l) e x p h n = rw (h, next, n) refl
+around-steps (anno-of A) e p h = rw (h, next) refl
+around-steps (app-left f) e p h = rw (h, next) refl
+around-steps (app-right v) e p h = rw (p, next, h) refl
+around-steps (merge-left f) e p h = rw (h, next) refl
+around-steps (merge-right v) e p h = rw (p, next) refl
+around-steps (rcd-of l) e p h = refl
+around-steps (proj-of l) e p h = rw (h, next) refl
+around-steps (sum-left f) e p h = rw (h, next) refl
+around-steps (sum-right v) e p h = rw (p, next, h) refl
+around-steps (choice-of f g) e p h = rw (h, next) refl
 
 pub no-value : (k : List Around) (e : Term) → AllProper k → value? e ≡ false → value? (whole k e) ≡ false
 unfolding whole
 no-value [] e p h = h
 no-value (f ∷ k) e (p-more p q) h = no-value k (plugTerm f e) q (stays f e p h)
 
-pub next-whole : (k : List Around) (e x : Term) → AllProper k → value? e ≡ false → next e ≡ some x → next (whole k e) ≡ some (whole k x)
+-- of the whole too
+whole-steps : (k : List Around) (e : Term) → AllProper k → value? e ≡ false → next half (whole k e) ≡ Option·map (whole k) (next half e)
 unfolding whole
-next-whole [] e x p h n = n
-next-whole (f ∷ k) e x (p-more p q) h n = next-whole k (plugTerm f e) (plugTerm f x) q (stays f e p h) (steps f e x p h n)
+whole-steps [] e p h = go (next half e)
+  where
+    go : (o : Option Term) → o ≡ Option·map (whole []) o
+    go none = refl
+    go (some x) = refl
+whole-steps (f ∷ k) e (p-more p q) h =
+    whole-steps k (plugTerm f e) q (stays f e p h) ∙ ap (Option·map (whole k)) (around-steps f e p h) ∙ go (next half e)
+  where
+    go : (o : Option Term) → Option·map (whole k) (Option·map (plugTerm f) o) ≡ Option·map (whole (f ∷ k)) o
+    go none = refl
+    go (some x) = refl
 
-stuck : (f : Around) (e : Term) → Proper f → value? e ≡ false → next e ≡ none → next (plugTerm f e) ≡ none
-unfolding plugTerm next
-stuck (anno-of A) e p h n = rw (h, next, n) refl
-stuck (app-left f) e p h n = rw (h, next, n) refl
-stuck (app-right v) e p h n = rw (p, next, h, n) refl
-stuck (merge-left f) e p h n = rw (h, next, n) refl
-stuck (merge-right v) e p h n = rw (p, next, n) refl
-stuck (rcd-of l) e p h n = ap (Option·map (rcd l)) n
-stuck (proj-of l) e p h n = rw (h, next, n) refl
-
-next-none : (k : List Around) (e : Term) → AllProper k → value? e ≡ false → next e ≡ none → next (whole k e) ≡ none
-unfolding whole
-next-none [] e p h n = n
-next-none (f ∷ k) e (p-more p q) h n = next-none k (plugTerm f e) q (stays f e p h) (stuck f e p h n)
+pub next-whole : (k : List Around) (e x : Term) → AllProper k → value? e ≡ false → next half e ≡ some x → next half (whole k e) ≡ some (whole k x)
+next-whole k e x p h n = whole-steps k e p h ∙ ap (Option·map (whole k)) n
 
 -- What the whole steps to is what the focus steps to, in its place.
 pub record Inside (k : List Around) (e g : Term) : Type 0 where
   pub to : Term
-  pub steps : next e ≡ some to
+  pub steps : next half e ≡ some to
   pub is : g ≡ whole k to
 
-pub next-inside : (k : List Around) (e g : Term) → AllProper k → value? e ≡ false → next (whole k e) ≡ some g → Inside k e g
-next-inside k e g p h n = go (next e) refl
+pub next-inside : (k : List Around) (e g : Term) → AllProper k → value? e ≡ false → next half (whole k e) ≡ some g → Inside k e g
+next-inside k e g p h n = go (next half e) refl (sym (whole-steps k e p h) ∙ n)
   where
-    go : (o : Option Term) → next e ≡ o → Inside k e g
-    go none q = let z : _≡_ {A = Option Term} none (some g) = sym (next-none k e p h q) ∙ n in absurd (Option·none-ne-some g z)
-    go (some x) q =
-        let z : _≡_ {A = Option Term} (some g) (some (whole k x)) = sym n ∙ next-whole k e x p h q in
-        record { to = x; steps = q; is = Option·some-injective g (whole k x) z }
+    go : (o : Option Term) → next half e ≡ o → Option·map (whole k) o ≡ some g → Inside k e g
+    go none q i = absurd (Option·none-ne-some g i)
+    go (some x) q i = record { to = x; steps = q; is = sym (Option·some-injective (whole k x) g i) }
 
 one : (g : Around) (e : Term) → plug (frame g) (fromTerm e) ≡ fromTerm (plugTerm g e)
 unfolding plug frame plugTerm fromTerm
@@ -79,6 +84,9 @@ one (merge-left x) e = refl
 one (merge-right v) e = refl
 one (rcd-of l) e = refl
 one (proj-of l) e = refl
+one (sum-left x) e = refl
+one (sum-right v) e = refl
+one (choice-of x y) e = refl
 
 pub framed : (k : List Around) (e : Term) → fill (frames k) (fromTerm e) ≡ fromTerm (whole k e)
 unfolding fill frames whole

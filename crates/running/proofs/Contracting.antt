@@ -9,7 +9,7 @@ use mathlib.Core.Option.{some}
 use lib.Dec.{T}
 use lib.ListN.{length, take, drop}
 use lib.Seq.{sets, sets-eq, length-take-le}
-use Rattle.calculus.specs.Syntax.{Ty, Term, anno, app, fix, proj, size}
+use Rattle.calculus.specs.Syntax.{Ty, Term, anno, app, fix, proj, sum, choice, size}
 use Rattle.calculus.specs.Decide.{value?}
 use Rattle.calculus.specs.Evaluate.{next}
 use Rattle.calculus.specs.Step.{Step, s-anno, s-cast}
@@ -19,18 +19,20 @@ use Rattle.calculus.proofs.TypedReduction.{cast-to}
 use Rattle.calculus.proofs.Soundness.{value-no-step}
 use Rattle.calculus.proofs.Evaluation.{next-sound}
 use Rattle.format.specs.Table.{term-sort, refers, rowOf, rowIn, table}
-use Rattle.format.specs.Cell.{Cell, cellAt}
-use Rattle.format.specs.Tree.{kindIn, cells, encode}
+use Rattle.format.specs.Cell.{Cell, cellAt, half}
+use Rattle.format.specs.Tree.{cells, encode}
 use Rattle.format.specs.Terms.{fromTerm, TermFits}
 use Rattle.format.specs.Book.{sizeLimit}
 use Rattle.format.proofs.Trees.{term-cells}
 use Rattle.format.proofs.Encoding.{Part, length-encode, root-last}
 use Rattle.format.proofs.RoundTrip.{term-good}
+use Rattle.cells.proofs.Held.{kind-of}
 use Rattle.emission.specs.Emits.{Emits}
 use Rattle.emission.specs.Runs.{Run}
 use Rattle.emission.specs.declared.Emitted.{Emitted}
 use Rattle.emission.specs.declared.Emitted.the-variants as Out
-use Rattle.emission.proofs.Runs.{grows, last, ends, run-within, at-run, parts, run-kind}
+use Rattle.emission.proofs.Runs.{grows, last, ends, run-within, at-run, parts, below}
+use Rattle.emission.proofs.RunParts.{runs-type, runs-term}
 use Rattle.emission.proofs.EncodedRuns.{encoded-run}
 use Rattle.moving.specs.Moves.{Kept, PlaceReady, Places}
 use Rattle.moving.proofs.Runs.{place-ready}
@@ -38,7 +40,7 @@ use Rattle.moving.proofs.PlacedRuns.{run-placed}
 use Rattle.reduction.specs.Steps as Reduction
 use Rattle.running.specs.Waiting.{Waits, around}
 use Rattle.running.specs.Contexts.{Around, whole, frames}
-use Rattle.running.specs.Places.{RedexParts, of-anno, of-app, of-fix, of-proj, Standing, Runnable}
+use Rattle.running.specs.Places.{RedexParts, of-anno, of-app, of-fix, of-proj, of-sum, of-choice, Standing, Runnable}
 use Rattle.running.specs.Places.{InPlaceBy, h-became, h-elsewhere, CastsInPlace, ContractingAnno}
 use Rattle.running.specs.Places.{Becomes, ContractumAt, Installing, Installs, Emitting, ContractsTo, c-to, c-full, Contracts}
 use Rattle.running.specs.declared.Place.{Place}
@@ -52,8 +54,8 @@ use Rattle.running.proofs.Contexts.{Inside, next-inside, next-whole}
 use Rattle.running.proofs.Waiting.{kept-waits, waiting, waits-right}
 use Rattle.running.proofs.Entering.{Kind, k-anno, term-kind}
 use Rattle.running.proofs.Ranges.{redex-range, redex-low, kind-at, kind-not}
-use Rattle.running.proofs.Standing.{goes, focus-fits, successor-fits}
-use Rattle.running.proofs.Projecting.{size-whole, redex-value}
+use Rattle.running.proofs.Standing.{goes, focus-fits, standing-fits, successor-fits}
+use Rattle.running.proofs.Projecting.{size-whole, redex-value, redex-kind}
 
 -- ---- installing
 
@@ -167,7 +169,7 @@ emitted-run s {t} m h f n l e =
     at-run refl (omega (arith, root-last m g)) refl (encoded-run m g (part-set s m (encode m (fromTerm h)) (omega (arith, z, l, n)) e))
 
 -- an annotated value becomes a value
-anno-value : {v h : Term} {A : Ty} → value? v ≡ true → Step (anno v A) h → value? h ≡ true
+anno-value : {v h : Term} {A : Ty} → value? v ≡ true → Step half (anno v A) h → value? h ≡ true
 anno-value {v} f (s-anno x) = absurd (value-no-step (value?-says v .0 (subst⁻¹ T f tt) .1) x)
 anno-value {h = h} f (s-cast c) = T-true (value?-says h) (cast-to c)
 
@@ -182,54 +184,48 @@ module _ {w : List ℕ} (p : Place) {e : Term} (s : Standing w (Redex p) e) (r :
   pub around-small : p .start + 8191 - p .root ≤ sizeLimit
   around-small = omega (arith, around-is, whole-size, r .small)
 
-  fits : TermFits (s .focus)
-  fits = focus-fits (s .around) (s .focus) (subst TermFits (s .is) (r .fits))
-
   -- the redex, as reduction asks for it
-  redex-of : (f : Term) → TermFits f → RedexParts w p f → (cellAt w (p .root) .kind ≡ 25 → ⊥) → Reduction.Redex w (p .root) f
-  redex-of (anno v A) f (of-anno {a = a} {b = b} c x y z) k =
+  redex-of : (f : Term) → TermFits f → RedexParts w p f → (cellAt w (p .root) .kind ≡ 25 → ⊥) → (cellAt w (p .root) .kind ≡ 26 → ⊥) → Reduction.Redex w (p .root) f
+  redex-of (anno v A) f (of-anno c x y z) k m =
       let q = redex-range (s .at) in
-      Reduction.at-anno c (omega (arith, ends y, q .apart, q .right)) (omega (arith, ends z)) x
-      (record { start = p .start; run = at-run refl refl (ends y) y; fits = f .0 })
-      (record { start = p .right; run = at-run refl refl (ends z) z })
-  redex-of (app v u) f (of-app c x y a b i) k =
+      Reduction.at-anno c (below y (omega (arith, q .apart, q .right))) (below z (omega arith)) x (runs-term (f .0) y) (runs-type z)
+  redex-of (app v u) f (of-app d) k m =
       let q = redex-range (s .at) in
-      Reduction.at-app c (omega (arith, ends a, grows b, q .apart, q .right)) (omega (arith, ends b, q .apart, q .right)) x y
-      (record { start = p .start; run = at-run refl refl (ends a) a; fits = f .0 })
-      (record { start = _; run = at-run refl refl (ends b) b; fits = f .1 })
-  redex-of (fix g A) f (of-fix i x) k = Reduction.at-fix (record { start = p .right; run = x; fits = f })
-  redex-of (proj l v) f (of-proj c x y i) k = absurd (k (ap (λ (q : Cell). q .kind) (c .is)))
+      Reduction.at-app (d .cell) (below (d .first) (omega (arith, grows (d .second), q .apart, q .right))) (below (d .second) (omega (arith, q .apart, q .right)))
+      (d .first-value) (d .second-value) (runs-term (f .0) (d .first)) (runs-term (f .1) (d .second))
+  redex-of (choice v e g) f (of-choice c x y z u) k m =
+      let q = redex-range (s .at) in
+      Reduction.at-choice c (below y (omega (arith, q .apart, q .right))) (below z (grows u)) (below u (omega arith)) x (runs-term (f .0) y) (runs-term (f .1) z) (runs-term (f .2) u)
+  redex-of (fix g A) f (of-fix i x) k m = Reduction.at-fix (runs-term f x)
+  redex-of (proj l v) f (of-proj c x y i) k m = absurd (k (kind-of c))
+  redex-of (sum v u) f (of-sum d) k m = absurd (m (kind-of (d .cell)))
 
-  pub redex-at : (cellAt w (p .root) .kind ≡ 25 → ⊥) → Reduction.Redex w (p .root) (s .focus)
-  redex-at k = redex-of (s .focus) fits (s .at .parts) k
+  pub redex-at : (cellAt w (p .root) .kind ≡ 25 → ⊥) → (cellAt w (p .root) .kind ≡ 26 → ⊥) → Reduction.Redex w (p .root) (s .focus)
+  redex-at k m = redex-of (s .focus) (standing-fits s r) (s .at .parts) k m
 
-  pub successor-of : (h : Term) × (next (s .focus) ≡ some h)
+  pub successor-of : (h : Term) × (next half (s .focus) ≡ some h)
   successor-of = goes (s .around) (s .focus) (s .is) (s .proper) r (redex-value (s .at .parts))
 
-  pub within-of : {g : Term} → next e ≡ some g → Inside (s .around) (s .focus) g
-  within-of {g} n = next-inside (s .around) (s .focus) g (s .proper) (redex-value (s .at .parts)) (sym (ap next (s .is)) ∙ n)
+  pub within-of : {g : Term} → next half e ≡ some g → Inside (s .around) (s .focus) g
+  within-of {g} n = next-inside (s .around) (s .focus) g (s .proper) (redex-value (s .at .parts)) (sym (ap (next half) (s .is)) ∙ n)
 
-  fits-after : {g : Term} (n : next e ≡ some g) → TermFits (within-of n .to)
+  fits-after : {g : Term} (n : next half e ≡ some g) → TermFits (within-of n .to)
   fits-after {g} n =
       let i = within-of n in
       focus-fits (s .around) (i .to) (subst TermFits (i .is) (successor-fits e g n (r .fits)))
 
-  size-after : {g : Term} (n : next e ≡ some g) → size g ≡ p .start + 8191 - p .root + cells (fromTerm (within-of n .to))
+  size-after : {g : Term} (n : next half e ≡ some g) → size g ≡ p .start + 8191 - p .root + cells (fromTerm (within-of n .to))
   size-after {g} n =
       let i = within-of n in
       let a = ap size (i .is) ∙ size-whole (s .around) (i .to) in
       omega (arith, a, around-is, term-cells (i .to))
 
   -- an annotated value becomes a value
-  value-after : {g : Term} (n : next e ≡ some g) → cellAt w (p .root) .kind ≡ 19 → value? (within-of n .to) ≡ true
-  unfolding fromTerm kindIn
-  value-after n k = let i = within-of n in go (s .at .parts) (i .steps)
+  value-after : {g : Term} (n : next half e ≡ some g) → cellAt w (p .root) .kind ≡ 19 → value? (within-of n .to) ≡ true
+  value-after n k = go (redex-kind (s .at .parts) k) (s .at .parts) (within-of n .steps)
     where
-      go : {f h : Term} → RedexParts w p f → next f ≡ some h → value? h ≡ true
-      go {f} {h} (of-anno c v a b) q = anno-value v (next-sound f h q)
-      go (of-app c v u a b z) q = absurd (omega (arith, k, ap (λ (q : Cell). q .kind) (c .is)))
-      go (of-fix z y) q = absurd (omega (arith, k, run-kind y))
-      go (of-proj c v a z) q = absurd (omega (arith, k, ap (λ (q : Cell). q .kind) (c .is)))
+      go : {f h : Term} → Kind 19 f → RedexParts w p f → next half f ≡ some h → value? h ≡ true
+      go {f} {h} k-anno (of-anno c v a b) q = anno-value v (next-sound half f h q)
 
 pub emit-ready : {s w : List ℕ} {p : Place} {t : Cell} → Emitting s w p t → Reduction.ContractReady w s (p .root) (p .start + 8191 - p .root)
 emit-ready {p = p} d =
@@ -239,7 +235,7 @@ emit-ready {p = p} d =
       space = record { long = d .contracting .long; used = around-small p (y .standing) (y .runnable) };
       low = redex-low (y .standing .at);
       term = y .standing .focus;
-      redex = redex-at p (y .standing) (y .runnable) (kind-not (d .cell) (d .kind));
+      redex = redex-at p (y .standing) (y .runnable) (kind-not (d .cell) (d .no-read)) (kind-not (d .cell) (d .no-sum));
       successor = a .0;
       steps = a .1;
     }
@@ -250,13 +246,13 @@ module _ {s s′ w : List ℕ} {p : Place} {t : Cell} (d : Emitting s w p t) {o 
   abbrev m : ℕ
   m = p .start + 8191 - p .root
 
-  emits-after : {e g : Term} (st : Standing w (Redex p) e) (r : Runnable e) (n : next e ≡ some g) → Emits s s′ m o (fromTerm (within-of p st r n .to))
-  emits-after st r n = let i = within-of p st r n in x .says (st .focus) (i .to) (redex-at p st r (kind-not (d .cell) (d .kind))) (i .steps)
+  emits-after : {e g : Term} (st : Standing w (Redex p) e) (r : Runnable e) (n : next half e ≡ some g) → Emits s s′ m o (fromTerm (within-of p st r n .to))
+  emits-after st r n = let i = within-of p st r n in x .says (st .focus) (i .to) (redex-at p st r (kind-not (d .cell) (d .no-read)) (kind-not (d .cell) (d .no-sum))) (i .steps)
 
   pub contracts-full : o ≡ Out.Full → Contracts w w p Full
   contracts-full q = record { says = go }
     where
-      go : (e g : Term) → Standing w (Redex p) e → Runnable e → next e ≡ some g → ContractsTo w w g Full
+      go : (e g : Term) → Standing w (Redex p) e → Runnable e → next half e ≡ some g → ContractsTo w w g Full
       go e g st r n = by (decLe (m + cells (fromTerm (within-of p st r n .to))) sizeLimit)
         where
           by : Dec (m + cells (fromTerm (within-of p st r n .to)) ≤ sizeLimit) → ContractsTo w w g Full
@@ -264,7 +260,7 @@ module _ {s s′ w : List ℕ} {p : Place} {t : Cell} (d : Emitting s w p t) {o 
           by (no l) = c-full (omega (arith, size-after p st r n, l)) refl refl
 
   module _ {end : ℕ} (q : o ≡ Out.Next end) where
-    became-after : {e g : Term} (st : Standing w (Redex p) e) (r : Runnable e) (n : next e ≡ some g) →
+    became-after : {e g : Term} (st : Standing w (Redex p) e) (r : Runnable e) (n : next half e ≡ some g) →
         ((end ≡ m + cells (fromTerm (within-of p st r n .to))) × (end ≤ sizeLimit) × ContractumAt s′ w p (t .kind) m end (st .around) (within-of p st r n .to))
     became-after st r n = by (decLe (m + cells (fromTerm h)) sizeLimit)
       where
@@ -293,7 +289,7 @@ module _ {s s′ w : List ℕ} {p : Place} {t : Cell} (d : Emitting s w p t) {o 
         let y = d .contracting .ready in
         let st = y .standing in
         let a = successor-of p st (y .runnable) in
-        let n : next (y .term) ≡ some (whole (st .around) (a .0)) = ap next (st .is) ∙ next-whole (st .around) (st .focus) (a .0) (st .proper) (redex-value (st .at .parts)) (a .1) in
+        let n : next half (y .term) ≡ some (whole (st .around) (a .0)) = ap (next half) (st .is) ∙ next-whole (st .around) (st .focus) (a .0) (st .proper) (redex-value (st .at .parts)) (a .1) in
         let b = became-after st (y .runnable) n in
         subst (λ (k : ℕ). Installing s′ w p k m end) (sym i)
         (record {
@@ -309,7 +305,7 @@ module _ {s s′ w : List ℕ} {p : Place} {t : Cell} (d : Emitting s w p t) {o 
     pub contracts-next : {v : List ℕ} {y : Focus} → Installs s′ w v p (t .kind) m end y → Contracts w v p (To y)
     contracts-next {v} {y} z = record { says = go }
       where
-        go : (e g : Term) → Standing w (Redex p) e → Runnable e → next e ≡ some g → ContractsTo w v g (To y)
+        go : (e g : Term) → Standing w (Redex p) e → Runnable e → next half e ≡ some g → ContractsTo w v g (To y)
         go e g st r n =
             let b = became-after st r n in
             c-to (omega (arith, b .0, b .1, size-after p st r n)) refl
@@ -341,4 +337,4 @@ module _ {w v : List ℕ} {p : Place} {r : InPlace} (h : CastsInPlace w v p r) w
 pub still-emitting : {s w v : List ℕ} {p : Place} {t : Cell} {r : InPlace} → ContractingAnno s w p t → CastsInPlace w v p r → r ≡ Elsewhere → Emitting s v p t
 still-emitting {s} {w} {v} {p} {t} a h q =
     subst (λ (z : List ℕ). Emitting s z p t) (sym (same h q))
-    (record { contracting = a .contracting; cell = a .cell; kind = λ k. absurd (omega (arith, k, a .kind)) })
+    (record { contracting = a .contracting; cell = a .cell; no-read = λ k. omega (arith, k, a .kind); no-sum = λ k. omega (arith, k, a .kind) })

@@ -8,8 +8,8 @@ use mathlib.Core.Option.{some}
 use lib.ListN.{length, take, drop, take-append-drop}
 use Rattle.calculus.specs.Syntax.{Ty, Term}
 use Rattle.calculus.specs.Typing.{Typed}
-use Rattle.format.specs.Table.{term-sort, refers, rowOf, rowIn, table}
-use Rattle.format.specs.Tree.{encode}
+use Rattle.format.specs.Table.{term-sort, unused, refers, Row, rowOf, rowIn, table}
+use Rattle.format.specs.Tree.{raw, node, encode}
 use Rattle.format.specs.Terms.{fromTerm}
 use Rattle.format.proofs.Trees.{term-cells, term-positive}
 use Rattle.format.proofs.Encoding.{Part, root-last}
@@ -25,7 +25,8 @@ use Rattle.moving.proofs.Runs.{place-ready}
 use Rattle.moving.proofs.PlacedRuns.{run-placed}
 use Rattle.running.specs.Waiting.{w-none}
 use Rattle.running.specs.Contexts.{Around, whole, p-none, frames}
-use Rattle.running.specs.Places.{IsAhead, IsDone, IsRedex, RedexParts, of-anno, of-app, of-fix, of-proj, Standing, Runnable, FocusReady, Settles, Held, Unwinding, Unwinds, Rebuilds}
+use Rattle.running.specs.Places.{IsAhead, IsDone, BothDone, IsRedex, RedexParts, of-anno, of-app, of-fix, of-proj, of-sum, of-choice}
+use Rattle.running.specs.Places.{Standing, Runnable, FocusReady, Settles, Held, Unwinding, Unwinds, Rebuilds}
 use Rattle.running.specs.Turns.{EncodedTerm, StepReady, Starts, WholeReady, EncodesWhole}
 use Rattle.running.specs.declared.Place.{Place}
 use Rattle.running.specs.declared.Focus.{Focus}
@@ -106,18 +107,30 @@ held-done {p = p} d =
     let r = done-range d in
     record { start = p .start; end = p .right; waits = d .waits; low = omega (arith, r .start, r .apart); holds = bare (omega (arith, r .apart)) (d .run) }
 
+-- a kind with two terms and nothing else
+abbrev two : ℕ → Row
+two k = record { kind = k; sort = term-sort; label = unused; a = refers term-sort; b = refers term-sort; c = unused }
+
+held-both : {w : List ℕ} {p : Place} {k : ℕ} {v u : Term} → p .left < p .right → rowOf k ≡ some (two k) → BothDone w p k v u →
+    HeldField false w (suc (p .root)) (refers term-sort) (p .root) (node k 0 (fromTerm v) (fromTerm u) (raw 0))
+held-both {p = p} l i d =
+    let z : p .root < suc (p .root) = omega arith in
+    f-refers z (d .cell) i refl tt (bare (omega (arith, l, d .nothing, grows (d .second))) (d .first)) (bare (omega (arith, l, d .nothing)) (d .second)) f-unused
+
 held-parts : {w : List ℕ} {p : Place} {f : Term} → p .left < p .right → p .right ≤ p .root → RedexParts w p f → HeldField false w (suc (p .root)) (refers term-sort) (p .root) (fromTerm f)
 unfolding fromTerm table rowIn rowOf
 held-parts {p = p} l r (of-anno c v a b) =
     let z : p .root < suc (p .root) = omega arith in
     f-refers z c refl refl tt (bare (omega (arith, l, r)) a) (bare (omega arith) b) f-unused
-held-parts {p = p} l r (of-app c v u a b e) =
-    let z : p .root < suc (p .root) = omega arith in
-    f-refers z c refl refl tt (bare (omega (arith, l, r, grows b)) a) (bare (omega (arith, l, r)) b) f-unused
+held-parts l r (of-app d) = held-both l refl d
 held-parts l r (of-fix e x) = bare (omega arith) x
 held-parts {p = p} l r (of-proj c v a e) =
     let z : p .root < suc (p .root) = omega arith in
     f-refers z c refl refl tt (bare (omega (arith, l, r)) a) f-unused f-unused
+held-parts l r (of-sum d) = held-both l refl d
+held-parts {p = p} l r (of-choice c v a x y) =
+    let z : p .root < suc (p .root) = omega arith in
+    f-refers z c refl refl tt (bare (omega (arith, l, r)) a) (bare (grows y) x) (bare (omega arith) y)
 
 held-redex : {w : List ℕ} {p : Place} {K : List Around} {f : Term} → IsRedex w p K f → Held w (p .up) (p .root) K (fromTerm f)
 held-redex {p = p} d =

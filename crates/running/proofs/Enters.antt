@@ -5,6 +5,7 @@ use mathlib.Core.Path.{_≡_, refl, sym, ap, _∙_, subst}
 use mathlib.Core.Bool.{true}
 use mathlib.Core.Logic.{_⊎_, inl, inr}
 use mathlib.Core.List.{List, _∷_}
+use lib.ListN.{length}
 use lib.Seq.{sets}
 use Rattle.calculus.specs.Syntax.{Term, var}
 use Rattle.calculus.specs.Decide.{value?}
@@ -17,7 +18,7 @@ use Rattle.emission.proofs.Runs.{at-run, run-kind}
 use Rattle.moving.specs.Moves.{Kept, ShiftReady, Shifts}
 use Rattle.moving.proofs.Runs.{shift-ready, run-shifted}
 use Rattle.running.specs.Contexts.{Around, whole, AllProper, p-more}
-use Rattle.running.specs.Places.{IsAhead, IsDone, Standing, Runnable, GoesOn, Taking, Descending}
+use Rattle.running.specs.Places.{IsAhead, IsDone, Standing, Runnable, GoesOn, Taking, thirdOf, Descending}
 use Rattle.running.specs.declared.Place.{Place}
 use Rattle.running.specs.declared.Focus.the-variants.{Ahead, Done, Redex}
 use Rattle.running.proofs.Waiting.{kept-waits}
@@ -94,26 +95,30 @@ not-16 K i p r (k-var {n}) = no-variable K (var n) i p r refl
 abbrev below : Place → ℕ → Place
 below p a = record { left = p .left; start = p .start; right = p .right; root = a; up = p .root }
 
-pub enters-below : {w v : List ℕ} {p q : Place} {t : Cell} → Descending w p t →
-    v ≡ sets w (8 * p .root) (cellBytes (record { kind = t .kind; label = t .label; a = p .up; b = t .b; c = 0 })) → q ≡ below p (t .a) → GoesOn w v (Ahead p) (Ahead q)
+pub enters-below : {w v : List ℕ} {p q : Place} {t : Cell} {c : ℕ} → Descending w p t → c ≡ thirdOf t →
+    v ≡ sets w (8 * p .root) (cellBytes (record { kind = t .kind; label = t .label; a = p .up; b = t .b; c = c })) → q ≡ below p (t .a) → GoesOn w v (Ahead p) (Ahead q)
 unfolding whole
-enters-below {w} {v} {p} {t = t} d o i =
+enters-below {w} {v} {p} {t = t} d third o i =
     let r = ahead-range (d .ready .standing .at) in
     let u = above-some (ahead-range (go (d .ready .standing) (d .ready .runnable) .at) .up) (λ h. absurd (omega (arith, h, r .apart, r .right))) in
     subst (λ (z : Place). GoesOn w v (Ahead p) (Ahead z)) (sym i) (record { moves = record { says = λ e s r. go s r }; falls = omega (arith, u .0) })
   where
-    go : {e : Term} → Standing w (Ahead p) e → Runnable e → Standing v (Ahead (below p (t .a))) e
-    go s r =
-        let x = stored _ (root-within s) o in
-        let k : t .kind ≡ kindOf term-sort (s .focus) = ap (λ (c : Cell). c .kind) (d .cell) ∙ run-kind (s .at .run) in
-        let n : kindOf term-sort (s .focus) ≡ 16 → ⊥ = λ h. not-16 (s .around) (s .is) (s .proper) r (term-kind (s .focus) (s .at .run) (run-kind (s .at .run) ∙ h)) in
-        let c : Descends v p (s .around) (s .focus) (t .a) = enters-part p (x .wrote) (s .focus) t (s .at) (d .cell) (x .there)
-        (n, λ h. d .no-number (k ∙ h), λ h. d .no-top (k ∙ h), λ h. d .no-function (k ∙ h), λ h. d .no-fixpoint (k ∙ h)) in
+    inside : {e : Term} (s : Standing w (Ahead p) e) → length v ≡ length w → Descends v p (s .around) (s .focus) (t .a) → Standing v (Ahead (below p (t .a))) e
+    inside s l c =
         record {
-          long = x .wrote .long ∙ s .long;
+          long = l ∙ s .long;
           around = c .around ∷ s .around;
           focus = c .part;
           is = s .is ∙ ap (whole (s .around)) (c .is);
           proper = p-more (c .proper) (s .proper);
           at = c .ahead;
         }
+
+    go : {e : Term} → Standing w (Ahead p) e → Runnable e → Standing v (Ahead (below p (t .a))) e
+    go s r =
+        let x = stored _ (root-within s) o in
+        let k : t .kind ≡ kindOf term-sort (s .focus) = ap (λ (c : Cell). c .kind) (d .cell) ∙ run-kind (s .at .run) in
+        let n : kindOf term-sort (s .focus) ≡ 16 → ⊥ = λ h. not-16 (s .around) (s .is) (s .proper) r (term-kind (s .focus) (s .at .run) (run-kind (s .at .run) ∙ h)) in
+        inside s (x .wrote .long)
+        (enters-part p (x .wrote) (s .focus) t (s .at) (d .cell) (rw third at (x .there))
+        (n, λ h. d .no-number (k ∙ h), λ h. d .no-top (k ∙ h), λ h. d .no-function (k ∙ h), λ h. d .no-fixpoint (k ∙ h)))

@@ -10,7 +10,7 @@ use Rattle.running.specs.declared.Place.{Place}
 use Rattle.running.specs.declared.Focus.the-variants.{Ahead, Done, Redex}
 use Rattle.running.proofs.Leaving.{closed, redexed, onward}
 use Rattle.running.proofs.Ranges.{done-range, ahead-range, above-some, stored, left-within, up-within}
-use Rattle.running.proofs.Leaves.{single-done, single-redex, second-on, both-done, both-redex, other}
+use Rattle.running.proofs.Leaves.{single-done, single-redex, second-on, both-done, both-redex}
 
 module _ {w v : List ℕ} {p q : Place} where
   closed-on : {o u : ℕ} → FocusReady w (Done p) → (p .up ≡ 0 → ⊥) → Moves w v (Done p) (Done (closed p o u)) → q ≡ closed p o u → GoesOn w v (Done p) (Done q)
@@ -30,7 +30,7 @@ module _ {w v : List ℕ} {p q : Place} where
 
 -- a cell with one part, with both
 abbrev one : Place → Cell → Cell
-one p t = record { kind = t .kind; label = t .label; a = p .left - 1; b = t .b; c = 0 }
+one p t = record { kind = t .kind; label = t .label; a = p .left - 1; b = t .b; c = t .c }
 
 abbrev two : Place → Cell → Cell
 two p t = record { kind = t .kind; label = t .label; a = t .a; b = p .left - 1; c = 0 }
@@ -46,7 +46,7 @@ module _ {w v : List ℕ} {p q : Place} {t : Cell} where
   single-stays d k e i =
       let a = d .waiting in
       let x = stored _ (up-within (a .ready .standing) (a .some)) e in
-      redexed-on (single-redex p t (a .some) (a .cell) (d .no-app) (d .no-merge) k (x .wrote) (x .there)) i
+      redexed-on (single-redex p t (a .some) (a .cell) (d .no-app) (d .no-merge) (d .no-sum) k (x .wrote) (x .there)) i
 
   pub turns : WaitingFirst w p t → v ≡ sets w (8 * p .up) (cellBytes (record { kind = t .kind; label = t .label; a = p .left - 1; b = t .a; c = p .start + 1 })) →
       q ≡ onward p (t .b) → GoesOn w v (Done p) (Ahead q)
@@ -65,4 +65,4 @@ module _ {w v : List ℕ} {p q : Place} {t : Cell} where
   both-stay d k e i =
       let a = d .waiting in
       let x = stored _ (up-within (a .ready .standing) (a .some)) e in
-      redexed-on (both-redex p t (a .some) (a .cell) (other (d .two) k) (d .second) (x .wrote) (x .there)) i
+      redexed-on (both-redex p t (a .some) (a .cell) (d .two) k (d .second) (x .wrote) (x .there)) i

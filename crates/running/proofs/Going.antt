@@ -41,18 +41,18 @@ as-use : {q : Bool} {s : List ℕ} {x n e : ℕ} {u v : Use} {t : Tree} → u �
 as-use e r = rw (sym e) r
 
 -- a field that the row does not name may hold any number
-any-number : {q : Bool} {s : List ℕ} {x n e : ℕ} {u : Use} {t : Tree} (m : ℕ) → u ≡ unused → Run q s x u n t e → Run q s x u m t e
+pub any-number : {q : Bool} {s : List ℕ} {x n e : ℕ} {u : Use} {t : Tree} (m : ℕ) → u ≡ unused → Run q s x u n t e → Run q s x u m t e
 any-number {q} {s} m e r = as-use (sym e) (go (as-use e r))
   where
     go : {x n e : ℕ} {t : Tree} → Run q s x unused n t e → Run q s x unused m t e
     go r-unused = r-unused
 
--- down: the cell of the focus waits for its first part
-pub descends : {w v : List ℕ} {start right root up k l m a b c y z : ℕ} {f g h : Tree} {K : List Frame} {r : Row} → IsCell w root k l a b c → rowOf k ≡ some r
+-- down: the cell of the focus waits for its first part, and keeps what else its row names
+pub descends : {w v : List ℕ} {start right root up k l m a b c y z : ℕ} {f g h : Tree} {K : List Frame} {r : Row} → rowOf k ≡ some r
     → m ≡ labelBy (r .label) l → Run true w right (r .a) a f y → Run true w y (r .b) b g z → Run true w z (r .c) c h root → r .a ≡ refers term-sort
-    → r .c ≡ unused → Waits w up start (suc root) K → start < right → Wrote w v root → IsCell v root k l up b 0
+    → (r .c ≡ unused → c ≡ 0) → Waits w up start (suc root) K → start < right → Wrote w v root → IsCell v root k l up b c
     → AheadTree v start right a root f (first k m g h ∷ K)
-descends {start = start} {right = right} {a = a} {y = y} {r = r} p e m f g h s n q l d c =
+descends {start = start} {right = right} {a = a} {y = y} {r = r} e m f g h s n q l d c =
     let one = as-use s f in
     let last : y ≡ suc a = ends one in
     let low : start < y = omega (arith, l, grows f) in
@@ -65,9 +65,9 @@ descends {start = start} {right = right} {a = a} {y = y} {r = r} p e m f g h s n
           e
           m
           s
-          (λ _. refl)
+          n
           (wrote-run d (grows h) g)
-          (any-number 0 n (wrote-run d (omega arith) h))
+          (wrote-run d (omega arith) h)
           low
           (kept-waits (wrote-kept d (omega (arith, l, grows f, grows g, grows h)) (omega arith)) q));
       apart = l;

@@ -1,11 +1,11 @@
 -- A focus that is a value: what the cell that waits for it becomes. Assumes nothing.
 use Prim.Native.Nat.{ℕ, suc, _+_, _-_, _≤_, _<_}
 use native.Mathlib.Omega.{arith}
-use mathlib.Core.Path.{_≡_, refl, sym, _∙_, subst}
+use mathlib.Core.Path.{_≡_, refl, sym, ap, _∙_, subst}
 use mathlib.Core.Bool.{true}
 use mathlib.Core.List.{List, [], _∷_}
 use mathlib.Core.Option.{some}
-use Rattle.calculus.specs.Syntax.{Ty, Term, anno, app, merge, rcd, proj}
+use Rattle.calculus.specs.Syntax.{Ty, Term, merge, rcd}
 use Rattle.calculus.specs.Decide.{value?}
 use Rattle.format.specs.Table.{term-sort, unused, refers, Row, rowOf, rowIn, table}
 use Rattle.format.specs.Cell.{Cell, cellAt}
@@ -16,8 +16,8 @@ use Rattle.emission.specs.Runs.{Run}
 use Rattle.emission.proofs.Runs.{grows, nothing, ends, at-run}
 use Rattle.moving.specs.Moves.{Wrote}
 use Rattle.running.specs.Waiting.{Frame, first, second, Waits, w-first, w-second}
-use Rattle.running.specs.Contexts.{Around, anno-of, app-right, merge-right, rcd-of, proj-of, frame, frames}
-use Rattle.running.specs.Places.{IsAhead, IsDone, IsRedex, RedexParts, of-anno, of-app, of-proj}
+use Rattle.running.specs.Contexts.{Around, anno-of, merge-right, rcd-of, proj-of, choice-of, plugTerm, frame, frames}
+use Rattle.running.specs.Places.{IsAhead, IsDone, BothDone, RedexParts, of-anno, of-proj, of-choice, IsRedex}
 use Rattle.running.specs.declared.Place.{Place}
 use Rattle.running.proofs.Waiting.{kept-waits}
 use Rattle.running.proofs.Going.{DoneTree, wrote-run, wrote-kept, goes-on, closes-one, closes-both}
@@ -99,7 +99,7 @@ done-of {v} p {K} {o} {u} h e d l =
 module _ {w v : List ℕ} (p : Place) {K : List Around} where
   -- a record is done
   pub leaves-record : {l : ℕ} (f : Term) (t : Cell) → IsDone w p (rcd-of l ∷ K) f → t ≡ cellAt w (p .up) → Wrote w v (p .left) →
-      IsCell v (p .left) (t .kind) (t .label) (p .left - 1) (t .b) 0 → IsDone v (closed p (p .start) (t .a)) K (rcd l f)
+      IsCell v (p .left) (t .kind) (t .label) (p .left - 1) (t .b) (t .c) → IsDone v (closed p (p .start) (t .a)) K (rcd l f)
   unfolding frames frame fromTerm value? table rowIn rowOf
   leaves-record {l} f t d e x y =
       let q = waits-first (d .waits) refl in
@@ -109,44 +109,43 @@ module _ {w v : List ℕ} (p : Place) {K : List Around} where
       let c : DoneTree v (p .start) (suc (p .left - 1)) (suc (p .up)) (q .u) (fromTerm (rcd l f)) (frames K)
       = closes-one (q .cell) refl (q .label) refl refl refl (q .second) (q .third) (q .rest)
       (at-run refl refl n (d .run)) (omega (arith, n, d .apart)) refl (subst (Wrote w v) n x)
-      (subst (λ (z : ℕ). IsCell v z 24 (q .l) (p .left - 1) (q .b) 0) n (rw s at y)) in
+      (subst (λ (z : ℕ). IsCell v z 24 (q .l) (p .left - 1) (q .b) (q .c)) n (rw s at y)) in
       rw s (done-of p (d .value) refl (subst (λ (z : ℕ). DoneTree v (p .start) (suc (p .left - 1)) (suc z) (q .u) (fromTerm (rcd l f)) (frames K)) (sym i) c)
       (omega (arith, n)))
 
-  -- an annotated value is a redex
-  pub leaves-anno : {A : Ty} (f : Term) (t : Cell) → IsDone w p (anno-of A ∷ K) f → t ≡ cellAt w (p .up) → Wrote w v (p .up) →
-      IsCell v (p .up) (t .kind) (t .label) (p .left - 1) (t .b) 0 → IsRedex v (redexed p (p .start) (t .a)) K (anno f A)
-  unfolding frames frame fromTerm table rowIn rowOf
-  leaves-anno {A} f t d e x y =
-      let q = waits-first (d .waits) refl in
-      let s : t ≡ record { kind = 19; label = q .l; a = q .u; b = q .b; c = q .c } = e ∙ q .cell .is in
-      let z : q .z ≡ p .up = nothing (q .third) in
+  -- the cell, with its first part done, is a redex: its other fields are as they were
+  leaves-one : {k m : ℕ} {g h : Tree} {r : Row} (f : Term) (F : Around) (t : Cell) → IsDone w p (F ∷ K) f → frame F ≡ first k m g h → rowOf k ≡ some r →
+      t ≡ cellAt w (p .up) → Wrote w v (p .up) → IsCell v (p .up) (t .kind) (t .label) (p .left - 1) (t .b) (t .c) →
+      ((l b c z : ℕ) → m ≡ labelBy (r .label) l → IsCell v (p .up) k l (p .left - 1) b c → Run true v (p .start) (refers term-sort) (p .left - 1) (fromTerm f) (p .left) →
+      Run true v (p .right) (r .b) b g z → Run true v z (r .c) c h (p .up) → RedexParts v (redexed p (p .start) (t .a)) (plugTerm F f)) →
+      IsRedex v (redexed p (p .start) (t .a)) K (plugTerm F f)
+  unfolding frames
+  leaves-one {k} f F t d i o e x y parts-of =
+      let q = waits-first (subst (λ (z : Frame). Waits w (p .up) (p .start) (p .right) (z ∷ frames K)) i (d .waits)) o in
+      let s : t ≡ record { kind = k; label = q .l; a = q .u; b = q .b; c = q .c } = e ∙ q .cell .is in
       let g = grows (q .second) in
-      rw s
-      (record {
-        parts = of-anno (rw s at y) (d .value) (wrote-run x (omega (arith, d .apart, g, z)) (d .run)) (at-run refl refl z (wrote-run x (omega (arith, z)) (q .second)));
-        waits = kept-waits (wrote-kept x (omega (arith, q .low, g, z)) (omega arith)) (q .rest);
+      let h = grows (q .third) in
+      record {
+        parts = parts-of (q .l) (q .b) (q .c) (q .z) (q .label) (rw s at y) (wrote-run x (omega (arith, d .apart, g, h)) (d .run)) (wrote-run x h (q .second)) (wrote-run x (omega arith) (q .third));
+        waits = rw s (kept-waits (wrote-kept x (omega (arith, q .low, g, h)) (omega arith)) (q .rest));
         apart = d .apart;
-      })
+      }
 
-  -- a field read of a value is a redex
-  pub leaves-proj : {l : ℕ} (f : Term) (t : Cell) → IsDone w p (proj-of l ∷ K) f → t ≡ cellAt w (p .up) → Wrote w v (p .up) →
-      IsCell v (p .up) (t .kind) (t .label) (p .left - 1) (t .b) 0 → IsRedex v (redexed p (p .start) (t .a)) K (proj l f)
-  unfolding frames frame fromTerm table rowIn rowOf
-  leaves-proj {l} f t d e x y =
-      let q = waits-first (d .waits) refl in
-      let s : t ≡ record { kind = 25; label = q .l; a = q .u; b = q .b; c = q .c } = e ∙ q .cell .is in
-      let i : p .right ≡ p .up = nothing (q .second) ∙ nothing (q .third) in
-      rw s
-      (record {
-        parts = labelled (q .label) (rw s at y) (wrote-run x (omega (arith, d .apart, i)) (d .run)) i;
-        waits = kept-waits (wrote-kept x (omega (arith, q .low, i)) (omega arith)) (q .rest);
-        apart = d .apart;
-      })
-    where
-      labelled : {k b c u : ℕ} → l ≡ k → IsCell v (p .up) 25 k (p .left - 1) b c → Run true v (p .start) (refers term-sort) (p .left - 1) (fromTerm f) (p .left) →
-          p .right ≡ p .up → RedexParts v (redexed p (p .start) u) (proj l f)
-      labelled e c r i = of-proj (rw (sym e) at c) (d .value) r i
+  module _ (f : Term) (t : Cell) (e : t ≡ cellAt w (p .up)) (x : Wrote w v (p .up)) (y : IsCell v (p .up) (t .kind) (t .label) (p .left - 1) (t .b) (t .c)) where
+    -- an annotated value
+    pub leaves-anno : {A : Ty} → IsDone w p (anno-of A ∷ K) f → IsRedex v (redexed p (p .start) (t .a)) K (plugTerm (anno-of A) f)
+    unfolding plugTerm frame table rowIn rowOf
+    leaves-anno {A} d = leaves-one f (anno-of A) t d refl refl e x y (λ _ _ _ _ m c a g h. of-anno c (d .value) a (at-run refl refl (nothing h) g))
+
+    -- a field read of a value
+    pub leaves-proj : {l : ℕ} → IsDone w p (proj-of l ∷ K) f → IsRedex v (redexed p (p .start) (t .a)) K (plugTerm (proj-of l) f)
+    unfolding plugTerm frame table rowIn rowOf
+    leaves-proj {l} d = leaves-one f (proj-of l) t d refl refl e x y (λ _ _ _ _ m c a g h. of-proj (rw (sym m) at c) (d .value) a (nothing g ∙ nothing h))
+
+    -- a choice by a value
+    pub leaves-choice : {g h : Term} → IsDone w p (choice-of g h ∷ K) f → IsRedex v (redexed p (p .start) (t .a)) K (plugTerm (choice-of g h) f)
+    unfolding plugTerm frame table rowIn rowOf
+    leaves-choice {g} {h} d = leaves-one f (choice-of g h) t d refl refl e x y (λ _ _ _ _ m c a g h. of-choice c (d .value) a g h)
 
   -- the cell waits for its second part, whatever its kind
   pub leaves-first : {k m : ℕ} {r : Row} (f h : Term) (F G : Around) (t : Cell) → IsDone w p (F ∷ K) f → frame F ≡ first k m (fromTerm h) (raw 0) →
@@ -179,18 +178,32 @@ module _ {w v : List ℕ} (p : Place) {K : List Around} where
       rw (s, o) (done-of p (rw (h, d .value)) refl (subst (λ (z : ℕ). DoneTree v (q .o) (suc (p .left - 1)) (suc z) (q .u) (fromTerm (merge g f)) (frames K)) (sym i) c)
       (omega (arith, n)))
 
-  -- a value applied to a value is a redex
-  pub leaves-app : (f : Term) {g : Term} (t : Cell) → IsDone w p (app-right g ∷ K) f → value? g ≡ true → t ≡ cellAt w (p .up) → Wrote w v (p .up) →
-      IsCell v (p .up) (t .kind) (t .label) (t .a) (p .left - 1) 0 → IsRedex v (redexed p (t .c - 1) (t .b)) K (app g f)
-  unfolding frames frame fromTerm table rowIn rowOf
-  leaves-app f {g} t d h e x y =
-      let q = waits-second (d .waits) refl in
-      let s : t ≡ record { kind = 20; label = q .l; a = q .a; b = q .u; c = q .c } = e ∙ q .cell .is in
-      let o : q .c - 1 ≡ q .o = omega (arith, q .start) in
+  -- a cell with both parts done is a redex
+  pub leaves-both : {k m : ℕ} {r : Row} (f : Term) {g : Term} (G : Around) (t : Cell) → IsDone w p (G ∷ K) f → frame G ≡ second k m (fromTerm g) → rowOf k ≡ some r →
+      value? g ≡ true → t ≡ cellAt w (p .up) → Wrote w v (p .up) → IsCell v (p .up) (t .kind) (t .label) (t .a) (p .left - 1) 0 →
+      (BothDone v (redexed p (t .c - 1) (t .b)) k g f → RedexParts v (redexed p (t .c - 1) (t .b)) (plugTerm G f)) →
+      IsRedex v (redexed p (t .c - 1) (t .b)) K (plugTerm G f)
+  unfolding frames
+  leaves-both {k} f G t d j n h e x y parts-of =
+      let q = waits-second (subst (λ (z : Frame). Waits w (p .up) (p .start) (p .right) (z ∷ frames K)) j (d .waits)) n in
+      let s : t ≡ record { kind = k; label = q .l; a = q .a; b = q .u; c = q .c } = e ∙ q .cell .is in
+      let o : t .c - 1 ≡ q .o = omega (arith, q .start, ap (λ (c : Cell). c .c) s) in
       let i = q .here in
-      rw (s, o)
-      (record {
-        parts = of-app (rw s at y) h (d .value) (wrote-run x (q .low) (q .run)) (wrote-run x (omega (arith, d .apart, i)) (d .run)) i;
-        waits = kept-waits (wrote-kept x (omega (arith, grows (q .run), q .low)) (omega arith)) (q .rest);
+      record {
+        parts = parts-of
+            (record {
+              label = q .l;
+              a = q .a;
+              b = p .left - 1;
+              c = 0;
+              end = p .start;
+              cell = rw s at y;
+              first-value = h;
+              second-value = d .value;
+              first = rw o (wrote-run x (q .low) (q .run));
+              second = wrote-run x (omega (arith, d .apart, i)) (d .run);
+              nothing = i;
+            });
+        waits = rw (o, s) (kept-waits (wrote-kept x (omega (arith, grows (q .run), q .low)) (omega arith)) (q .rest));
         apart = d .apart;
-      })
+      }

@@ -16,6 +16,7 @@ pub mod Encoding
 pub mod Turning
 pub mod Loop
 pub mod Casting
+pub mod Summing
 pub mod Halving
 pub mod Sizes
 pub mod MergeReads

@@ -8,6 +8,7 @@ use native.Mathlib.Omega.{arith}
 use borrow.Author.Tests.{ltb-false}
 use lib.ListN.{length}
 use Rattle.calculus.specs.Syntax.{Term, size}
+use Rattle.format.specs.Cell.{half}
 use Rattle.format.specs.Book.{sizeLimit}
 use Rattle.answers.specs.Answer as Answer
 use Rattle.answers.specs.Definition.{ended, evaluate}
@@ -28,7 +29,7 @@ pub record Going (l : ℕ) (e₀ : Term) (w : List ℕ) (x : State) : Type 0 whe
   pub term : Term
   pub standing : Standing w (x .focus) term
   pub runnable : Runnable term
-  pub left : evaluate sizeLimit l 0 e₀ ≡ evaluate sizeLimit (l - x .steps) (x .steps) term
+  pub left : evaluate half sizeLimit l 0 e₀ ≡ evaluate half sizeLimit (l - x .steps) (x .steps) term
 
 -- that of every term that stood there at first, and there was one; both buffers are as long as they were
 pub record AllGoing (l : ℕ) (s₀ w₀ : List ℕ) (x₀ : Focus) (s w : List ℕ) (x : State) : Type 0 where
@@ -98,13 +99,13 @@ module _ {l : ℕ} {s₀ w₀ s w v : List ℕ} {x₀ : Focus} {x : State} {r : 
               let z : u ≡ y = cc in
               let c = x .steps in
               let c′ : y .steps ≡ suc c = ap (λ (u : State). u .steps) (sym z) ∙ j ∙ omega arith in
-              let on : evaluate sizeLimit (l - c) c (p .term) ≡ evaluate sizeLimit (l - suc c) (suc c) f =
-              ap (λ (b : ℕ). evaluate sizeLimit b c (p .term)) (omega arith) ∙ evaluate-step sizeLimit (l - suc c) c (p .term) f a d m in
+              let on : evaluate half sizeLimit (l - c) c (p .term) ≡ evaluate half sizeLimit (l - suc c) (suc c) f =
+              ap (λ (b : ℕ). evaluate half sizeLimit b c (p .term)) (omega arith) ∙ evaluate-step half sizeLimit (l - suc c) c (p .term) f a d m in
               record {
                 term = f;
                 standing = subst (λ (u : State). Standing v (u .focus) f) z i;
                 runnable = next-runnable (p .runnable) d (ltb-false sizeLimit (size f) m);
-                left = p .left ∙ on ∙ ap (λ (b : ℕ). evaluate sizeLimit (l - b) b f) (sym c′);
+                left = p .left ∙ on ∙ ap (λ (b : ℕ). evaluate half sizeLimit (l - b) b f) (sym c′);
               }
 
   -- a turn that ends the run leaves the term where it stands
@@ -133,7 +134,7 @@ module _ {l : ℕ} {s₀ w₀ s w v : List ℕ} {x₀ : Focus} {x : State} {r : 
           p : Going l e₀ w x
           p = g .says e₀ i t
 
-          done : (a : Answer.Stop) → evaluate sizeLimit (l - x .steps) (x .steps) (p .term) ≡ ended a (x .steps) (p .term) →
+          done : (a : Answer.Stop) → evaluate half sizeLimit (l - x .steps) (x .steps) (p .term) ≡ ended a (x .steps) (p .term) →
               Rattle.answers.specs.Cases.stopAnswer z ≡ Answer.stopped a (x .steps) → x .focus ≡ y → Standing v (x .focus) (p .term) →
               RunOf u l e₀ (record { stop = z; cells = m })
           done a b c e i =
@@ -150,16 +151,16 @@ module _ {l : ℕ} {s₀ w₀ s w v : List ℕ} {x₀ : Focus} {x : State} {r : 
           by (t-value a c i) =
               let b : Value (x .steps) ≡ z = cc in
               let e : x .focus ≡ y = cc in
-              done Answer.value (evaluate-value sizeLimit (l - x .steps) (x .steps) (p .term) a) (rw (← b)) e i
+              done Answer.value (evaluate-value half sizeLimit (l - x .steps) (x .steps) (p .term) a) (rw (← b)) e i
           by (t-spent a c h i) =
               let b : Spent (x .steps) ≡ z = cc in
               let e : x .focus ≡ y = cc in
               done Answer.spent
-              (ap (λ (n : ℕ). evaluate sizeLimit n (x .steps) (p .term)) (omega arith) ∙ evaluate-spent sizeLimit (x .steps) (p .term) a) (rw (← b)) e i
+              (ap (λ (n : ℕ). evaluate half sizeLimit n (x .steps) (p .term)) (omega arith) ∙ evaluate-spent half sizeLimit (x .steps) (p .term) a) (rw (← b)) e i
           by (t-room {f = f} a c h′ f′ h i) =
               let b : Room (x .steps) ≡ z = cc in
               let e : x .focus ≡ y = cc in
               done Answer.room
-              (ap (λ (n : ℕ). evaluate sizeLimit n (x .steps) (p .term)) (omega arith) ∙ evaluate-room sizeLimit (l - suc (x .steps)) (x .steps) (p .term) f a h′ f′)
+              (ap (λ (n : ℕ). evaluate half sizeLimit n (x .steps) (p .term)) (omega arith) ∙ evaluate-room half sizeLimit (l - suc (x .steps)) (x .steps) (p .term) f a h′ f′)
               (rw (← b)) e i
           by (t-next a c h′ f′ h j k i) = let x : _≡_ {A = ℕ} 0 1 = cc in absurd (omega arith)

@@ -10,7 +10,7 @@ use Rattle.calculus.specs.Syntax.{Term, unit, size}
 use Rattle.calculus.specs.Decide.{FieldPart, no-part, top-part, more-parts, one-part, fieldPart, value?, typeOf}
 use Rattle.calculus.specs.Evaluate.{next, firstPart, content, topValue, readParts, project}
 use Rattle.format.specs.Table.{term-sort, refers}
-use Rattle.format.specs.Cell.{Cell}
+use Rattle.format.specs.Cell.{Cell, half}
 use Rattle.format.specs.Terms.{fromTerm}
 use Rattle.format.proofs.Trees.{term-cells}
 use Rattle.emission.specs.Runs.{Run}
@@ -107,7 +107,7 @@ module _ {w : List ℕ} (p : Place) (t : Cell) (d : MergeAt w p t) where
   merge-value = let s = d .at .ready .standing in record { value = field-read p t (d .at) s .value; is = value-from s }
 
   -- what the read becomes, by its parts
-  parts-are : {e h : Term} (s : Standing w (Redex p) e) → next (s .focus) ≡ some h →
+  parts-are : {e h : Term} (s : Standing w (Redex p) e) → next half (s .focus) ≡ some h →
       let v = field-read p t (d .at) s .value in orElse (firstPart (content (t .label)) v) (topValue (fieldPart (t .label) (typeOf v))) ≡ some h
   parts-are s n =
       let q = field-read p t (d .at) s in
@@ -134,14 +134,14 @@ module _ {w : List ℕ} (p : Place) (t : Cell) (d : MergeAt w p t) where
 
       pub projects-part : {v : List ℕ} → Shifts w v x (p .start) (end - x) → Becomes w v p (doneAt p (p .start + (end - x)))
       unfolding size
-      projects-part {v} m = becomes p kept (omega (arith, part-range)) content-done
+      projects-part {v} m = becomes p kept (omega (arith, part-range)) (λ e s _. content-done e s)
         where
           kept : Kept w v (p .start) (suc (p .root))
           kept =
               let r = part-range in
               record { long = m .kept .long; below = m .kept .below; above = λ i h. m .kept .above i (omega (arith, h, r .some, r .left)) }
 
-          content-done : (e : Term) (s : Standing w (Redex p) e) (h : Term) → next (s .focus) ≡ some h → Reduct v (p .start) (p .start + (end - x)) (size (s .focus)) h
+          content-done : (e : Term) (s : Standing w (Redex p) e) (h : Term) → next half (s .focus) ≡ some h → Reduct v (p .start) (p .start + (end - x)) (size (s .focus)) h
           content-done e s h n =
               let q = field-read p t (d .at) s in
               let z = taken f (value-from s) c in

@@ -1,5 +1,5 @@
--- A redex that has become a value in place. A field read of the top value or of a record: the top value stays, the record loses its last cell. Assumes
--- nothing.
+-- A redex that has become a value in place: a value of one cell is written. A field read of the top value or of a record: the top value stays, the
+-- record loses its last cell. Assumes nothing.
 use Prim.Native.Nat.{ℕ, suc, _+_, _*_, _-_, _≤_, _<_}
 use native.Mathlib.Omega.{arith}
 use mathlib.Core.Path.{_≡_, refl, sym, ap, _∙_, subst}
@@ -15,25 +15,27 @@ use Rattle.calculus.specs.Evaluate.{next, project}
 use Rattle.calculus.proofs.Bools.{true-says}
 use Rattle.calculus.proofs.Tests.{value?-says}
 use Rattle.format.specs.Table.{term-sort, refers, rowOf, rowIn, table}
-use Rattle.format.specs.Cell.{Cell, cellAt, cellBytes}
+use Rattle.format.specs.Cell.{Cell, cellAt, cellBytes, half}
 use Rattle.format.specs.Tree.{kindIn}
 use Rattle.format.specs.Terms.{fromTerm}
-use Rattle.format.proofs.Trees.{term-cells}
+use Rattle.format.proofs.Trees.{term-cells, term-positive}
+use Rattle.format.proofs.Tests.{number}
 use Rattle.cells.proofs.Held.{kind-of}
-use Rattle.emission.specs.Runs.{Run, r-unused, r-refers}
+use Rattle.emission.specs.Runs.{Run, r-unused, r-plain, r-refers}
 use Rattle.emission.proofs.Runs.{nothing, ends, run-within, at-run, parts, run-kind}
 use Rattle.moving.specs.Moves.{Kept}
 use Rattle.typed_reduction.proofs.Casts.{when-some}
 use Rattle.running.specs.Waiting.{Waits, around}
 use Rattle.running.specs.Contexts.{Around, whole, frames}
-use Rattle.running.specs.Places.{RedexParts, of-anno, of-app, of-fix, of-proj, Standing, doneAt, AtRedex, Becomes, BecomesTop, RedexAt}
+use Rattle.running.specs.Places.{RedexParts, of-anno, of-app, of-fix, of-proj, of-sum, of-choice, Standing, Runnable, doneAt, Becomes, RedexAt}
+use Rattle.running.specs.Places.{SingleCell, top-cell, number-cell, SingleReady, BecomesSingle, BecomesTop}
 use Rattle.running.specs.declared.Place.{Place}
 use Rattle.running.specs.declared.Focus.{Focus}
 use Rattle.running.specs.declared.Focus.the-variants.{Redex}
 use Rattle.running.proofs.Contexts.{next-inside, framed}
 use Rattle.running.proofs.Waiting.{filled, kept-waits}
 use Rattle.running.proofs.Going.{wrote-kept}
-use Rattle.running.proofs.Entering.{Kind, k-unit, k-anno, k-app, k-proj, term-kind}
+use Rattle.running.proofs.Entering.{Kind, k-unit, k-anno, k-app, k-proj, k-sum, k-choice, term-kind}
 use Rattle.running.proofs.Ranges.{RedexRange, redex-range, redex-low, Stored, stored, start-within, kind-at, kind-not}
 
 -- the size of the whole term: the cells around the focus, and the focus
@@ -45,24 +47,20 @@ size-whole K f =
 pub redex-value : {w : List ℕ} {p : Place} {f : Term} → RedexParts w p f → value? f ≡ false
 unfolding value?
 redex-value (of-anno c v a b) = refl
-redex-value (of-app c v u a b e) = refl
+redex-value (of-app d) = refl
 redex-value (of-fix e r) = refl
 redex-value (of-proj c v a e) = refl
-
--- and has a cell
-redex-some : {w : List ℕ} {p : Place} {f : Term} → RedexParts w p f → 1 ≤ size f
-unfolding size
-redex-some (of-anno c v a b) = omega arith
-redex-some (of-app c v u a b e) = omega arith
-redex-some (of-fix e r) = omega arith
-redex-some (of-proj c v a e) = omega arith
+redex-value (of-sum d) = refl
+redex-value (of-choice c v a x y) = refl
 
 -- and is what the kind of its cell says
 pub redex-kind : {w : List ℕ} {p : Place} {f : Term} {k : ℕ} → RedexParts w p f → cellAt w (p .root) .kind ≡ k → Kind k f
 redex-kind (of-anno c v a b) e = rw (sym e ∙ kind-of c) k-anno
-redex-kind (of-app c v u a b r) e = rw (sym e ∙ kind-of c) k-app
+redex-kind (of-app d) e = rw (sym e ∙ kind-of (d .cell)) k-app
 redex-kind (of-fix s r) e = term-kind _ r e
 redex-kind (of-proj c v a r) e = rw (sym e ∙ kind-of c) k-proj
+redex-kind (of-sum d) e = rw (sym e ∙ kind-of (d .cell)) k-sum
+redex-kind (of-choice c v a x y) e = rw (sym e ∙ kind-of c) k-choice
 
 -- the field read of cell t, and its value
 pub record Read (w : List ℕ) (p : Place) (f : Term) (t : Cell) : Type 0 where
@@ -78,7 +76,7 @@ read-of p t k-proj (of-proj {v = v} c f r i) e =
     record { value = v; is = ap (λ (n : ℕ). proj n v) (sym l); final = f; run = at-run refl (sym a) refl r }
 
 -- a field read of a value, by the rule
-next-proj : (l : ℕ) (v : Term) → value? v ≡ true → next (proj l v) ≡ project l v
+next-proj : (l : ℕ) (v : Term) → value? v ≡ true → next half (proj l v) ≡ project l v
 unfolding next
 next-proj l v f = rw (f, next) refl
 
@@ -94,14 +92,15 @@ reduct-of {w} {start} {left} {f} {x = x} i j c = subst (Reduct w start left (siz
 
 -- a redex that has become such a value in place
 pub becomes : {w v : List ℕ} (p : Place) {left : ℕ} → Kept w v (p .start) (suc (p .root)) → left ≤ p .root →
-    ((e : Term) (s : Standing w (Redex p) e) (h : Term) → next (s .focus) ≡ some h → Reduct v (p .start) left (size (s .focus)) h) → Becomes w v p (doneAt p left)
-becomes {w} {v} p {left} k l c = record { says = λ e g s r n. go s n }
+    ((e : Term) (s : Standing w (Redex p) e) → Runnable e → (h : Term) → next half (s .focus) ≡ some h → Reduct v (p .start) left (size (s .focus)) h) →
+    Becomes w v p (doneAt p left)
+becomes {w} {v} p {left} k l c = record { says = λ e g s r n. go s r n }
   where
-    go : {e g : Term} → Standing w (Redex p) e → next e ≡ some g → Standing v (doneAt p left) g × (size g ≤ size e)
-    go {e} {g} s n =
+    go : {e g : Term} → Standing w (Redex p) e → Runnable e → next half e ≡ some g → Standing v (doneAt p left) g × (size g ≤ size e)
+    go {e} {g} s r n =
         let K = s .around in
-        let i = next-inside K (s .focus) g (s .proper) (redex-value (s .at .parts)) (sym (ap next (s .is)) ∙ n) in
-        let m = c e s (i .to) (i .steps) in
+        let i = next-inside K (s .focus) g (s .proper) (redex-value (s .at .parts)) (sym (ap (next half) (s .is)) ∙ n) in
+        let m = c e s r (i .to) (i .steps) in
         let a : size g ≡ size (whole K (i .to)) = ap size (i .is) in
         let b : size e ≡ size (whole K (s .focus)) = ap size (s .is) in (
           record {
@@ -126,27 +125,38 @@ becomes-at {w} {v} {p} e b = subst (Becomes w v p) (sym e) b
 pub unchanged : {w : List ℕ} (p : Place) → Kept w w (p .start) (suc (p .root))
 unchanged p = record { long = refl; below = λ i h. refl; above = λ i h. refl }
 
--- the top value, written where the redex begins
-pub becomes-top : {w v : List ℕ} {p : Place} {f : Focus} → AtRedex w p → v ≡ sets w (8 * p .start) (cellBytes (record { kind = 18; label = 0; a = 0; b = 0; c = 0 })) →
-    f ≡ doneAt p (p .start + 1) → BecomesTop w v p f
-unfolding value? fromTerm table rowIn rowOf size
-becomes-top {w} {v} {p} d o is =
-    record {
-      says = λ i. becomes-at is (becomes p kept (omega (arith, r .start, r .apart, r .right))
-          (λ e s h n. subst (Reduct v (p .start) (p .start + 1) (size (s .focus))) (i e s h n) (record { final = refl; run = top-run; small = redex-some (s .at .parts) })));
-    }
-  where
-    x : Stored w v (p .start) (record { kind = 18; label = 0; a = 0; b = 0; c = 0 })
-    x = stored _ (start-within (d .standing)) o
+-- a value of one cell, written where the redex begins
+module _ {w v : List ℕ} {p : Place} {t : Cell} (d : SingleReady w p t) (o : v ≡ sets w (8 * p .start) (cellBytes t)) where
+  x : Stored w v (p .start) t
+  x = stored _ (start-within (d .ready .standing)) o
 
-    r : RedexRange p
-    r = redex-range (d .standing .at)
+  r : RedexRange p
+  r = redex-range (d .ready .standing .at)
 
-    kept : Kept w v (p .start) (suc (p .root))
-    kept = wrote-kept (x .wrote) (omega arith) (omega (arith, r .start, r .apart, r .right))
+  kept : Kept w v (p .start) (suc (p .root))
+  kept = wrote-kept (x .wrote) (omega arith) (omega (arith, r .start, r .apart, r .right))
 
-    top-run : Run true v (p .start) (refers term-sort) (p .start + 1 - 1) (fromTerm unit) (p .start + 1)
-    top-run = at-run refl (omega arith) (omega arith) (r-refers (x .there) refl refl r-unused r-unused r-unused refl (refl, tt))
+  single-reduct : {f : Term} {n : ℕ} → SingleCell t f → 1 ≤ n → Reduct v (p .start) (p .start + 1) n f
+  unfolding value? fromTerm table rowIn rowOf size
+  single-reduct (top-cell i) l =
+      let y = rw i at (x .there) in
+      record { final = refl; run = at-run refl (omega arith) (omega arith) (r-refers y refl refl r-unused r-unused r-unused refl (refl, tt)); small = l }
+  single-reduct (number-cell {b = b} {c = c} i) l =
+      let y = rw i at (x .there) in
+      let tree = number b c (omega (arith, d .b-fits, ap (λ (c : Cell). c .b) i)) (omega (arith, d .c-fits, ap (λ (c : Cell). c .c) i)) in
+      record { final = refl; run = rw tree (at-run refl (omega arith) (omega arith) (r-refers y refl refl r-unused r-plain r-plain refl (refl, tt))); small = l }
+
+  pub becomes-single : {f : Focus} → f ≡ doneAt p (p .start + 1) → BecomesSingle w v p t f
+  becomes-single is =
+      record {
+        says = λ f c i. becomes-at is (becomes p kept (omega (arith, r .start, r .apart, r .right))
+            (λ e s r h n. subst (Reduct v (p .start) (p .start + 1) (size (s .focus))) (i e s r h n)
+            (single-reduct c (omega (arith, term-positive (s .focus), term-cells (s .focus))))));
+      }
+
+-- the top value
+pub becomes-top : {w v : List ℕ} {p : Place} {f : Focus} → BecomesSingle w v p (record { kind = 18; label = 0; a = 0; b = 0; c = 0 }) f → BecomesTop w v p f
+becomes-top b = record { says = λ i. b .says unit (top-cell refl) (λ e s r h n. i e s h n) }
 
 module _ {w : List ℕ} {start left a : ℕ} (l : ℕ) where
   reduct-top : {v : Term} (h : Term) → Run true w start (refers term-sort) a (fromTerm v) left → Kind 18 v → project l v ≡ some h →
@@ -190,16 +200,16 @@ module _ {w : List ℕ} (p : Place) (t : Cell) (d : RedexAt w p t 25) where
   left-low = let r = redex-range (d .ready .standing .at) in omega (arith, r .apart, r .right)
 
   -- what the read becomes, by the rule
-  pub project-is : {e : Term} (s : Standing w (Redex p) e) {h : Term} → next (s .focus) ≡ some h → project (t .label) (field-read s .value) ≡ some h
-  project-is s n = let q = field-read s in sym (next-proj (t .label) (q .value) (q .final)) ∙ sym (ap next (q .is)) ∙ n
+  pub project-is : {e : Term} (s : Standing w (Redex p) e) {h : Term} → next half (s .focus) ≡ some h → project (t .label) (field-read s .value) ≡ some h
+  project-is s n = let q = field-read s in sym (next-proj (t .label) (q .value) (q .final)) ∙ sym (ap (next half) (q .is)) ∙ n
 
   pub projects-top : {v : Cell} → v ≡ cellAt w (t .a) → v .kind ≡ 18 → Becomes w w p (doneAt p (p .left))
   projects-top i k =
       becomes p (unchanged p) left-low
-      (λ e s h n. let q = field-read s in reduct-of (q .is) refl (reduct-top (t .label) h (q .run) (term-kind (q .value) (q .run) (kind-at i k)) (project-is s n)))
+      (λ e s r h n. let q = field-read s in reduct-of (q .is) refl (reduct-top (t .label) h (q .run) (term-kind (q .value) (q .run) (kind-at i k)) (project-is s n)))
 
   pub projects-record : {v : Cell} → v ≡ cellAt w (t .a) → (v .kind ≡ 18 → ⊥) → (v .kind ≡ 22 → ⊥) → Becomes w w p (doneAt p (p .left - 1))
   projects-record i k m =
       becomes p (unchanged p) (omega (arith, left-low))
-      (λ e s h n. let q = field-read s in
+      (λ e s r h n. let q = field-read s in
       reduct-of (q .is) refl (reduct-record (t .label) h (value?-says (q .value) .0 (true-says _ .1 (q .final)) .1) (q .final) (q .run) (kind-not i k) (kind-not i m) (project-is s n)))

@@ -1,9 +1,12 @@
 -- Where the cells of a place lie; a cell that is read fits its fields, a cell that is written stands there. Assumes nothing.
 use Prim.Native.Nat.{ℕ, suc, _+_, _*_, _≤_, _<_}
 use native.Mathlib.Omega.{arith}
+use borrow.Author.Tests.{eq-eqb, ne-eqb}
 use mathlib.Core.Path.{_≡_, sym, ap, _∙_}
 use mathlib.Core.Logic.{_⊎_, inl, inr}
+use mathlib.Core.Bool.{Bool, true, false, cond}
 use mathlib.Core.List.{List}
+use lib.Dec.{eqb}
 use lib.ListN.{length}
 use lib.Seq.{sets}
 use Rattle.calculus.specs.Syntax.{Term}
@@ -15,7 +18,7 @@ use Rattle.emission.proofs.Runs.{grows, last, ends}
 use Rattle.moving.specs.Moves.{Wrote}
 use Rattle.moving.proofs.Writing.{wrote}
 use Rattle.running.specs.Contexts.{Around}
-use Rattle.running.specs.Places.{IsAhead, IsDone, IsRedex, RedexParts, of-anno, of-app, of-fix, of-proj, Standing, Waiting}
+use Rattle.running.specs.Places.{IsAhead, IsDone, BothDone, IsRedex, RedexParts, of-anno, of-app, of-fix, of-proj, of-sum, of-choice, Standing, thirdOf, Descending, Waiting}
 use Rattle.running.specs.declared.Place.{Place}
 use Rattle.running.specs.declared.Focus.the-variants.{Ahead, Done, Redex}
 use Rattle.running.proofs.Waiting.{waits-right}
@@ -75,11 +78,16 @@ redex-range {w} {p} {K} {f} d =
     let g = go (d .parts) in
     record { start = g .0; apart = d .apart; right = g .1; root = waits-right (d .waits); up = waits-up (d .waits) }
   where
+    both : {k : ℕ} {v u : Term} → BothDone w p k v u → (p .start ≤ p .left) × (p .right ≤ p .root)
+    both d = (omega (arith, grows (d .first), grows (d .second)), omega (arith, d .nothing))
+
     go : {f : Term} → RedexParts w p f → (p .start ≤ p .left) × (p .right ≤ p .root)
     go (of-anno c v a b) = (grows a, grows b)
-    go (of-app c v u a b e) = (omega (arith, grows a, grows b), omega (arith, e))
+    go (of-app d) = both d
     go (of-fix e r) = (omega (arith, e), last r)
     go (of-proj c v a e) = (grows a, omega (arith, e))
+    go (of-sum d) = both d
+    go (of-choice c v a x y) = (grows a, omega (arith, grows x, grows y))
 
 -- a bound by itself
 module _ {w : List ℕ} {p : Place} {K : List Around} {f : Term} where
@@ -117,11 +125,29 @@ pub read-fits : (w : List ℕ) (j : ℕ) {t : Cell} → IsBytes w → t ≡ cell
 read-fits w j y e = let f = cell-fits w y j in rw e (f .1, f .2, f .3)
 
 -- the numbers that a waiting cell gets, and those it has
-pub waiting-fits : {w : List ℕ} {p : Place} {t : Cell} → Waiting w p t → IsBytes w → (p .start < p .left) × (p .left < 8192) × (t .a < 65536) × (t .b < 65536)
+pub waiting-fits : {w : List ℕ} {p : Place} {t : Cell} → Waiting w p t → IsBytes w →
+    (p .start < p .left) × (p .left < 8192) × (t .a < 65536) × (t .b < 65536) × (t .c < 65536)
 waiting-fits {w} {p} d y =
     let r = done-range (d .ready .standing .at) in
     let f = read-fits w (p .up) y (d .cell) in
-    (r .start, omega (arith, r .apart, r .right), f .0, f .1)
+    (r .start, omega (arith, r .apart, r .right), f .0, f .1, f .2)
+
+-- field c of a cell that waits for its first part
+pub third-kept : {k c : ℕ} → k ≡ 27 → c ≡ cond (eqb k 27) c 0
+third-kept {k} h = rw (eq-eqb k 27 h)
+
+pub third-none : {k : ℕ} (c : ℕ) → (k ≡ 27 → ⊥) → 0 ≡ cond (eqb k 27) c 0
+third-none {k} c h = rw (ne-eqb k 27 h)
+
+-- the numbers of a cell that begins to wait
+pub descending-fits : {w : List ℕ} {p : Place} {t : Cell} {n : ℕ} → Descending w p t → IsBytes w → n ≡ thirdOf t → (p .up < 8192) × (t .b < 65536) × (n < 65536)
+descending-fits {w} {p} {t} d y e =
+    let f = read-fits w (p .root) y (d .cell) in
+    (above-low (ahead-range (d .ready .standing .at) .up), f .1, rw e (go (eqb (t .kind) 27) (f .2)))
+  where
+    go : (q : Bool) → t .c < 65536 → cond q (t .c) 0 < 65536
+    go true h = h
+    go false h = omega arith
 
 -- cell n holds x, all others are as they were
 pub record Stored (w v : List ℕ) (n : ℕ) (x : Cell) : Type 0 where

@@ -75,19 +75,21 @@ outward-first u = record { long = refl; unwinding = u; says = λ K t h. record {
 
 -- the cell up is written, whole again
 module _ {w : List ℕ} {up child : ℕ} {t : Cell} (d : RestoreReady w up child) (c : t ≡ cellAt w up) where
-  pub restore-fits : IsBytes w → (t .a < 65536) × (t .b < 65536) × (child < 65536)
-  restore-fits y = let f = read-fits w up y c in (f .0, f .1, child-fits d)
+  pub restore-fits : IsBytes w → (t .a < 65536) × (t .b < 65536) × (t .c < 65536) × (child < 65536)
+  restore-fits y = let f = read-fits w up y c in (f .0, f .1, f .2, child-fits d)
 
   restores : {v : List ℕ} {r o : ℕ} → ((K : List Around) (f : Tree) → Held w up child K f → RestoredTo v up o (fill (frames K) f)) → r ≡ o → Restores w v up child r
   restores {v} m i =
       let u = d .unwinding in
       subst (Restores w v up child) (sym i) (record { higher = restores-up (m (u .around) (u .tree) (u .held)); says = m })
 
-  pub first-restores : {v : List ℕ} {r : ℕ} → t .c ≡ 0 → v ≡ sets w (8 * up) (cellBytes (record { kind = t .kind; label = t .label; a = child; b = t .b; c = 0 })) → r ≡ t .a → Restores w v up child r
+  pub first-restores : {v : List ℕ} {r : ℕ} → (t .c ≡ 0) ⊎ (t .kind ≡ 27) → v ≡ sets w (8 * up) (cellBytes (record { kind = t .kind; label = t .label; a = child; b = t .b; c = t .c })) →
+      r ≡ t .a → Restores w v up child r
   first-restores z e i = let x = stored _ (restore-within d) e in restores (restores-first c (x .wrote) (d .some) z (x .there)) i
 
-  pub second-restores : {v : List ℕ} {r : ℕ} → (t .c ≡ 0 → ⊥) → v ≡ sets w (8 * up) (cellBytes (record { kind = t .kind; label = t .label; a = t .a; b = child; c = 0 })) → r ≡ t .b → Restores w v up child r
-  second-restores z e i = let x = stored _ (restore-within d) e in restores (restores-second c (x .wrote) (d .some) z (x .there)) i
+  pub second-restores : {v : List ℕ} {r : ℕ} → (t .c ≡ 0 → ⊥) → (t .kind ≡ 27 → ⊥) →
+      v ≡ sets w (8 * up) (cellBytes (record { kind = t .kind; label = t .label; a = t .a; b = child; c = 0 })) → r ≡ t .b → Restores w v up child r
+  second-restores z n e i = let x = stored _ (restore-within d) e in restores (restores-second c (x .wrote) (d .some) z n (x .there)) i
 
 pub restore-ready : {w₀ w : List ℕ} {up child around root : ℕ} → Outward w₀ up child w around root → 0 < around → RestoreReady w around root
 restore-ready o h = record { unwinding = o .unwinding; some = λ e. absurd (omega (arith, e, h)) }

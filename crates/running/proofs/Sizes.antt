@@ -9,7 +9,7 @@ use Rattle.format.proofs.Trees.{term-cells, type-cells}
 use Rattle.emission.proofs.Runs.{counts}
 use Rattle.running.specs.Waiting.{around}
 use Rattle.running.specs.Contexts.{Around, frames}
-use Rattle.running.specs.Places.{RedexParts, of-anno, of-app, of-fix, of-proj, FocusIs, Standing}
+use Rattle.running.specs.Places.{BothDone, RedexParts, of-anno, of-app, of-fix, of-proj, of-sum, of-choice, FocusIs, Standing}
 use Rattle.running.specs.declared.Place.{Place}
 use Rattle.running.specs.declared.Focus.{Focus}
 use Rattle.running.specs.declared.Focus.the-variants.{Ahead, Done, Redex, Whole}
@@ -27,12 +27,17 @@ placeOf (Whole p) = p
 abbrev pub cellsAt : Place → ℕ
 cellsAt p = p .left + (8192 - p .right)
 
+both-cells : {w : List ℕ} {p : Place} {k : ℕ} {v u : Term} → BothDone w p k v u → suc (size v + size u) + p .start + p .right ≡ p .left + suc (p .root)
+both-cells {v = v} {u} d = omega (arith, counts (d .first), counts (d .second), d .nothing, term-cells v, term-cells u)
+
 redex-cells : {w : List ℕ} {p : Place} {f : Term} → RedexParts w p f → size f + p .start + p .right ≡ p .left + suc (p .root)
 unfolding size
 redex-cells (of-anno {v = v} {A = A} c x a b) = omega (arith, counts a, counts b, term-cells v, type-cells A)
-redex-cells (of-app {v = v} {u = u} c x y a b e) = omega (arith, counts a, counts b, e, term-cells v, term-cells u)
+redex-cells (of-app d) = omega (arith, both-cells d)
 redex-cells (of-fix {e = e} {A = A} i r) = omega (arith, counts r, i, term-cells (fix e A))
 redex-cells (of-proj {v = v} c x a e) = omega (arith, counts a, e, term-cells v)
+redex-cells (of-sum d) = omega (arith, both-cells d)
+redex-cells (of-choice {v = v} {e = e} {f = f} c x a y z) = omega (arith, counts a, counts y, counts z, term-cells v, term-cells e, term-cells f)
 
 focus-cells : (w : List ℕ) (x : Focus) (K : List Around) (f : Term) → FocusIs w x K f → around (frames K) + size f ≡ cellsAt (placeOf x)
 focus-cells w (Ahead p) K f a = let r = ahead-range a in omega (arith, waiting (a .waits), counts (a .run), term-cells f, r .starts, r .right, r .root)

@@ -14,35 +14,38 @@ use Rattle.calculus.proofs.Tests.{value?-says}
 use Rattle.calculus.proofs.Soundness.{progress, step-typed}
 use Rattle.calculus.proofs.Evaluation.{next-sound, next-complete}
 use Rattle.answers.proofs.Fits.{reaches-fits}
+use Rattle.format.specs.Cell.{half}
 use Rattle.format.specs.Terms.{TermFits}
 use Rattle.format.specs.Book.{sizeLimit}
-use Rattle.running.specs.Contexts.{Around, anno-of, app-left, app-right, merge-left, merge-right, rcd-of, proj-of, plugTerm, whole, AllProper}
-use Rattle.running.specs.Places.{Runnable}
+use Rattle.running.specs.Contexts.{Around, anno-of, app-left, app-right, merge-left, merge-right, rcd-of, proj-of, sum-left, sum-right, choice-of}
+use Rattle.running.specs.Contexts.{plugTerm, whole, AllProper}
+use Rattle.running.specs.Places.{Standing, Runnable}
+use Rattle.running.specs.declared.Focus.{Focus}
 use Rattle.running.proofs.Contexts.{no-value, next-inside}
 
 -- a typed term that is no value has a successor
-pub successor : {e : Term} → Runnable e → value? e ≡ false → (f : Term) × (next e ≡ some f)
+pub successor : {e : Term} → Runnable e → value? e ≡ false → (f : Term) × (next half e ≡ some f)
 successor {e} t v = go (progress (t .typed))
   where
-    go : IsValue e ⊎ ((f : Term) × Step e f) → (f : Term) × (next e ≡ some f)
+    go : IsValue e ⊎ ((f : Term) × Step half e f) → (f : Term) × (next half e ≡ some f)
     go (inl u) = absurd (subst T v (value?-says e .1 u))
     go (inr s) = next-complete (s .1)
 
 -- it fits where the term does
-pub successor-fits : (e f : Term) → next e ≡ some f → TermFits e → TermFits f
-successor-fits e f n h = reaches-fits (r-suc r-zero (next-sound e f n)) h
+pub successor-fits : (e f : Term) → next half e ≡ some f → TermFits e → TermFits f
+successor-fits e f n h = reaches-fits (r-suc r-zero (next-sound half e f n)) h
 
 -- and can go on, if its size is within the limit
-pub next-runnable : {e f : Term} → Runnable e → next e ≡ some f → size f ≤ sizeLimit → Runnable f
+pub next-runnable : {e f : Term} → Runnable e → next half e ≡ some f → size f ≤ sizeLimit → Runnable f
 next-runnable {e} {f} t n l =
-    let y = step-typed (t .typed) (next-sound e f n) in
+    let y = step-typed (t .typed) (next-sound half e f n) in
     record { type = y .0; typed = y .1; fits = successor-fits e f n (t .fits); small = l }
 
 -- a focus that is no value has a successor of its own
-pub goes : (K : List Around) {e : Term} (f : Term) → e ≡ whole K f → AllProper K → Runnable e → value? f ≡ false → (g : Term) × (next f ≡ some g)
+pub goes : (K : List Around) {e : Term} (f : Term) → e ≡ whole K f → AllProper K → Runnable e → value? f ≡ false → (g : Term) × (next half f ≡ some g)
 goes K {e} f is p t v =
     let n = successor t (rw is (no-value K f p v)) in
-    let i = next-inside K f (n .0) p v (sym (ap next is) ∙ n .1) in
+    let i = next-inside K f (n .0) p v (sym (ap (next half) is) ∙ n .1) in
     (i .to, i .steps)
 
 -- it is no variable
@@ -50,7 +53,7 @@ pub no-variable : (K : List Around) {e : Term} (f : Term) {n : ℕ} → e ≡ wh
 unfolding value? next
 no-variable K {e} f {n} is p t q =
     let g = goes K f is p t (ap value? q) in
-    Option·none-ne-some (g .0) (sym (ap next q) ∙ g .1)
+    Option·none-ne-some (g .0) (sym (ap (next half) q) ∙ g .1)
 
 inside-fits : (F : Around) (e : Term) → TermFits (plugTerm F e) → TermFits e
 unfolding plugTerm
@@ -61,9 +64,15 @@ inside-fits (merge-left f) e h = h .0
 inside-fits (merge-right v) e h = h .1
 inside-fits (rcd-of l) e h = h .1
 inside-fits (proj-of l) e h = h .1
+inside-fits (sum-left f) e h = h .0
+inside-fits (sum-right v) e h = h .1
+inside-fits (choice-of f g) e h = h .0
 
 -- the focus fits where the whole does
 pub focus-fits : (K : List Around) (f : Term) → TermFits (whole K f) → TermFits f
 unfolding whole
 focus-fits [] f h = h
 focus-fits (F ∷ K) f h = inside-fits F f (focus-fits K (plugTerm F f) h)
+
+pub standing-fits : {w : List ℕ} {x : Focus} {e : Term} (s : Standing w x e) → Runnable e → TermFits (s .focus)
+standing-fits s r = focus-fits (s .around) (s .focus) (subst TermFits (s .is) (r .fits))

@@ -10,6 +10,7 @@ use borrow.Author.Tests.{lt-ltb, le-ltb}
 use Rattle.calculus.specs.Syntax.{Term, size}
 use Rattle.calculus.specs.Decide.{value?}
 use Rattle.calculus.specs.Evaluate.{next}
+use Rattle.format.specs.Cell.{half}
 use Rattle.format.specs.Book.{sizeLimit}
 use Rattle.answers.specs.declared.Stop.the-variants.{Value, Spent, Room}
 use Rattle.running.specs.Contexts.{Around, whole}
@@ -52,14 +53,14 @@ module _ {w : List ℕ} {y : Focus} {p : Place} (q : y ≡ Redex p) where
   redex-ready h = record { term = h .term; standing = at (h .standing); runnable = h .runnable }
 
   module _ {v : List ℕ} {o : Contracted} (c : Contracts w v p o) where
-    contracted : {e : Term} (s : Standing w y e) (r : Runnable e) → (g : Term) × (next e ≡ some g) × ContractsTo w v g o
+    contracted : {e : Term} (s : Standing w y e) (r : Runnable e) → (g : Term) × (next half e ≡ some g) × ContractsTo w v g o
     contracted {e} s r = let n = successor r (redex-none (at s)) in (n .0, n .1, c .says e (n .0) (at s) r (n .1))
 
     -- what was contracted can settle
     pub contracted-ready : {z : Focus} → FocusReady w y → o ≡ To z → FocusReady v z
     contracted-ready {z} h f = let a = contracted (h .standing) (h .runnable) in by (a .0) (a .1) (a .2)
       where
-        by : (g : Term) → next (h .term) ≡ some g → ContractsTo w v g o → FocusReady v z
+        by : (g : Term) → next half (h .term) ≡ some g → ContractsTo w v g o → FocusReady v z
         by g n (c-to {x = d} u k t) =
             let i : d ≡ z = cc in
             record { term = g; standing = subst (λ (d : Focus). Standing v d g) i t; runnable = next-runnable (h .runnable) n u }
@@ -78,7 +79,7 @@ module _ {w v : List ℕ} {x : State} {l : ℕ} {p : Place} {o : Contracted} (q 
       go : (e : Term) → Standing w (x .focus) e → Runnable e → TurnOf v (x .focus) (x .steps) l e (Ended (Room (x .steps)) (Redex p))
       go e s r = let a = contracted q c s r in by (a .0) (a .1) (a .2)
         where
-          by : (g : Term) → next e ≡ some g → ContractsTo w v g o → TurnOf v (x .focus) (x .steps) l e (Ended (Room (x .steps)) (Redex p))
+          by : (g : Term) → next half e ≡ some g → ContractsTo w v g o → TurnOf v (x .focus) (x .steps) l e (Ended (Room (x .steps)) (Redex p))
           by g n (c-to u z y) = let z : _≡_ {A = ℕ} 0 1 = cc in absurd (omega arith)
           by g n (c-full u z y) =
               t-room (redex-none (at q s)) h n (lt-ltb sizeLimit (size g) u) (ap (Ended (Room (x .steps))) (sym q)) (subst (λ (d : List ℕ). Standing d (x .focus) e) (sym y) s)
@@ -89,7 +90,7 @@ module _ {w v : List ℕ} {x : State} {l : ℕ} {p : Place} {o : Contracted} (q 
       go : (e : Term) → Standing w (x .focus) e → Runnable e → TurnOf u (x .focus) (x .steps) l e (Next (record { focus = z; steps = x .steps + 1 }))
       go e s r = let a = contracted q c s r in by (a .0) (a .1) (a .2)
         where
-          by : (g : Term) → next e ≡ some g → ContractsTo w v g o → TurnOf u (x .focus) (x .steps) l e (Next (record { focus = z; steps = x .steps + 1 }))
+          by : (g : Term) → next half e ≡ some g → ContractsTo w v g o → TurnOf u (x .focus) (x .steps) l e (Next (record { focus = z; steps = x .steps + 1 }))
           by g n (c-to {x = d} b k m) =
               let i : d ≡ y = cc in
               t-next (redex-none (at q s)) h n (le-ltb sizeLimit (size g) b) refl refl (t .settled)

@@ -1,7 +1,7 @@
 -- Waiting cells made whole, the innermost first: the whole tree stays the same, and at last the root holds it. Assumes nothing.
 use Prim.Native.Nat.{ℕ, suc, _+_, _*_, _-_, _≤_, _<_}
 use native.Mathlib.Omega.{arith}
-use mathlib.Core.Path.{_≡_, refl, sym, ap, _∙_, subst}
+use mathlib.Core.Path.{_≡_, refl, sym, _∙_, subst}
 use mathlib.Core.Logic.{_⊎_, inl, inr}
 use mathlib.Core.Bool.{false}
 use mathlib.Core.List.{List, [], _∷_}
@@ -15,11 +15,11 @@ use Rattle.cells.proofs.Held.{lower, kept-field}
 use Rattle.emission.proofs.Runs.{grows}
 use Rattle.moving.specs.Moves.{Wrote}
 use Rattle.running.specs.Waiting.{Frame, first, second, plug, fill, Waits, w-none, w-first, w-second}
-use Rattle.running.specs.Contexts.{Around, anno-of, app-left, app-right, merge-left, merge-right, rcd-of, proj-of, frame, frames}
+use Rattle.running.specs.Contexts.{Around, anno-of, app-left, app-right, merge-left, merge-right, rcd-of, proj-of, sum-left, sum-right, choice-of, frame, frames}
 use Rattle.running.specs.Places.{Held, Unwinding, RestoreReady, RestoredTo}
 use Rattle.running.proofs.Waiting.{held-less, waits-right, Restored, restore-first, restore-second, restore-rest}
 use Rattle.running.proofs.Leaving.{First, Second, waits-first, waits-second}
-use Rattle.running.proofs.Leaves.{waiting-kind, none-waits}
+use Rattle.running.proofs.Leaves.{Waiter, at-anno, at-app, at-argument, at-merge, at-merged, at-record, at-read, at-sum, at-added, at-choice, waiter, turned, none-waits}
 
 -- a cell that waits around another stands above it
 pub waits-up : {w : List ℕ} {u p q : ℕ} {K : List Frame} → Waits w u p q K → (u ≡ 0) ⊎ ((q ≤ u) × (u < 8192))
@@ -47,17 +47,18 @@ module _ {w v : List ℕ} {j : ℕ} where
       }
 
   module _ {t : Cell} (cell : t ≡ cellAt w j) (d : Wrote w v j) where
+    -- a cell that waited for its first part, whatever its kind
     first-of : {x p q k m : ℕ} {g h f : Tree} {r : Row} (F : Around) (K : List Around) → frame F ≡ first k m g h → rowOf k ≡ some r → r .a ≡ refers term-sort
-        → r .c ≡ unused → First w j p q k m g h (frames K) r → IsCell v j (t .kind) (t .label) x (t .b) 0 → HeldField false w q (refers term-sort) x f
+        → First w j p q k m g h (frames K) r → IsCell v j (t .kind) (t .label) x (t .b) (t .c) → HeldField false w q (refers term-sort) x f
         → RestoredTo v j (t .a) (fill (frames (F ∷ K)) f)
-    first-of {x} {p} {q} {k} {m} {g} {h} {f} F K i e a n y c b =
+    first-of {x} {p} {q} {k} {m} {g} {h} {f} F K i e a y c b =
         let s : t ≡ record { kind = k; label = y .l; a = y .u; b = y .b; c = y .c } = cell ∙ y .cell .is in
         let u = grows (y .second) in
         let z = grows (y .third) in
-        let c′ : IsCell v j k (y .l) x (y .b) (y .c) = subst (IsCell v j k (y .l) x (y .b)) (sym (y .unused n)) (rw s at c) in
-        let restore : Restored w v j x (frame F) = subst (Restored w v j x) (sym i) (restore-first (y .cell) e (y .label) a (y .second) (y .third) (d .long) (d .others) c′) in
+        let restore : Restored w v j x (frame F) = subst (Restored w v j x) (sym i) (restore-first (y .cell) e (y .label) a (y .second) (y .third) (d .long) (d .others) (rw s at c)) in
         rw s (restored F K restore b (omega (arith, u, z)) (omega (arith, u, z, y .low)) (y .rest))
 
+    -- a cell that waited for its second part
     second-of : {x p q k m : ℕ} {g f : Tree} {r : Row} (F : Around) (K : List Around) → frame F ≡ second k m g → rowOf k ≡ some r → r .a ≡ refers term-sort
         → r .b ≡ refers term-sort → r .c ≡ unused → Second w j p q k m g (frames K) r → IsCell v j (t .kind) (t .label) (t .a) x 0
         → HeldField false w q (refers term-sort) x f → RestoredTo v j (t .b) (fill (frames (F ∷ K)) f)
@@ -66,31 +67,44 @@ module _ {w v : List ℕ} {j : ℕ} where
         let restore : Restored w v j x (frame F) = subst (Restored w v j x) (sym i) (restore-second (y .cell) e (y .label) a o n (y .run) (y .low) (d .long) (d .others) (rw s at c)) in
         rw s (restored F K restore b (omega (arith, y .here)) (omega (arith, grows (y .run), y .low)) (y .rest))
 
+    waits-there : {x : ℕ} {f : Tree} (F : Around) (K : List Around) → Held w j x (F ∷ K) f → Waiter (t .kind) (t .c) F
+    waits-there F K h = rw cell (waiter F K (h .waits))
+
     -- it waited for its first part
-    pub restores-first : {x : ℕ} → (j ≡ 0 → ⊥) → t .c ≡ 0 → IsCell v j (t .kind) (t .label) x (t .b) 0 → (K : List Around) (f : Tree) → Held w j x K f
-        → RestoredTo v j (t .a) (fill (frames K) f)
+    pub restores-first : {x : ℕ} → (j ≡ 0 → ⊥) → (t .c ≡ 0) ⊎ (t .kind ≡ 27) → IsCell v j (t .kind) (t .label) x (t .b) (t .c) → (K : List Around) (f : Tree)
+        → Held w j x K f → RestoredTo v j (t .a) (fill (frames K) f)
     unfolding frames frame table rowIn rowOf
     restores-first j0 z c [] f h = absurd (j0 (none-waits (h .waits)))
-    restores-first j0 z c (app-right y ∷ K) f h = absurd (omega (arith, z, ap (λ (q : Cell). q .c) cell, waiting-kind (app-right y) K (h .waits) .1))
-    restores-first j0 z c (merge-right y ∷ K) f h = absurd (omega (arith, z, ap (λ (q : Cell). q .c) cell, waiting-kind (merge-right y) K (h .waits) .1))
-    restores-first j0 z c (anno-of A ∷ K) f h = first-of (anno-of A) K refl refl refl refl (waits-first (h .waits) refl) c (h .holds)
-    restores-first j0 z c (app-left y ∷ K) f h = first-of (app-left y) K refl refl refl refl (waits-first (h .waits) refl) c (h .holds)
-    restores-first j0 z c (merge-left y ∷ K) f h = first-of (merge-left y) K refl refl refl refl (waits-first (h .waits) refl) c (h .holds)
-    restores-first j0 z c (rcd-of l ∷ K) f h = first-of (rcd-of l) K refl refl refl refl (waits-first (h .waits) refl) c (h .holds)
-    restores-first j0 z c (proj-of l ∷ K) f h = first-of (proj-of l) K refl refl refl refl (waits-first (h .waits) refl) c (h .holds)
+    restores-first {x} j0 z c (F ∷ K) f h = by z
+      where
+        choice-restored : {n : ℕ} {F : Around} → Waiter 27 n F → Held w j x (F ∷ K) f → RestoredTo v j (t .a) (fill (frames (F ∷ K)) f)
+        choice-restored (at-choice {f = y} {g = i}) h = first-of (choice-of y i) K refl refl refl (waits-first (h .waits) refl) c (h .holds)
+
+        go : {k : ℕ} {F : Around} → Waiter k 0 F → Held w j x (F ∷ K) f → RestoredTo v j (t .a) (fill (frames (F ∷ K)) f)
+        go (at-anno {A}) h = first-of (anno-of A) K refl refl refl (waits-first (h .waits) refl) c (h .holds)
+        go (at-app {f = y}) h = first-of (app-left y) K refl refl refl (waits-first (h .waits) refl) c (h .holds)
+        go (at-merge {f = y}) h = first-of (merge-left y) K refl refl refl (waits-first (h .waits) refl) c (h .holds)
+        go (at-record {l}) h = first-of (rcd-of l) K refl refl refl (waits-first (h .waits) refl) c (h .holds)
+        go (at-read {l}) h = first-of (proj-of l) K refl refl refl (waits-first (h .waits) refl) c (h .holds)
+        go (at-sum {f = y}) h = first-of (sum-left y) K refl refl refl (waits-first (h .waits) refl) c (h .holds)
+        go at-choice h = choice-restored {n = 0} at-choice h
+
+        by : (t .c ≡ 0) ⊎ (t .kind ≡ 27) → RestoredTo v j (t .a) (fill (frames (F ∷ K)) f)
+        by (inl e) = go (rw e at (waits-there F K h)) h
+        by (inr e) = choice-restored (rw e at (waits-there F K h)) h
 
     -- it waited for its second part
-    pub restores-second : {x : ℕ} → (j ≡ 0 → ⊥) → (t .c ≡ 0 → ⊥) → IsCell v j (t .kind) (t .label) (t .a) x 0 → (K : List Around) (f : Tree) → Held w j x K f
-        → RestoredTo v j (t .b) (fill (frames K) f)
+    pub restores-second : {x : ℕ} → (j ≡ 0 → ⊥) → (t .c ≡ 0 → ⊥) → (t .kind ≡ 27 → ⊥) → IsCell v j (t .kind) (t .label) (t .a) x 0 → (K : List Around) (f : Tree)
+        → Held w j x K f → RestoredTo v j (t .b) (fill (frames K) f)
     unfolding frames frame table rowIn rowOf
-    restores-second j0 z c [] f h = absurd (j0 (none-waits (h .waits)))
-    restores-second j0 z c (app-right y ∷ K) f h = second-of (app-right y) K refl refl refl refl refl (waits-second (h .waits) refl) c (h .holds)
-    restores-second j0 z c (merge-right y ∷ K) f h = second-of (merge-right y) K refl refl refl refl refl (waits-second (h .waits) refl) c (h .holds)
-    restores-second j0 z c (anno-of A ∷ K) f h = absurd (z (ap (λ (q : Cell). q .c) cell ∙ waiting-kind (anno-of A) K (h .waits) .1))
-    restores-second j0 z c (app-left y ∷ K) f h = absurd (z (ap (λ (q : Cell). q .c) cell ∙ waiting-kind (app-left y) K (h .waits) .1))
-    restores-second j0 z c (merge-left y ∷ K) f h = absurd (z (ap (λ (q : Cell). q .c) cell ∙ waiting-kind (merge-left y) K (h .waits) .1))
-    restores-second j0 z c (rcd-of l ∷ K) f h = absurd (z (ap (λ (q : Cell). q .c) cell ∙ waiting-kind (rcd-of l) K (h .waits) .1))
-    restores-second j0 z c (proj-of l ∷ K) f h = absurd (z (ap (λ (q : Cell). q .c) cell ∙ waiting-kind (proj-of l) K (h .waits) .1))
+    restores-second j0 z n c [] f h = absurd (j0 (none-waits (h .waits)))
+    restores-second {x} j0 z n c (F ∷ K) f h = go n (turned z (waits-there F K h)) h
+      where
+        go : {k n : ℕ} {F : Around} → (k ≡ 27 → ⊥) → Waiter k (suc n) F → Held w j x (F ∷ K) f → RestoredTo v j (t .b) (fill (frames (F ∷ K)) f)
+        go n (at-argument {v = y}) h = second-of (app-right y) K refl refl refl refl refl (waits-second (h .waits) refl) c (h .holds)
+        go n (at-merged {v = y}) h = second-of (merge-right y) K refl refl refl refl refl (waits-second (h .waits) refl) c (h .holds)
+        go n (at-added {v = y}) h = second-of (sum-right y) K refl refl refl refl refl (waits-second (h .waits) refl) c (h .holds)
+        go n at-choice h = absurd (n refl)
 
 -- what waits around is above the cell that is whole
 pub restores-up : {v : List ℕ} {j r : ℕ} {t : Tree} → RestoredTo v j r t → (r ≡ 0) ⊎ ((j < r) × (r < 8192))

@@ -2,17 +2,18 @@
 -- cell of the term stands once. Assumes nothing.
 use Prim.Native.Nat.{ℕ, suc, _+_, _*_, _-_, _≤_, _<_}
 use mathlib.Core.Path.{_≡_}
-use mathlib.Core.Bool.{true, false}
+use mathlib.Core.Bool.{true, false, cond}
 use mathlib.Core.Logic.{_⊎_}
 use mathlib.Core.List.{List, []}
 use mathlib.Core.Option.{some}
+use lib.Dec.{eqb}
 use lib.ListN.{length}
-use Rattle.calculus.specs.Syntax.{Ty, Term, unit, anno, app, fix, proj, size}
+use Rattle.calculus.specs.Syntax.{Ty, Term, lit, unit, anno, app, fix, proj, sum, choice, size}
 use Rattle.calculus.specs.Typing.{Typed}
 use Rattle.calculus.specs.Decide.{value?}
 use Rattle.calculus.specs.Evaluate.{next}
 use Rattle.format.specs.Table.{type-sort, term-sort, refers}
-use Rattle.format.specs.Cell.{Cell, cellAt}
+use Rattle.format.specs.Cell.{Cell, cellAt, half, signed}
 use Rattle.format.specs.Tree.{Tree}
 use Rattle.format.specs.Terms.{fromType, fromTerm, TermFits}
 use Rattle.format.specs.Book.{sizeLimit}
@@ -42,18 +43,34 @@ pub record IsDone (w : List ℕ) (p : Place) (K : List Around) (f : Term) : Type
   pub waits : Waits w (p .up) (p .start) (p .right) (frames K)
   pub apart : p .left < p .right
 
--- The parts of a redex: values are done, a type and a fixpoint are to come.
+-- The cell of a redex is of kind k, and two values are done, its first part and its second.
+pub record BothDone (w : List ℕ) (p : Place) (k : ℕ) (v u : Term) : Type 0 where
+  pub label : ℕ
+  pub a : ℕ
+  pub b : ℕ
+  pub c : ℕ
+  pub end : ℕ
+  pub cell : IsCell w (p .root) k label a b c
+  pub first-value : value? v ≡ true
+  pub second-value : value? u ≡ true
+  pub first : Run true w (p .start) (refers term-sort) a (fromTerm v) end
+  pub second : Run true w end (refers term-sort) b (fromTerm u) (p .left)
+  pub nothing : p .right ≡ p .root
+
+-- The parts of a redex: values are done, a type, a fixpoint and the branches of a choice are to come.
 pub data RedexParts (w : List ℕ) (p : Place) : Term → Type 0 where
   of-anno : {l a b c : ℕ} {v : Term} {A : Ty} → IsCell w (p .root) 19 l a b c → value? v ≡ true →
       Run true w (p .start) (refers term-sort) a (fromTerm v) (p .left) → Run true w (p .right) (refers type-sort) b (fromType A) (p .root) →
       RedexParts w p (anno v A)
-  of-app : {l a b c o : ℕ} {v u : Term} → IsCell w (p .root) 20 l a b c → value? v ≡ true → value? u ≡ true →
-      Run true w (p .start) (refers term-sort) a (fromTerm v) o → Run true w o (refers term-sort) b (fromTerm u) (p .left) → p .right ≡ p .root →
-      RedexParts w p (app v u)
+  of-app : {v u : Term} → BothDone w p 20 v u → RedexParts w p (app v u)
   of-fix : {e : Term} {A : Ty} → p .start ≡ p .left → Run true w (p .right) (refers term-sort) (p .root) (fromTerm (fix e A)) (suc (p .root)) →
       RedexParts w p (fix e A)
   of-proj : {l a b c : ℕ} {v : Term} → IsCell w (p .root) 25 l a b c → value? v ≡ true →
       Run true w (p .start) (refers term-sort) a (fromTerm v) (p .left) → p .right ≡ p .root → RedexParts w p (proj l v)
+  of-sum : {v u : Term} → BothDone w p 26 v u → RedexParts w p (sum v u)
+  of-choice : {l a b c o : ℕ} {v e f : Term} → IsCell w (p .root) 27 l a b c → value? v ≡ true →
+      Run true w (p .start) (refers term-sort) a (fromTerm v) (p .left) → Run true w (p .right) (refers term-sort) b (fromTerm e) o →
+      Run true w o (refers term-sort) c (fromTerm f) (p .root) → RedexParts w p (choice v e f)
 
 -- The focus f is a redex.
 pub record IsRedex (w : List ℕ) (p : Place) (K : List Around) (f : Term) : Type 0 where
@@ -119,6 +136,10 @@ pub record Taking (w : List ℕ) (p : Place) : Type 0 where
   pub ready : Entering w p
   pub value : (cellAt w (p .root) .kind ≡ 17) ⊎ ((cellAt w (p .root) .kind ≡ 18) ⊎ (cellAt w (p .root) .kind ≡ 21))
 
+-- Field c of a cell that waits for its first part: of a choice its third part, else 0.
+abbrev pub thirdOf : Cell → ℕ
+thirdOf t = cond (eqb (t .kind) 27) (t .c) 0
+
 -- The focus, whose cell is t, is none of these and no fixpoint.
 pub record Descending (w : List ℕ) (p : Place) (t : Cell) : Type 0 where
   pub ready : Entering w p
@@ -142,22 +163,27 @@ pub record Waiting (w : List ℕ) (p : Place) (t : Cell) : Type 0 where
   pub some : p .up ≡ 0 → ⊥
   pub cell : t ≡ cellAt w (p .up)
 
--- the same, and t has no second part;
+-- the same, and t waits for one part alone;
 pub record WaitingOne (w : List ℕ) (p : Place) (t : Cell) : Type 0 where
   pub waiting : Waiting w p t
   pub no-app : t .kind ≡ 20 → ⊥
   pub no-merge : t .kind ≡ 22 → ⊥
+  pub no-sum : t .kind ≡ 26 → ⊥
 
--- t has a second part, and waits for its first;
+-- The kinds that wait for a first part and then for a second: application, merge, sum.
+abbrev pub WaitsTwice : ℕ → Type 0
+WaitsTwice k = (k ≡ 20) ⊎ ((k ≡ 22) ⊎ (k ≡ 26))
+
+-- t is of such a kind, and waits for its first part;
 pub record WaitingFirst (w : List ℕ) (p : Place) (t : Cell) : Type 0 where
   pub waiting : Waiting w p t
-  pub two : (t .kind ≡ 20) ⊎ (t .kind ≡ 22)
+  pub two : WaitsTwice (t .kind)
   pub first : t .c ≡ 0
 
 -- t waits for its second part.
 pub record WaitingSecond (w : List ℕ) (p : Place) (t : Cell) : Type 0 where
   pub waiting : Waiting w p t
-  pub two : (t .kind ≡ 20) ⊎ (t .kind ≡ 22)
+  pub two : WaitsTwice (t .kind)
   pub second : t .c ≡ 0 → ⊥
 
 -- The focus is a redex, or the whole term and a value.
@@ -178,15 +204,32 @@ doneAt p left = Done (record { left = left; start = p .start; right = p .root + 
 
 -- The redex has become a term that is no larger and has its place.
 pub record Becomes (w v : List ℕ) (p : Place) (r : Focus) : Type 0 where
-  pub says : (e g : Term) → Standing w (Redex p) e → Runnable e → next e ≡ some g → Standing v r g × (size g ≤ size e)
+  pub says : (e g : Term) → Standing w (Redex p) e → Runnable e → next half e ≡ some g → Standing v r g × (size g ≤ size e)
 
 -- The focus is a redex.
 abbrev pub AtRedex : List ℕ → Place → Type 0
 AtRedex w p = FocusReady w (Redex p)
 
+-- t is the one cell of a value: of the top value, or of a number.
+pub data SingleCell (t : Cell) : Term → Type 0 where
+  top-cell : t ≡ record { kind = 18; label = 0; a = 0; b = 0; c = 0 } → SingleCell t unit
+  number-cell : {b c : ℕ} → t ≡ record { kind = 17; label = 0; a = 0; b = b; c = c } → SingleCell t (lit (signed half (b + 65536 * c)))
+
+-- The cell t of a value of one cell, for which there is room.
+pub record SingleReady (w : List ℕ) (p : Place) (t : Cell) : Type 0 where
+  pub ready : AtRedex w p
+  pub a-fits : t .a < 65536
+  pub b-fits : t .b < 65536
+  pub c-fits : t .c < 65536
+
+-- The value x of one cell, t, is done in its place: the redex has become it, if it becomes nothing else.
+pub record BecomesSingle (w v : List ℕ) (p : Place) (t : Cell) (r : Focus) : Type 0 where
+  pub says : (x : Term) → SingleCell t x →
+      ((e : Term) (s : Standing w (Redex p) e) → Runnable e → (d : Term) → next half (s .focus) ≡ some d → x ≡ d) → Becomes w v p r
+
 -- The top value is done in its place: the redex has become it, if it becomes nothing else.
 pub record BecomesTop (w v : List ℕ) (p : Place) (r : Focus) : Type 0 where
-  pub says : ((e : Term) (s : Standing w (Redex p) e) (h : Term) → next (s .focus) ≡ some h → unit ≡ h) → Becomes w v p r
+  pub says : ((e : Term) (s : Standing w (Redex p) e) (d : Term) → next half (s .focus) ≡ some d → unit ≡ d) → Becomes w v p r
 
 -- A redex whose cell t is of kind k.
 pub record RedexAt (w : List ℕ) (p : Place) (t : Cell) (k : ℕ) : Type 0 where
@@ -264,11 +307,12 @@ pub record ContractingAnno (s w : List ℕ) (p : Place) (t : Cell) : Type 0 wher
   pub cell : t ≡ cellAt w (p .root)
   pub kind : t .kind ≡ 19
 
--- of no kind 25.
+-- a field read or a sum it is not.
 pub record Emitting (s w : List ℕ) (p : Place) (t : Cell) : Type 0 where
   pub contracting : Contracting s w p
   pub cell : t ≡ cellAt w (p .root)
-  pub kind : t .kind ≡ 25 → ⊥
+  pub no-read : t .kind ≡ 25 → ⊥
+  pub no-sum : t .kind ≡ 26 → ⊥
 
 -- The successor g of the whole term has its place, or there is no room for it, and the work buffer is as it was.
 pub data ContractsTo (w v : List ℕ) (g : Term) (r : Contracted) : Type 0 where
@@ -277,7 +321,7 @@ pub data ContractsTo (w v : List ℕ) (g : Term) (r : Contracted) : Type 0 where
 
 -- The redex is contracted.
 pub record Contracts (w v : List ℕ) (p : Place) (r : Contracted) : Type 0 where
-  pub says : (e g : Term) → Standing w (Redex p) e → Runnable e → next e ≡ some g → ContractsTo w v g r
+  pub says : (e g : Term) → Standing w (Redex p) e → Runnable e → next half e ≡ some g → ContractsTo w v g r
 
 -- The cell up waits for a tree that is held at child.
 pub record Held (w : List ℕ) (up child : ℕ) (K : List Around) (t : Tree) : Type 0 where

@@ -11,6 +11,7 @@ use Rattle.calculus.specs.Typing.{Typed}
 use Rattle.calculus.specs.Decide.{value?}
 use Rattle.calculus.specs.Evaluate.{next}
 use Rattle.format.specs.Terms.{fromTerm, TermFits}
+use Rattle.format.specs.Cell.{half}
 use Rattle.format.specs.Book.{sizeLimit}
 use Rattle.answers.specs.Answer as Answer
 use Rattle.answers.specs.Answer.{stopped}
@@ -62,9 +63,9 @@ pub record TurnReady (s w : List ℕ) (x : State) (l : ℕ) : Type 0 where
 pub data TurnOf (v : List ℕ) (x : Focus) (k l : ℕ) (e : Term) (r : Turn) : Type 0 where
   t-value : value? e ≡ true → r ≡ Ended (Value k) x → Standing v x e → TurnOf v x k l e r
   t-spent : value? e ≡ false → k ≡ l → r ≡ Ended (Spent k) x → Standing v x e → TurnOf v x k l e r
-  t-room : {f : Term} → value? e ≡ false → k < l → next e ≡ some f → ltb sizeLimit (size f) ≡ true → r ≡ Ended (Room k) x → Standing v x e →
+  t-room : {f : Term} → value? e ≡ false → k < l → next half e ≡ some f → ltb sizeLimit (size f) ≡ true → r ≡ Ended (Room k) x → Standing v x e →
       TurnOf v x k l e r
-  t-next : {f : Term} {y : State} → value? e ≡ false → k < l → next e ≡ some f → ltb sizeLimit (size f) ≡ false → r ≡ Next y →
+  t-next : {f : Term} {y : State} → value? e ≡ false → k < l → next half e ≡ some f → ltb sizeLimit (size f) ≡ false → r ≡ Next y →
       y .steps ≡ k + 1 → Settled (y .focus) → Standing v (y .focus) f → TurnOf v x k l e r
 
 -- One turn of the term that stands there.
@@ -85,7 +86,7 @@ pub record RunOf (v : List ℕ) (l : ℕ) (e : Term) (r : End) : Type 0 where
   pub stop : Answer.Stop
   pub steps : ℕ
   pub term : Term
-  pub ends : evaluate sizeLimit l 0 e ≡ ended stop steps term
+  pub ends : evaluate half sizeLimit l 0 e ≡ ended stop steps term
   pub answer : stopAnswer (r .stop) ≡ stopped stop steps
   pub encoded : EncodedTerm v (r .cells) term
 

@@ -11,14 +11,16 @@ use layout::encode_in_place;
 use moving::copy;
 use moving::place;
 use moving::shift;
+use numbers::add_held;
 use projection::Content;
 use projection::value_part;
 use reduction::emit_contractum;
+use typed_reduction::read_number;
 ghost use mathlib.Core.Path.{_≡_};
 ghost use Prim.Native.Nat.{_<_};
 ghost use Rattle.cells.specs.Coded.{asCell};
-ghost use Rattle.running.specs.Places.{Taking, Descending, Entering, Enters, Leaving, Leaves, WaitingOne, WaitingFirst, WaitingSecond, FocusReady, Settles};
-ghost use Rattle.running.specs.Places.{doneAt, AtRedex, Becomes, BecomesTop, RedexAt, MergeAt, TopAt, FunctionAt, CastsInPlace};
+ghost use Rattle.running.specs.Places.{Taking, thirdOf, Descending, Entering, Enters, Leaving, Leaves, WaitingOne, WaitingFirst, WaitingSecond, FocusReady, Settles};
+ghost use Rattle.running.specs.Places.{doneAt, AtRedex, Becomes, SingleReady, BecomesSingle, BecomesTop, RedexAt, MergeAt, TopAt, FunctionAt, CastsInPlace};
 ghost use Rattle.running.specs.Places.{Installing, Halving, Installs, Contracting, ContractingAnno, Emitting, Contracts};
 ghost use Rattle.running.specs.Places.{Unwinding, Unwinds, RestoreReady, Restores, Rebuilds};
 ghost use Rattle.running.specs.Turns.{StepReady, Starts, TurnReady, Steps, WholeReady, EncodesWhole, Runs};
@@ -38,7 +40,7 @@ pub enum Focus {
     Ahead(Place),
     // a value, done, whole
     Done(Place),
-    // a redex: its parts are done but for a type or a fixpoint, its cell is root
+    // a redex: its parts are done but for a type, a fixpoint and the branches of a choice; its cell is root
     Redex(Place),
     // a value, done, the whole term
     Whole(Place),
@@ -89,6 +91,16 @@ fn take(w: &mut [u8], p: Place) -> Focus
     })
 }
 
+// Field c of the cell t while it waits for its first part: a choice keeps its third part, of every other kind it is 0.
+fn third(t: Cell) -> usize
+    ensures { λ r. ⌜ r ≡ thirdOf (asCell t) ⌝ }
+{
+    if t.kind == 27 {
+        return t.c;
+    }
+    0
+}
+
 // The cell t of a focus that is to come waits for its first part.
 fn descend(w: &mut [u8], p: Place, t: Cell) -> Focus
     requires { ⌜ Descending (now w) p (asCell t) ⌝ }
@@ -102,7 +114,7 @@ fn descend(w: &mut [u8], p: Place, t: Cell) -> Focus
             label: t.label,
             a: p.up,
             b: t.b,
-            c: 0,
+            c: third(t),
         },
     );
     Focus::Ahead(Place {
@@ -130,7 +142,7 @@ fn enter(w: &mut [u8], p: Place) -> Focus
     }
 }
 
-// The first part of the waiting cell t is a value, and t has no second: a record is done, all else is a redex.
+// The first part of the waiting cell t is a value, and t waits for no second: a record is done, all else is a redex.
 fn single(w: &mut [u8], p: Place, t: Cell) -> Focus
     requires { ⌜ WaitingOne (now w) p (asCell t) ⌝ }
     ensures { λ r. ⌜ Leaves (now (w .entry)) (now (w .exit)) p r ⌝ }
@@ -140,7 +152,7 @@ fn single(w: &mut [u8], p: Place, t: Cell) -> Focus
         label: t.label,
         a: p.left - 1,
         b: t.b,
-        c: 0,
+        c: t.c,
     };
     if t.kind == 24 {
         write_cell(w, p.left, whole);
@@ -187,7 +199,7 @@ fn second(w: &mut [u8], p: Place, t: Cell) -> Focus
     })
 }
 
-// Both parts of the waiting cell t are values: a merge is done, an application is a redex.
+// Both parts of the waiting cell t are values: a merge is done, an application or a sum is a redex.
 fn both(w: &mut [u8], p: Place, t: Cell) -> Focus
     requires { ⌜ WaitingSecond (now w) p (asCell t) ⌝ }
     ensures { λ r. ⌜ Leaves (now (w .entry)) (now (w .exit)) p r ⌝ }
@@ -230,7 +242,7 @@ fn leave(w: &mut [u8], p: Place) -> Focus
     let t = read_cell(w, p.up);
     let kind = t.kind;
     match kind {
-        20 | 22 => {
+        20 | 22 | 26 => {
             if t.c == 0 {
                 second(w, p, t)
             } else {
@@ -279,14 +291,23 @@ fn became(p: Place, left: usize) -> Focus
     })
 }
 
+// A value of one cell, t, takes the place of the redex.
+fn become_single(w: &mut [u8], p: Place, t: Cell) -> Focus
+    requires { ⌜ SingleReady (now w) p (asCell t) ⌝ }
+    ensures { λ r. ⌜ BecomesSingle (now (w .entry)) (now (w .exit)) p (asCell t) r ⌝ }
+{
+    write_cell(w, p.start, t);
+    became(p, p.start + 1)
+}
+
 // The top value takes the place of the redex.
 fn become_top(w: &mut [u8], p: Place) -> Focus
     requires { ⌜ AtRedex (now w) p ⌝ }
     ensures { λ r. ⌜ BecomesTop (now (w .entry)) (now (w .exit)) p r ⌝ }
 {
-    write_cell(
+    become_single(
         w,
-        p.start,
+        p,
         Cell {
             kind: 18,
             label: 0,
@@ -294,8 +315,28 @@ fn become_top(w: &mut [u8], p: Place) -> Focus
             b: 0,
             c: 0,
         },
-    );
-    became(p, p.start + 1)
+    )
+}
+
+// A sum of two values, t: both are read under Int, and the number that the sum is held to takes its place.
+fn sum(w: &mut [u8], p: Place, t: Cell) -> Focus
+    requires { ⌜ RedexAt (now w) p (asCell t) 26 ⌝ }
+    ensures { λ r. ⌜ Becomes (now (w .entry)) (now (w .exit)) p r ⌝ }
+{
+    let x = read_number(w, t.a);
+    let y = read_number(w, t.b);
+    let z = add_held(x, y, 2147483648);
+    become_single(
+        w,
+        p,
+        Cell {
+            kind: 17,
+            label: 0,
+            a: 0,
+            b: z % 65536,
+            c: z / 65536,
+        },
+    )
 }
 
 // A field read of a merge, t: the content of the first part that has the field moves to where the merge begins. If no part has it, the top value.
@@ -493,6 +534,7 @@ fn contract(s: &mut [u8], w: &mut [u8], p: Place) -> Contracted
     match kind {
         19 => contract_anno(s, w, p, t),
         25 => Contracted::To(project(w, p, t)),
+        26 => Contracted::To(sum(w, p, t)),
         _ => contract_through(s, w, p, t),
     }
 }
@@ -526,7 +568,7 @@ fn restore(w: &mut [u8], up: usize, child: usize) -> usize
     ensures { λ r. ⌜ Restores (now (w .entry)) (now (w .exit)) up child r ⌝ }
 {
     let t = read_cell(w, up);
-    if t.c == 0 {
+    if t.c == 0 || t.kind == 27 {
         write_cell(
             w,
             up,
@@ -535,7 +577,7 @@ fn restore(w: &mut [u8], up: usize, child: usize) -> usize
                 label: t.label,
                 a: child,
                 b: t.b,
-                c: 0,
+                c: t.c,
             },
         );
         return t.a;

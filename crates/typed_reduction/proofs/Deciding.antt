@@ -28,7 +28,7 @@ use Rattle.emission.proofs.Runs.{holds-type, holds-term}
 use Rattle.emission.proofs.RunParts.{TwoTypes, OneType, FunctionAt, OneTerm, arrow-at, inter-at, field-at, lam-at, merge-at, rcd-at}
 use Rattle.decisions.specs.Questions.{TypesAt, TypesSay}
 use Rattle.decisions.proofs.Parts.{and-both}
-use Rattle.typed_reduction.specs.Casting.{isSome, ValueAndType, Castable, ProperAt, NoMerge, SingleAt, PartBy, FindsPart, PartOf}
+use Rattle.typed_reduction.specs.Casting.{isSome, ValueAndType, Castable, ProperAt, NoMerge, SingleAt, PartBy, FindsPart, PartOf, ValueEnds}
 use Rattle.typed_reduction.specs.declared.Part.{Part}
 use Rattle.typed_reduction.specs.declared.Part.the-variants.{At, Nothing}
 use Rattle.typed_reduction.proofs.Sizes.{sizeAt, half-smaller, field-smaller, merge-smaller, record-smaller}
@@ -148,11 +148,38 @@ module _ {s : List ℕ} {v a : ℕ} {r : Part} (f : FindsPart s v a r) where
   pub casts-nothing : r ≡ Nothing → Castable s v a false
   casts-nothing t = record { says = λ e A h k. no-part s A (cast A e) (f .says e A h k) t }
 
--- the halves of a merge at v, which are the values at p and q, under the type at a
-pub record MergeHalves (s : List ℕ) (v a p q : ℕ) : Type 0 where
-  pub first : ProperAt s p a
-  pub second : ProperAt s q a
+-- the halves of a merge at v, which are the values at p and q
+pub record MergeHalves (s : List ℕ) (v p q : ℕ) : Type 0 where
+  pub first : ValueEnds s p
+  pub second : ValueEnds s q
   pub smaller : (sizeAt s p < sizeAt s v) × (sizeAt s q < sizeAt s v)
+
+-- x stands in its cell
+pub merge-halves : {s : List ℕ} {v : ℕ} {e : Term} {x : Cell} → x ≡ cellAt s v → RunsTerm s v e → x .kind ≡ 22 → MergeHalves s v (x .a) (x .b)
+merge-halves is h = rw is λ k.
+    let m = merge-at h k in
+    record {
+      first = record { value = m .first; holds = m .holds-first };
+      second = record { value = m .second; holds = m .holds-second };
+      smaller = merge-smaller h (m .is) (m .holds-first) (m .holds-second);
+    }
+
+-- what is found of every value at p
+abbrev Finds : List ℕ → ℕ → Ty → Part → Type 0
+Finds s p A r = (e : Term) → RunsTerm s p e → PartBy s A r (cast A e)
+
+-- the left half answers first, then the right
+module _ {s : List ℕ} {v : ℕ} (A : Ty) (r : Part) (k : cellAt s v .kind ≡ 22) (o : Ordinary A) (n : ¬ TopLike A) (f : Finds s (cellAt s v .a) A r) where
+  pub part-left : {p : ℕ} → r ≡ At p → Finds s v A r
+  part-left t e h =
+      let m = merge-at h k in
+      rw (m .is, cast-merge A (m .first) (m .second) o n) (left-part s A (cast A (m .first)) (cast A (m .second)) (f (m .first) (m .holds-first)) t)
+
+  pub part-right : (t : Part) → r ≡ Nothing → Finds s (cellAt s v .b) A t → Finds s v A t
+  part-right t q g e h =
+      let m = merge-at h k in
+      rw (m .is, cast-merge A (m .first) (m .second) o n)
+      (right-part s A t (cast A (m .first)) (cast A (m .second)) (f (m .first) (m .holds-first)) q (g (m .second) (m .holds-second)))
 
 module _ {s : List ℕ} {v a : ℕ} (p : ProperAt s v a) where
   -- the same of whatever the cell of the type holds
@@ -163,7 +190,7 @@ module _ {s : List ℕ} {v a : ℕ} (p : ProperAt s v a) where
   is-proper k = rw (held-one (holds-type k) (holds-type (p .both .holds-type))) (p .proper)
 
   -- another value under the type
-  under : {w : ℕ} {e : Term} → RunsTerm s w e → ProperAt s w a
+  pub under : {w : ℕ} {e : Term} → RunsTerm s w e → ProperAt s w a
   under {e} h = record {
     both = record { value = e; type = p .both .type; holds-value = h; holds-type = p .both .holds-type };
     ordinary = p .ordinary;
@@ -171,30 +198,14 @@ module _ {s : List ℕ} {v a : ℕ} (p : ProperAt s v a) where
   }
 
   module _ {x : Cell} (is : x ≡ cellAt s v) where
-    pub merge-halves : x .kind ≡ 22 → MergeHalves s v a (x .a) (x .b)
-    merge-halves = rw is λ k.
-        let m = merge-at (p .both .holds-value) k in
-        record {
-          first = under (m .holds-first);
-          second = under (m .holds-second);
-          smaller = merge-smaller (p .both .holds-value) (m .is) (m .holds-first) (m .holds-second);
-        }
-
     pub finds-left : {r : Part} {n : ℕ} → x .kind ≡ 22 → FindsPart s (x .a) a r → r ≡ At n → FindsPart s v a r
     finds-left = rw is λ k f t. record {
-      says = λ e A h w.
-          let m = merge-at h k in
-          rw (m .is, cast-merge A (m .first) (m .second) (is-ordinary w) (is-proper w))
-          (left-part s A (cast A (m .first)) (cast A (m .second)) (f .says (m .first) A (m .holds-first) w) t);
+      says = λ e A h w. part-left A _ k (is-ordinary w) (is-proper w) (λ e h. f .says e A h w) t e h;
     }
 
     pub finds-right : {r t : Part} → x .kind ≡ 22 → FindsPart s (x .a) a r → r ≡ Nothing → FindsPart s (x .b) a t → FindsPart s v a t
     finds-right = rw is λ k f n g. record {
-      says = λ e A h w.
-          let m = merge-at h k in
-          rw (m .is, cast-merge A (m .first) (m .second) (is-ordinary w) (is-proper w))
-          (right-part s A _ (cast A (m .first)) (cast A (m .second)) (f .says (m .first) A (m .holds-first) w) n
-          (g .says (m .second) A (m .holds-second) w));
+      says = λ e A h w. part-right A _ k (is-ordinary w) (is-proper w) (λ e h. f .says e A h w) _ n (λ e h. g .says e A h w) e h;
     }
 
     pub single : (x .kind ≡ 22 → ⊥) → SingleAt s v a

@@ -30,7 +30,7 @@ use Rattle.emission.proofs.Compose.{emits-leaf}
 use Rattle.emission.proofs.Chain.{of-none, of-type, of-term, Each, Chain}
 use Rattle.emission.proofs.Runs.{holds-type, holds-term}
 use Rattle.emission.proofs.RunParts.{lam-at, arrow-at, inter-at, field-at, arrow-second, lam-second}
-use Rattle.typed_reduction.specs.Casting.{ProperAt, NoMerge, PartOf, CastReady, PartReady, EmitsCast, FunctionReady, EmitsFunction}
+use Rattle.typed_reduction.specs.Casting.{ProperAt, NoMerge, PartBy, PartOf, CastReady, PartReady, EmitsCast, FunctionReady, EmitsFunction}
 use Rattle.typed_reduction.specs.declared.Part.{Part}
 use Rattle.typed_reduction.specs.declared.Part.the-variants.{At, Nothing}
 use Rattle.typed_reduction.proofs.Sizes.{sizeAt, field-smaller}
@@ -241,11 +241,8 @@ pub record ReadBy (s : List ℕ) (p : ℕ) (A : Ty) (x : Term) : Type 0 where
 at-same : {p q : ℕ} {r : Part} → r ≡ At p → r ≡ At q → p ≡ q
 at-same e f = cc
 
-part-read : {s : List ℕ} {v a p : ℕ} {r : Part} {A : Ty} {e x : Term} → PartOf s v a r → r ≡ At p → RunsTerm s v e → RunsType s a A →
-    cast A e ≡ some x → ReadBy s p A x
-part-read {e = e} f t h k c =
-    let w = f .says e _ _ h k c in
-    record { term = w .1; holds = rw (at-same t (w .2)) (w .3); casts = w .4; single = w .5 }
+pub read-by : {s : List ℕ} {p : ℕ} {r : Part} {A : Ty} {x : Term} → r ≡ At p → PartBy s A r (some x) → ReadBy s p A x
+read-by t w = record { term = w .1; holds = rw (at-same t (w .2)) (w .3); casts = w .4; single = w .5 }
 
 under : {s : List ℕ} {p : ℕ} {A B : Ty} {x : Term} (w : ReadBy s p A x) → A ≡ B → cast B (w .term) ≡ some x
 under w e = sym (ap (λ C. cast C (w .term)) e) ∙ w .casts
@@ -286,7 +283,7 @@ pub record Found (s d : List ℕ) (v a m : ℕ) (p : ℕ) (y : Cell) : Type 0 wh
 
 module _ {s d : List ℕ} {v a m p : ℕ} {y : Cell} (g : Found s d v a m p y) where
   by-part : {A : Ty} {e x : Term} → RunsTerm s v e → RunsType s a A → cast A e ≡ some x → ReadBy s p A x
-  by-part = part-read (g .finds) (g .at)
+  by-part h k c = read-by (g .at) (g .finds .says _ _ _ h k c)
 
   own-part : ReadBy s p (g .ready .ready .both .type) (g .ready .ready .reduct)
   own-part = by-part (g .ready .ready .both .holds-value) (g .ready .ready .both .holds-type) (g .ready .ready .casts)

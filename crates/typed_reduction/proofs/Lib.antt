@@ -3,3 +3,4 @@ pub mod Single
 pub mod Deciding
 pub mod Casts
 pub mod Emitting
+pub mod Numbers

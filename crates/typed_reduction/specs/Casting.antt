@@ -1,12 +1,13 @@
 -- Reading a value under a type, each the end of a run of cells: what a call needs, and what it answers and leaves. Assumes nothing.
-use Prim.Native.Nat.{ℕ}
+use Prim.Native.Nat.{ℕ, _*_, _<_}
 use mathlib.Core.Path.{_≡_}
 use mathlib.Core.Bool.{Bool, true, false}
 use mathlib.Core.Option.{Option, none, some}
 use mathlib.Core.List.{List}
-use Rattle.calculus.specs.Syntax.{Ty, arrow, Term, lam, merge}
+use Rattle.calculus.specs.Syntax.{Ty, int, arrow, Term, lit, lam, merge}
 use Rattle.calculus.specs.Subtyping.{Ordinary, TopLike}
 use Rattle.calculus.specs.Evaluate.{cast}
+use Rattle.format.specs.Cell.{half, signed}
 use Rattle.format.specs.Terms.{fromTerm}
 use Rattle.emission.specs.Emits.{Space, Emits}
 use Rattle.emission.specs.Runs.{RunsType, RunsTerm}
@@ -89,3 +90,23 @@ pub record FunctionReady (s d : List ℕ) (p a m : ℕ) : Type 0 where
 -- The function with the output type of the other.
 pub record EmitsFunction (s d t : List ℕ) (p a m : ℕ) (r : Emitted) : Type 0 where
   pub says : (e : Term) (A B C D : Ty) → RunsTerm s p (lam e A B) → RunsType s a (arrow C D) → Emits d t m r (fromTerm (lam e A D))
+
+-- A value at v.
+pub record ValueEnds (s : List ℕ) (v : ℕ) : Type 0 where
+  pub value : Term
+  pub holds : RunsTerm s v value
+
+-- The part by which it is read under Int; none if it cannot be.
+pub record FindsNumber (s : List ℕ) (v : ℕ) (r : Part) : Type 0 where
+  pub says : (e : Term) → RunsTerm s v e → PartBy s int r (cast int e)
+
+-- A value that can be read under Int.
+pub record NumberReady (s : List ℕ) (v : ℕ) : Type 0 where
+  pub at : ValueEnds s v
+  pub reduct : Term
+  pub casts : cast int (at .value) ≡ some reduct
+
+-- The number that it is read as, stored.
+pub record ReadsNumber (s : List ℕ) (v r : ℕ) : Type 0 where
+  pub fits : r < 2 * half
+  pub says : (e x : Term) → RunsTerm s v e → cast int e ≡ some x → x ≡ lit (signed half r)

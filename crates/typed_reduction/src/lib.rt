@@ -1,4 +1,5 @@
-// Reading a value under a type. First it is decided, on the cells alone, which part of the value is read; then the reading is emitted.
+// Reading a value under a type. First it is decided, on the cells alone, which part of the value is read; then the reading is emitted, or, under
+// Int, answered as the number that it is.
 use cells::Cell;
 use cells::read_cell;
 use decisions::subtype;
@@ -9,6 +10,7 @@ use emission::finish;
 use emission::finish_top;
 ghost use Rattle.typed_reduction.specs.Casting.{ValueAndType, Castable, ProperAt, SingleAt, FindsPart, PartOf};
 ghost use Rattle.typed_reduction.specs.Casting.{CastReady, PartReady, EmitsCast, FunctionReady, EmitsFunction};
+ghost use Rattle.typed_reduction.specs.Casting.{ValueEnds, FindsNumber, NumberReady, ReadsNumber};
 
 // A part of a value.
 pub enum Part {
@@ -196,4 +198,36 @@ fn emit_part(s: &[u8], d: &mut [u8], v: usize, a: usize, m: usize) -> Emitted
             c: 0,
         },
     )
+}
+
+// The first part of the value at v that is a number: by it the value is read under Int.
+fn number_part(s: &[u8], v: usize) -> Part
+    requires { ⌜ ValueEnds (now s) v ⌝ }
+    ensures { λ r. ⌜ FindsNumber (now (s .entry)) v r ⌝ }
+{
+    let x = read_cell(s, v);
+    if x.kind == 22 {
+        let left = number_part(s, x.a);
+        let Part::Nothing = left else {
+            return left;
+        };
+        return number_part(s, x.b);
+    }
+    if x.kind == 17 {
+        Part::At(v)
+    } else {
+        Part::Nothing
+    }
+}
+
+// The number that the value at v is read as under Int, as it is stored.
+pub fn read_number(s: &[u8], v: usize) -> usize
+    requires { ⌜ NumberReady (now s) v ⌝ }
+    ensures { λ r. ⌜ ReadsNumber (now (s .entry)) v r ⌝ }
+{
+    let Part::At(p) = number_part(s, v) else {
+        return 0;
+    };
+    let x = read_cell(s, p);
+    x.b + 65536 * x.c
 }

@@ -88,16 +88,16 @@ later {s} {u} {v} {n} {k} {j} {i} {r} {F} m a q l b o = record { says = go F (a 
     go (Infer.found A) h = (h .0, h .1, h .2, omega (arith, h .3), omega (arith, h .4), same-trans q (h .5) l, h .6, h .7)
     go (Infer.refused w p) h = (h .0, h .1, h .2 ∙ ap (refused (reasonNumber w)) (follow-same q p i o))
 
--- What was found for a part at field f that is checked, carried to the whole, of type B.
-abbrev pub carried : ℕ → Ty → Infer.Found → Infer.Found
-carried f B (Infer.found A) = Infer.found B
-carried f B (Infer.refused r p) = Infer.refused r (f ∷ p)
+-- What was found for a part at field f that is checked, carried to the whole, which is as S says where the part passes.
+abbrev pub carried : ℕ → Infer.Found → Infer.Found → Infer.Found
+carried f S (Infer.found A) = S
+carried f S (Infer.refused r p) = Infer.refused r (f ∷ p)
 
-pub checked-carried : (f : ℕ) (F : Infer.Found) (A B : Ty) → checked f F A B ≡ carried f B (checkedHere F A)
+pub checked-carried : (f : ℕ) (F : Infer.Found) (A : Ty) (S : Infer.Found) → checked f F A S ≡ carried f S (checkedHere F A)
 unfolding checked
-checked-carried f (Infer.found C) A B = go (below? C A)
+checked-carried f (Infer.found C) A S = go (below? C A)
   where
-    go : (b : Bool) → cond b (Infer.found B) (Infer.refused mismatch (f ∷ [])) ≡ carried f B (cond b (Infer.found A) (Infer.refused mismatch []))
+    go : (b : Bool) → cond b S (Infer.refused mismatch (f ∷ [])) ≡ carried f S (cond b (Infer.found A) (Infer.refused mismatch []))
     go true = refl
     go false = refl
-checked-carried f (Infer.refused r p) A B = refl
+checked-carried f (Infer.refused r p) A S = refl

@@ -50,7 +50,7 @@ module _ {s u : List ℕ} {n c i x k μ : ℕ} {y : Cell} (p : Read s n c i 20 �
               let w : z .type ≡ top = top-of t j (z .holds) in
               let F = infer Γ (q .sides .second) in
               rw
-              (ap (infer Γ) (q .sides .is) ∙ ap (λ (G : Infer.Found). applied G F) (z .is ∙ ap Infer.found w) ∙ checked-carried 1 F top top)
+              (ap (infer Γ) (q .sides .is) ∙ ap (λ (G : Infer.Found). applied G F) (z .is ∙ ap Infer.found w) ∙ checked-carried 1 F top (Infer.found top))
               (carried-on F top (size d) (q .sides .right .leads) (p .ready .term-below) (z .same) (z .more) (omega (arith, q .sizes, z .less))
               (checking f′ (q .context) (q .right) (rw w at (z .holds))));
         }
@@ -79,7 +79,7 @@ module _ {s u : List ℕ} {n c i x k μ : ℕ} {y : Cell} (p : Read s n c i 20 �
         of : Known app-sides p f Γ d
         type : Arrow u x g (of .left .type)
         answer : Answer u v k (size (of .sides .second)) (y .b) r′ (checkedHere (infer Γ (of .sides .second)) (type .input))
-        is : infer Γ d ≡ carried 1 (type .output) (checkedHere (infer Γ (of .sides .second)) (type .input))
+        is : infer Γ d ≡ carried 1 (Infer.found (type .output)) (checkedHere (infer Γ (of .sides .second)) (type .input))
 
       all : {Γ : List Ty} {d : Term} → HoldsContext s c Γ → HoldsTerm s i d → Applied Γ d
       unfolding infer applied
@@ -93,7 +93,7 @@ module _ {s u : List ℕ} {n c i x k μ : ℕ} {y : Cell} (p : Read s n c i 20 �
             is =
                 ap (infer Γ) (q .sides .is)
                 ∙ ap (λ (F : Infer.Found). applied F (infer Γ (q .sides .second))) (q .left .is ∙ ap Infer.found (w .is))
-                ∙ checked-carried 1 (infer Γ (q .sides .second)) (w .input) (w .output);
+                ∙ checked-carried 1 (infer Γ (q .sides .second)) (w .input) (Infer.found (w .output));
           }
 
       pub app-right-refused : {q : Refusal} → r′ ≡ Refused q → Finds s v n c i r′

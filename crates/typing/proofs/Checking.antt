@@ -81,10 +81,10 @@ checked-type (Infer.refused w p) A C e = let z : _≡_ {A = ℕ} 0 1 = cc in abs
 
 -- The answer for the part, from a later buffer with the same first n cells, is the answer for the whole.
 pub carried-on : {s t u : List ℕ} {n k l i f j : ℕ} {r : Found} (F : Infer.Found) (A : Ty) (m : ℕ) → Leads s i f j → i < n → Same s t n → n ≤ k →
-    k + l ≤ n + m → Answer t u k l j r (checkedHere F A) → Answered s u n m i r (carried f A (checkedHere F A))
+    k + l ≤ n + m → Answer t u k l j r (checkedHere F A) → Answered s u n m i r (carried f (Infer.found A) (checkedHere F A))
 carried-on {s} {t} {u} {n} {k} {l} {i} {f} {j} {r} F A m v b p q o a = go (checkedHere F A) (checked-type F A) (a .says)
   where
-    go : (G : Infer.Found) → ((C : Ty) → G ≡ Infer.found C → C ≡ A) → Answered t u k l j r G → Answered s u n m i r (carried f A G)
+    go : (G : Infer.Found) → ((C : Ty) → G ≡ Infer.found C → C ≡ A) → Answered t u k l j r G → Answered s u n m i r (carried f (Infer.found A) G)
     go (Infer.found C) y h =
         (h .0, h .1, h .2, omega (arith, h .3), omega (arith, h .4), same-trans p (h .5) q, h .6, rw (← y C refl) (h .7))
     go (Infer.refused w c) y h = handed v b p (h .1) (record { reason = w; path = c; is = refl; says = h .2 })
@@ -111,7 +111,7 @@ anno-finds {s} {u} {n} {c} {i} p f =
     record {
       says = λ Γ e g h.
           let v = anno-of (p .cell) h (p .kind) in
-          rw (v .is, checked-carried 0 (infer Γ (v .term)) (v .type) (v .type))
+          rw (v .is, checked-carried 0 (infer Γ (v .term)) (v .type) (Infer.found (v .type)))
           (carried-on (infer Γ (v .term)) (v .type) (size (anno (v .term) (v .type))) (v .left .leads) (p .ready .term-below) (same-refl s n) (omega arith) (omega arith)
           (checking f g (v .left .holds) (v .holds)));
     }

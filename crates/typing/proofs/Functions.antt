@@ -62,7 +62,7 @@ module _ {s : List ℕ} {n c i μ : ℕ} {y : Cell} (p : Read s n c i 21 μ y) w
         input-below : y .b < n
         output-below : y .c < n
         answer : Answer t u m (size (view .body)) (y .a) r (checkedHere (infer (view .input ∷ Γ) (view .body)) (view .output))
-        is : infer Γ d ≡ carried 0 (arrow (view .input) (view .output)) (checkedHere (infer (view .input ∷ Γ) (view .body)) (view .output))
+        is : infer Γ d ≡ carried 0 (Infer.found (arrow (view .input) (view .output))) (checkedHere (infer (view .input ∷ Γ) (view .body)) (view .output))
 
       body : {Γ : List Ty} {d : Term} → HoldsContext s c Γ → HoldsTerm s i d → Body Γ d
       unfolding infer
@@ -77,7 +77,7 @@ module _ {s : List ℕ} {n c i μ : ℕ} {y : Cell} (p : Read s n c i 21 μ y) w
             answer =
                 checking f (w .holds (v .input) Γ (v .holds-input) g) (same-held (w .same) (omega (arith, v .left .leads .lower)) (v .left .holds))
                 (same-held (w .same) l (v .holds-output));
-            is = ap (infer Γ) (v .is) ∙ checked-carried 0 (infer (v .input ∷ Γ) (v .body)) (v .output) (arrow (v .input) (v .output));
+            is = ap (infer Γ) (v .is) ∙ checked-carried 0 (infer (v .input ∷ Γ) (v .body)) (v .output) (Infer.found (arrow (v .input) (v .output)));
           }
 
       pub lam-refused : {q : Refusal} → r ≡ Refused q → Finds s u n c i r
@@ -107,7 +107,7 @@ module _ {s : List ℕ} {n c i μ : ℕ} {y : Cell} (p : Read s n c i 21 μ y) w
             let S : Same s u n = same-trans (w .same) (z .same) (omega (arith, w .counts)) in
             record {
               of = v;
-              is = v .is ∙ ap (carried 0 (arrow (v .view .input) (v .view .output))) (z .is);
+              is = v .is ∙ ap (carried 0 (Infer.found (arrow (v .view .input) (v .view .output)))) (z .is);
               more = omega (arith, w .counts, z .more);
               less = omega (arith, w .counts, z .less);
               same = S;
@@ -199,7 +199,7 @@ module _ {s : List ℕ} {n c i μ : ℕ} {y : Cell} (p : Read s n c i 23 μ y) w
               let v = fix-of (p .cell) h (p .kind) in
               let b = p .ready .term-below in
               let l = same-held (w .same) (omega (arith, v .left .leads .lower)) (v .left .holds) in
-              rw (v .is, checked-carried 0 (infer (v .type ∷ Γ) (v .term)) (v .type) (v .type))
+              rw (v .is, checked-carried 0 (infer (v .type ∷ Γ) (v .term)) (v .type) (Infer.found (v .type)))
               (carried-on (infer (v .type ∷ Γ) (v .term)) (v .type) (size (fix (v .term) (v .type))) (v .left .leads) b (w .same)
               (omega (arith, w .counts)) (omega (arith, w .counts, size-positive (v .type)))
               (checking f (w .holds (v .type) Γ (v .holds) g) l (same-held (w .same) (fix-binds .type-below) (v .holds))));

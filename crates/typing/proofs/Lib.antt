@@ -9,3 +9,4 @@ pub mod Merges
 pub mod Records
 pub mod Leaves
 pub mod Fields
+pub mod Sums

@@ -225,20 +225,21 @@ none-of : (k m n : ℕ) → m ≤ k → NoneOf k m n → m + n ≤ k
 none-of k m zero h r = omega arith
 none-of k m (suc n) h r = let b = none-of k m n h (r .0) in omega (arith, r .1)
 
-exactly : {k : ℕ} → (16 ≤ k) × (k ≤ 25) → 25 ≤ k → k ≡ 25
+exactly : {k : ℕ} → (16 ≤ k) × (k ≤ 27) → 27 ≤ k → k ≡ 27
 exactly b l = omega arith
 
--- k is none of the kinds below a field read's, as finding tests them
+-- k is none of the kinds below a choice's, as finding tests them
 abbrev pub NoneBelow : ℕ → Type 0
-NoneBelow k = (((NoneOf k 16 4 × ¬ ((k ≡ 20) ⊎ (k ≡ 22))) × ¬ (k ≡ 21)) × ¬ (k ≡ 23)) × ¬ (k ≡ 24)
+NoneBelow k = (((((NoneOf k 16 4 × ¬ ((k ≡ 20) ⊎ (k ≡ 22))) × ¬ (k ≡ 21)) × ¬ (k ≡ 23)) × ¬ (k ≡ 24)) × ¬ (k ≡ 25)) × ¬ (k ≡ 26)
 
--- A term of none of the other kinds is a field read.
-pub at-last : {s : List ℕ} {n c i : ℕ} {y : Cell} → FindReady s n c i → y ≡ cellAt s i → NoneBelow (y .kind) → ReadyAt s n c i 25
+-- A term of none of the other kinds is a choice.
+pub at-last : {s : List ℕ} {n c i : ℕ} {y : Cell} → FindReady s n c i → y ≡ cellAt s i → NoneBelow (y .kind) → ReadyAt s n c i 27
 at-last {y = y} p o r =
-    let b : (16 ≤ y .kind) × (y .kind ≤ 25) = rw o (held-kinds (p .holds-term)) in
-    let u : y .kind ≡ 20 → ⊥ = λ e. r .0 .0 .0 .1 (inl e) in
-    let v : y .kind ≡ 22 → ⊥ = λ e. r .0 .0 .0 .1 (inr e) in
-    let l : 25 ≤ y .kind = none-of (y .kind) 16 9 (b .0) (((((r .0 .0 .0 .0, u), r .0 .0 .1), v), r .0 .1), r .1) in
+    let b : (16 ≤ y .kind) × (y .kind ≤ 27) = rw o (held-kinds (p .holds-term)) in
+    let q = r .0 .0 in
+    let u : y .kind ≡ 20 → ⊥ = λ e. q .0 .0 .0 .1 (inl e) in
+    let v : y .kind ≡ 22 → ⊥ = λ e. q .0 .0 .0 .1 (inr e) in
+    let l : 27 ≤ y .kind = none-of (y .kind) 16 11 (b .0) (((((((q .0 .0 .0 .0, u), q .0 .0 .1), v), q .0 .1), q .1), r .0 .1), r .1) in
     at-kind p o (exactly b l)
 
 -- A term of one of two kinds, and of the second where it is not of the first.

@@ -226,6 +226,38 @@ fn find_proj(s: &mut [u8], n: usize, c: usize, i: usize) -> Found
     Found::Refused(Refusal::Projection(i))
 }
 
+// A sum: its type, Int, in a cell more; each part is checked against it before the next is walked.
+fn find_sum(s: &mut [u8], n: usize, c: usize, i: usize) -> Found
+    requires { ⌜ ReadyAt (now s) n c i 26 ⌝ }
+    ensures { λ r. ⌜ Finds (now (s .entry)) (now (s .exit)) n c i r ⌝ }
+{
+    let t = read_cell(s, i);
+    let m = add(s, n, 1, 0, 0, 0, 0);
+    let left = check(s, m, c, t.a, n);
+    let Found::Typed(_, k) = left else {
+        return left;
+    };
+    check(s, k, c, t.b, n)
+}
+
+// A choice: the same of three parts.
+fn find_choice(s: &mut [u8], n: usize, c: usize, i: usize) -> Found
+    requires { ⌜ ReadyAt (now s) n c i 27 ⌝ }
+    ensures { λ r. ⌜ Finds (now (s .entry)) (now (s .exit)) n c i r ⌝ }
+{
+    let t = read_cell(s, i);
+    let m = add(s, n, 1, 0, 0, 0, 0);
+    let tested = check(s, m, c, t.a, n);
+    let Found::Typed(_, k) = tested else {
+        return tested;
+    };
+    let zero = check(s, k, c, t.b, n);
+    let Found::Typed(_, l) = zero else {
+        return zero;
+    };
+    check(s, l, c, t.c, n)
+}
+
 // An application or a merge.
 fn find_two(s: &mut [u8], n: usize, c: usize, i: usize) -> Found
     requires { ⌜ ReadyTwo (now s) n c i ⌝ }
@@ -269,7 +301,9 @@ pub fn find(s: &mut [u8], n: usize, c: usize, i: usize) -> Found
         21 => find_lam(s, n, c, i),
         23 => find_fix(s, n, c, i),
         24 => find_rcd(s, n, c, i),
-        _ => find_proj(s, n, c, i),
+        25 => find_proj(s, n, c, i),
+        26 => find_sum(s, n, c, i),
+        _ => find_choice(s, n, c, i),
     }
 }
 

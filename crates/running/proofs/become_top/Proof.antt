@@ -1,19 +1,12 @@
 -- `running::become_top` meets its contract. Assumes nothing.
 use native.Mathlib.Omega.{arith}
-use Rattle.running.proofs.Ranges.{redex-start, redex-low, start-within}
 use Rattle.running.proofs.Projecting.{becomes-top}
 use borrow.Author.Needs.{needs}
 use Rattle.running.proofs.become_top.Statement.{statement}
 use Rattle.running.proofs.become_top.Tie as tie
 
-write-cell-requires : tie.Need-write-cell-requires
-write-cell-requires c κs = (search start-within, omega arith)
-
-add-became : tie.Need-add-became
-add-became c = omega (arith, redex-start)
-
-became-requires : tie.Need-became-requires
-became-requires c κs = search redex-low
+become-single-requires : tie.Need-become-single-requires
+become-single-requires c κs = record { ready = search; a-fits = omega arith; b-fits = omega arith; c-fits = omega arith }
 
 same-length : tie.Need-same-length
 same-length c = search needs
@@ -23,4 +16,4 @@ returns c = search becomes-top
 
 pub become-top-spec : {M : Type 1} → statement M
 become-top-spec =
-    tie.close (tie.spec write-cell-requires add-became became-requires same-length returns)
+    tie.close (tie.spec become-single-requires same-length returns)

@@ -14,6 +14,9 @@ contract-anno-requires c κs = search
 project-requires : tie.Need-project-requires
 project-requires c κs = search
 
+sum-requires : tie.Need-sum-requires
+sum-requires c κs = search
+
 contract-through-requires : tie.Need-contract-through-requires
 contract-through-requires c κs = search
 
@@ -35,11 +38,17 @@ returns-2 c = search contracts-in-place
 same-length-4 : tie.Need-same-length-4
 same-length-4 c = search needs
 
+returns-3 : tie.Need-returns-3
+returns-3 c = search contracts-in-place
+
 same-length-5 : tie.Need-same-length-5
 same-length-5 c = search needs
 
-returns-3 : tie.Need-returns-3
-returns-3 c = search needs
+same-length-6 : tie.Need-same-length-6
+same-length-6 c = search needs
+
+returns-4 : tie.Need-returns-4
+returns-4 c = search needs
 
 pub contract-spec : {M : Type 1} → statement M
 contract-spec =
@@ -48,6 +57,7 @@ contract-spec =
     read-cell-requires
     contract-anno-requires
     project-requires
+    sum-requires
     contract-through-requires
     same-length
     same-length-2
@@ -55,5 +65,7 @@ contract-spec =
     same-length-3
     returns-2
     same-length-4
+    returns-3
     same-length-5
-    returns-3)
+    same-length-6
+    returns-4)

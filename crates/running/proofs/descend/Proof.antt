@@ -1,16 +1,19 @@
 -- `running::descend` meets its contract. Assumes nothing.
 use native.Mathlib.Omega.{arith}
-use Rattle.running.proofs.Ranges.{ahead-range, above-low, read-fits, root-within}
+use Rattle.running.proofs.Ranges.{descending-fits, root-within}
 use Rattle.running.proofs.Enters.{enters-below}
 use borrow.Author.Needs.{needs}
 use Rattle.running.proofs.descend.Statement.{statement}
 use Rattle.running.proofs.descend.Tie as tie
 
+third-requires : tie.Need-third-requires
+third-requires c κs = search needs
+
 write-cell-requires : tie.Need-write-cell-requires
 write-cell-requires c κs =
-    let d = c .before .before .pre in
-    let f = read-fits _ _ (λ i. c .before .slice-known .given i .fits) (d .cell) in
-    (search root-within, record { a = omega (arith, above-low (ahead-range (d .ready .standing .at) .up)); b = f .1; c = omega arith })
+    let at = c .before .before in
+    let f = descending-fits (at .before .pre) (λ i. at .slice-known .given i .fits) (c .third .ensures) in
+    (search root-within, omega arith)
 
 same-length : tie.Need-same-length
 same-length c = search needs
@@ -19,4 +22,5 @@ returns : tie.Need-returns
 returns c = search enters-below
 
 pub descend-spec : {M : Type 1} → statement M
-descend-spec = tie.close (tie.spec write-cell-requires same-length returns)
+descend-spec =
+    tie.close (tie.spec third-requires write-cell-requires same-length returns)

@@ -7,7 +7,7 @@ use Rattle.cells.proofs.Held.{held-within}
 use Rattle.emission.proofs.Runs.{holds-type, holds-term}
 use Rattle.typed_reduction.proofs.Sizes.{sizeAt}
 use Rattle.typed_reduction.proofs.Deciding.{casts-top, Halves, halves, casts-both, casts-not-first, proper, casts-part, casts-nothing}
-use Rattle.typed_reduction.proofs.Deciding.{MergeHalves, merge-halves, finds-left, finds-right, single, finds-none, finds-itself}
+use Rattle.typed_reduction.proofs.Deciding.{MergeHalves, merge-halves, under, finds-left, finds-right, single, finds-none, finds-itself}
 use Rattle.typed_reduction.proofs.Deciding.{CellsOf, casts-number, inputs, outputs, casts-function, casts-not-input, casts-no-function}
 use Rattle.typed_reduction.proofs.Deciding.{contents, casts-record, casts-not-label, casts-no-record}
 use Prim.Native.Nat.{ℕ, _+_, _*_, _<_}
@@ -83,8 +83,8 @@ module _ (t : ℕ) where
       (c : find-part-lts.Then1 (find-part-calls t) (find-part-at t) find-part.Post) →
       let at = at-merge c in
       let from = find-start at .args in
-      MergeHalves (from .s .now) (from .v) (from .a) (at .read-cell .result .a) (at .read-cell .result .b)
-  merged c = let at = at-merge c in merge-halves (find-start at .pre .1) (at .read-cell .ensures) (c .if1 .taken)
+      MergeHalves (from .s .now) (from .v) (at .read-cell .result .a) (at .read-cell .result .b)
+  merged c = let at = at-merge c in merge-halves (at .read-cell .ensures) (find-start at .pre .1 .both .holds-value) (c .if1 .taken)
 
   abbrev read-start : is-castable-lts.After-read-cell (is-castable-calls t) (is-castable-at t) is-castable.Post → is-castable-lts.Start (is-castable-calls t) (is-castable-at t) is-castable.Post
   read-start c = c .before .before
@@ -126,7 +126,8 @@ find-part-read-cell-requires t c κs = held-within (holds-term (c .before .pre .
 
 find-part-find-part-requires : (t : ℕ) → find-part-lts.Need-find-part-requires (find-part-calls t) (find-part-at t) find-part.Post
 find-part-find-part-requires t c κs =
-    let h = merged t c in (omega (arith, h .smaller .0, find-start t (at-merge t c) .pre .0), h .first)
+    let h = merged t c in
+    let pre = find-start t (at-merge t c) .pre in (omega (arith, h .smaller .0, pre .0), under (pre .1) (h .first .holds))
 
 find-part-enum-told : (t : ℕ) → find-part-lts.Need-enum-told (find-part-calls t) (find-part-at t) find-part.Post
 find-part-enum-told t c = search needs
@@ -144,7 +145,8 @@ find-part-returns t c =
 find-part-find-part-requires-2 : (t : ℕ) → find-part-lts.Need-find-part-requires-2 (find-part-calls t) (find-part-at t) find-part.Post
 find-part-find-part-requires-2 t c κs =
     let at = c .before .before .before in
-    let h = merged t at in (omega (arith, h .smaller .1, find-start t (at-merge t at) .pre .0), h .second)
+    let h = merged t at in
+    let pre = find-start t (at-merge t at) .pre in (omega (arith, h .smaller .1, pre .0), under (pre .1) (h .second .holds))
 
 find-part-returns-2 : (t : ℕ) → find-part-lts.Need-returns-2 (find-part-calls t) (find-part-at t) find-part.Post
 find-part-returns-2 t c =

@@ -4,7 +4,7 @@
 use native.Mathlib.Omega.{arith}
 use mathlib.Core.Path.{_∙_}
 use borrow.Author.Needs.{needs}
-use Rattle.typing.proofs.Parts.{at-kind, at-last, at-two, at-second, AtTerm, as-read, AtCell, at-cell}
+use Rattle.typing.proofs.Parts.{at-kind, at-last, at-two, at-second, room-one, AtTerm, as-read, AtCell, at-cell}
 use Rattle.typing.proofs.FirstParts.{app-first, merge-first, rcd-first, proj-first, merge-sides, right-asks, left-asks, left-refused, left-within}
 use Rattle.typing.proofs.FirstParts.{AtLeft, at-left, AtType}
 use Rattle.typing.proofs.Checking.{check-refused, check-asks, check-found, check-mismatch, AtWanted, anno-asks, anno-finds}
@@ -13,6 +13,7 @@ use Rattle.typing.proofs.Functions.{lam-binds, lam-asks, lam-refused, l
 use Rattle.typing.proofs.Merges.{merge-right-refused, merge-asks, merge-adds, merge-conflict, merge-found, AtBoth}
 use Rattle.typing.proofs.Records.{rcd-room, rcd-found}
 use Rattle.typing.proofs.Records.{proj-top, proj-asks, proj-inter, proj-found, proj-other, proj-else}
+use Rattle.typing.proofs.Sums.{sum-parts, choice-parts, AtPart, first-part, part-asks, part-refused, next-part, part-last}
 use Prim.Native.Nat.{_+_, _*_}
 use Prim.Native.Nat.{ℕ, _<_}
 use borrow.Fn.Kinds.{In}
@@ -20,27 +21,31 @@ use borrow.Fn.PlainCycle.{Measures, is, falls, and}
 use Rattle.typing.proofs.check.Kinds as check-kinds
 use Rattle.typing.proofs.find.Kinds as find-kinds
 use Rattle.typing.proofs.check.Reads as check
-use Rattle.typing.proofs.+check+find+find_anno+find_app+find_fix+find_lam+find_left+find_merge+find_proj+find_rcd+find_two.Lts-check as check-lts
+use Rattle.typing.proofs.+check+find+find_anno+find_app+find_choice+find_fix+find_lam+find_left+find_merge+find_proj+find_rcd+find_sum+find_two.Lts-check as check-lts
 use Rattle.typing.proofs.find.Reads as find
-use Rattle.typing.proofs.+check+find+find_anno+find_app+find_fix+find_lam+find_left+find_merge+find_proj+find_rcd+find_two.Lts-find as find-lts
+use Rattle.typing.proofs.+check+find+find_anno+find_app+find_choice+find_fix+find_lam+find_left+find_merge+find_proj+find_rcd+find_sum+find_two.Lts-find as find-lts
 use Rattle.typing.proofs.find_anno.Reads as find-anno
-use Rattle.typing.proofs.+check+find+find_anno+find_app+find_fix+find_lam+find_left+find_merge+find_proj+find_rcd+find_two.Lts-find_anno as find-anno-lts
+use Rattle.typing.proofs.+check+find+find_anno+find_app+find_choice+find_fix+find_lam+find_left+find_merge+find_proj+find_rcd+find_sum+find_two.Lts-find_anno as find-anno-lts
 use Rattle.typing.proofs.find_app.Reads as find-app
-use Rattle.typing.proofs.+check+find+find_anno+find_app+find_fix+find_lam+find_left+find_merge+find_proj+find_rcd+find_two.Lts-find_app as find-app-lts
+use Rattle.typing.proofs.+check+find+find_anno+find_app+find_choice+find_fix+find_lam+find_left+find_merge+find_proj+find_rcd+find_sum+find_two.Lts-find_app as find-app-lts
+use Rattle.typing.proofs.find_choice.Reads as find-choice
+use Rattle.typing.proofs.+check+find+find_anno+find_app+find_choice+find_fix+find_lam+find_left+find_merge+find_proj+find_rcd+find_sum+find_two.Lts-find_choice as find-choice-lts
 use Rattle.typing.proofs.find_fix.Reads as find-fix
-use Rattle.typing.proofs.+check+find+find_anno+find_app+find_fix+find_lam+find_left+find_merge+find_proj+find_rcd+find_two.Lts-find_fix as find-fix-lts
+use Rattle.typing.proofs.+check+find+find_anno+find_app+find_choice+find_fix+find_lam+find_left+find_merge+find_proj+find_rcd+find_sum+find_two.Lts-find_fix as find-fix-lts
 use Rattle.typing.proofs.find_lam.Reads as find-lam
-use Rattle.typing.proofs.+check+find+find_anno+find_app+find_fix+find_lam+find_left+find_merge+find_proj+find_rcd+find_two.Lts-find_lam as find-lam-lts
+use Rattle.typing.proofs.+check+find+find_anno+find_app+find_choice+find_fix+find_lam+find_left+find_merge+find_proj+find_rcd+find_sum+find_two.Lts-find_lam as find-lam-lts
 use Rattle.typing.proofs.find_left.Reads as find-left
-use Rattle.typing.proofs.+check+find+find_anno+find_app+find_fix+find_lam+find_left+find_merge+find_proj+find_rcd+find_two.Lts-find_left as find-left-lts
+use Rattle.typing.proofs.+check+find+find_anno+find_app+find_choice+find_fix+find_lam+find_left+find_merge+find_proj+find_rcd+find_sum+find_two.Lts-find_left as find-left-lts
 use Rattle.typing.proofs.find_merge.Reads as find-merge
-use Rattle.typing.proofs.+check+find+find_anno+find_app+find_fix+find_lam+find_left+find_merge+find_proj+find_rcd+find_two.Lts-find_merge as find-merge-lts
+use Rattle.typing.proofs.+check+find+find_anno+find_app+find_choice+find_fix+find_lam+find_left+find_merge+find_proj+find_rcd+find_sum+find_two.Lts-find_merge as find-merge-lts
 use Rattle.typing.proofs.find_proj.Reads as find-proj
-use Rattle.typing.proofs.+check+find+find_anno+find_app+find_fix+find_lam+find_left+find_merge+find_proj+find_rcd+find_two.Lts-find_proj as find-proj-lts
+use Rattle.typing.proofs.+check+find+find_anno+find_app+find_choice+find_fix+find_lam+find_left+find_merge+find_proj+find_rcd+find_sum+find_two.Lts-find_proj as find-proj-lts
 use Rattle.typing.proofs.find_rcd.Reads as find-rcd
-use Rattle.typing.proofs.+check+find+find_anno+find_app+find_fix+find_lam+find_left+find_merge+find_proj+find_rcd+find_two.Lts-find_rcd as find-rcd-lts
+use Rattle.typing.proofs.+check+find+find_anno+find_app+find_choice+find_fix+find_lam+find_left+find_merge+find_proj+find_rcd+find_sum+find_two.Lts-find_rcd as find-rcd-lts
+use Rattle.typing.proofs.find_sum.Reads as find-sum
+use Rattle.typing.proofs.+check+find+find_anno+find_app+find_choice+find_fix+find_lam+find_left+find_merge+find_proj+find_rcd+find_sum+find_two.Lts-find_sum as find-sum-lts
 use Rattle.typing.proofs.find_two.Reads as find-two
-use Rattle.typing.proofs.+check+find+find_anno+find_app+find_fix+find_lam+find_left+find_merge+find_proj+find_rcd+find_two.Lts-find_two as find-two-lts
+use Rattle.typing.proofs.+check+find+find_anno+find_app+find_choice+find_fix+find_lam+find_left+find_merge+find_proj+find_rcd+find_sum+find_two.Lts-find_two as find-two-lts
 use Rattle.cells.proofs.read_cell.Reads as read-cell-reads
 use Rattle.decisions.proofs.mergeable.Reads as mergeable-reads
 use Rattle.decisions.proofs.subtype.Reads as subtype-reads
@@ -51,10 +56,10 @@ use Rattle.typing.proofs.find_field.Reads as find-field-reads
 use Rattle.typing.proofs.find_lit.Reads as find-lit-reads
 use Rattle.typing.proofs.find_unit.Reads as find-unit-reads
 use Rattle.typing.proofs.find_var.Reads as find-var-reads
-use Rattle.typing.proofs.+check+find+find_anno+find_app+find_fix+find_lam+find_left+find_merge+find_proj+find_rcd+find_two.{
+use Rattle.typing.proofs.+check+find+find_anno+find_app+find_choice+find_fix+find_lam+find_left+find_merge+find_proj+find_rcd+find_sum+find_two.{
   statement,
 }
-use Rattle.typing.proofs.+check+find+find_anno+find_app+find_fix+find_lam+find_left+find_merge+find_proj+find_rcd+find_two.Tie.{
+use Rattle.typing.proofs.+check+find+find_anno+find_app+find_choice+find_fix+find_lam+find_left+find_merge+find_proj+find_rcd+find_sum+find_two.Tie.{
   close,
 }
 
@@ -84,13 +89,16 @@ abbrev check-calls : ℕ → check-lts.Claims
 check-calls t = (below 2 find.Pre t, find.Post, subtype-reads.Asked, subtype-reads.Learnt)
 
 abbrev find-calls : ℕ → find-lts.Claims
-find-calls t = (read-cell-reads.Asked, read-cell-reads.Learnt, find-var-reads.Asked, find-var-reads.Learnt, find-lit-reads.Asked, find-lit-reads.Learnt, find-unit-reads.Asked, find-unit-reads.Learnt, below 0 find-anno.Pre t, find-anno.Post, below 1 find-two.Pre t, find-two.Post, below 0 find-lam.Pre t, find-lam.Post, below 0 find-fix.Pre t, find-fix.Post, below 0 find-rcd.Pre t, find-rcd.Post, below 0 find-proj.Pre t, find-proj.Post)
+find-calls t = (read-cell-reads.Asked, read-cell-reads.Learnt, find-var-reads.Asked, find-var-reads.Learnt, find-lit-reads.Asked, find-lit-reads.Learnt, find-unit-reads.Asked, find-unit-reads.Learnt, below 0 find-anno.Pre t, find-anno.Post, below 1 find-two.Pre t, find-two.Post, below 0 find-lam.Pre t, find-lam.Post, below 0 find-fix.Pre t, find-fix.Post, below 0 find-rcd.Pre t, find-rcd.Post, below 0 find-proj.Pre t, find-proj.Post, below 0 find-sum.Pre t, find-sum.Post, below 0 find-choice.Pre t, find-choice.Post)
 
 abbrev find-anno-calls : ℕ → find-anno-lts.Claims
 find-anno-calls t = (read-cell-reads.Asked, read-cell-reads.Learnt, check-below t, check.Post)
 
 abbrev find-app-calls : ℕ → find-app-lts.Claims
 find-app-calls t = (read-cell-reads.Asked, read-cell-reads.Learnt, below 3 find-left.Pre t, find-left.Post, check-below t, check.Post)
+
+abbrev find-choice-calls : ℕ → find-choice-lts.Claims
+find-choice-calls t = (read-cell-reads.Asked, read-cell-reads.Learnt, add-reads.Asked, add-reads.Learnt, check-below t, check.Post)
 
 abbrev find-fix-calls : ℕ → find-fix-lts.Claims
 find-fix-calls t = (read-cell-reads.Asked, read-cell-reads.Learnt, bind-reads.Asked, bind-reads.Learnt, check-below t, check.Post)
@@ -109,6 +117,9 @@ find-proj-calls t = (read-cell-reads.Asked, read-cell-reads.Learnt, below 2 find
 
 abbrev find-rcd-calls : ℕ → find-rcd-lts.Claims
 find-rcd-calls t = (read-cell-reads.Asked, read-cell-reads.Learnt, below 2 find.Pre t, find.Post, add-reads.Asked, add-reads.Learnt)
+
+abbrev find-sum-calls : ℕ → find-sum-lts.Claims
+find-sum-calls t = (read-cell-reads.Asked, read-cell-reads.Learnt, add-reads.Asked, add-reads.Learnt, check-below t, check.Post)
 
 abbrev find-two-calls : ℕ → find-two-lts.Claims
 find-two-calls t = (read-cell-reads.Asked, read-cell-reads.Learnt, below 0 find-app.Pre t, find-app.Post, below 0 find-merge.Pre t, find-merge.Post)
@@ -133,6 +144,10 @@ abbrev app-read : (t : ℕ) → find-app-lts.After-read-cell (find-app-calls t) 
 app-read t c =
     let start = c .before .before .before in at-cell (as-read (start .pre .1) (start .pre .0) (c .read-cell .ensures))
 
+abbrev choice-read : (t : ℕ) → find-choice-lts.After-read-cell (find-choice-calls t) (at 0 find-choice.Pre t) find-choice.Post → AtCell 27 t
+choice-read t c =
+    let start = c .before .before .before in at-cell (as-read (start .pre .1) (start .pre .0) (c .read-cell .ensures))
+
 abbrev fix-read : (t : ℕ) → find-fix-lts.After-read-cell (find-fix-calls t) (at 0 find-fix.Pre t) find-fix.Post → AtCell 23 t
 fix-read t c =
     let start = c .before .before .before in at-cell (as-read (start .pre .1) (start .pre .0) (c .read-cell .ensures))
@@ -151,6 +166,10 @@ proj-read t c =
 
 abbrev rcd-read : (t : ℕ) → find-rcd-lts.After-read-cell (find-rcd-calls t) (at 0 find-rcd.Pre t) find-rcd.Post → AtCell 24 t
 rcd-read t c =
+    let start = c .before .before .before in at-cell (as-read (start .pre .1) (start .pre .0) (c .read-cell .ensures))
+
+abbrev sum-read : (t : ℕ) → find-sum-lts.After-read-cell (find-sum-calls t) (at 0 find-sum.Pre t) find-sum.Post → AtCell 26 t
+sum-read t c =
     let start = c .before .before .before in at-cell (as-read (start .pre .1) (start .pre .0) (c .read-cell .ensures))
 
 abbrev app-left : (t : ℕ) → find-app-lts.After-left (find-app-calls t) (at 0 find-app.Pre t) find-app.Post → AtLeft 20 t
@@ -191,14 +210,32 @@ lam-body t c =
     let bound = c .before .before .before .before in
     record { at = lam-read t (bound .before .before); t = _; u = _; m = _; answer = _; binds = bound .bind .ensures; checks = c .check .ensures; kept = c .check .kept .0 ∙ bound .bind .kept .0 }
 
+abbrev sum-first : (t : ℕ) → find-sum-lts.After-add (find-sum-calls t) (at 0 find-sum.Pre t) find-sum.Post → AtPart 26 t 0 2
+sum-first t c = first-part sum-parts (sum-read t (c .before .before)) (c .add .ensures)
+
+abbrev sum-second : (t : ℕ) → find-sum-lts.After-left (find-sum-calls t) (at 0 find-sum.Pre t) find-sum.Post → AtPart 26 t 1 1
+sum-second t c =
+    let asked = c .before .before .before .before in next-part (sum-first t (asked .before .before .before .before)) (asked .check .ensures) (c .left .given .1)
+
+abbrev choice-first : (t : ℕ) → find-choice-lts.After-add (find-choice-calls t) (at 0 find-choice.Pre t) find-choice.Post → AtPart 27 t 0 3
+choice-first t c = first-part choice-parts (choice-read t (c .before .before)) (c .add .ensures)
+
+abbrev choice-second : (t : ℕ) → find-choice-lts.After-tested (find-choice-calls t) (at 0 find-choice.Pre t) find-choice.Post → AtPart 27 t 1 2
+choice-second t c =
+    let asked = c .before .before .before .before in next-part (choice-first t (asked .before .before .before .before)) (asked .check .ensures) (c .tested .given .1)
+
+abbrev choice-third : (t : ℕ) → find-choice-lts.After-zero (find-choice-calls t) (at 0 find-choice.Pre t) find-choice.Post → AtPart 27 t 2 1
+choice-third t c =
+    let asked = c .before .before .before .before in next-part (choice-second t (asked .before .before .before)) (asked .check2 .ensures) (c .zero .given .1)
+
 abbrev check-typed : (t : ℕ) → check-lts.After-found (check-calls t) (check-at t) check.Post → AtWanted
 check-typed t c =
     let asked = c .before .before .before .before in
     record { s = _; u = _; n = _; c = _; i = _; w = _; x = _; k = _; wanted = asked .before .before .before .pre .1; found = record { answer = _; finds = asked .find .ensures; is = c .found .given .1; kept = asked .find .kept .0 } }
 
-pub +check+find+find-anno+find-app+find-fix+find-lam+find-left+find-merge+find-proj+find-rcd+find-two-spec :
+pub +check+find+find-anno+find-app+find-choice+find-fix+find-lam+find-left+find-merge+find-proj+find-rcd+find-sum+find-two-spec :
     {M : Type 1} → statement M
-+check+find+find-anno+find-app+find-fix+find-lam+find-left+find-merge+find-proj+find-rcd+find-two-spec =
++check+find+find-anno+find-app+find-choice+find-fix+find-lam+find-left+find-merge+find-proj+find-rcd+find-sum+find-two-spec =
     close
     μ-check
     (μ 2)
@@ -206,7 +243,9 @@ pub +check+find+find-anno+find-app+find-fix+find-lam+find-left+find-merge+find-p
     (μ 0)
     (μ 0)
     (μ 0)
+    (μ 0)
     (μ 3)
+    (μ 0)
     (μ 0)
     (μ 0)
     (μ 0)
@@ -232,6 +271,8 @@ pub +check+find+find-anno+find-app+find-fix+find-lam+find-left+find-merge+find-p
     (λ c κs. let p = find-read t (c .before .before) in (omega (arith, p .measure), at-kind (p .ready) (p .cell) (c .before .match .keys6)))
     (λ c κs. let p = find-read t (c .before .before) in (omega (arith, p .measure), at-kind (p .ready) (p .cell) (c .before .match .keys7)))
     (λ c κs. let p = find-read t (c .before .before) in (omega (arith, p .measure), at-kind (p .ready) (p .cell) (c .before .match .keys8)))
+    (λ c κs. let p = find-read t (c .before .before) in (omega (arith, p .measure), at-kind (p .ready) (p .cell) (c .before .match .keys9)))
+    (λ c κs. let p = find-read t (c .before .before) in (omega (arith, p .measure), at-kind (p .ready) (p .cell) (c .before .match .keys10)))
     (λ c κs. let p = find-read t (c .before .before) in (omega (arith, p .measure), at-last (p .ready) (p .cell) (c .before .match .rest)))
     (λ c. c .before .before .find-var .kept .0)
     (λ c. c .before .before .find-var .ensures)
@@ -250,7 +291,11 @@ pub +check+find+find-anno+find-app+find-fix+find-lam+find-left+find-merge+find-p
     (λ c. c .before .before .find-rcd .kept .0)
     (λ c. c .before .before .find-rcd .ensures)
     (λ c. c .before .before .find-proj .kept .0)
-    (λ c. c .before .before .find-proj .ensures))
+    (λ c. c .before .before .find-proj .ensures)
+    (λ c. c .before .before .find-sum .kept .0)
+    (λ c. c .before .before .find-sum .ensures)
+    (λ c. c .before .before .find-choice .kept .0)
+    (λ c. c .before .before .find-choice .ensures))
     (λ t. find-anno-lts.spec (find-anno-calls t) (at 0 find-anno.Pre t) find-anno.Post
     (λ c κs. omega (arith, c .before .before .pre .1 .ready))
     (λ c κs. anno-asks (anno-read t (c .before) .read))
@@ -276,6 +321,22 @@ pub +check+find+find-anno+find-app+find-fix+find-lam+find-left+find-merge+find-p
     (λ c. let checked = c .before .before .before .before in let p = app-type t (checked .before .before .before .before .before .before) in app-right-refused (p .at .at .read) (p .at .left) (p .type) (checked .before .before .if2 .left) (checked .check2 .ensures) (c .enum-told2 .given .1))
     (λ c. let checked = c .before .before .before .before .before in checked .check2 .kept .0 ∙ app-type t (checked .before .before .before .before .before .before) .at .left .kept)
     (λ c. let checked = c .before .before .before .before .before in let p = app-type t (checked .before .before .before .before .before .before) in app-found (p .at .at .read) (p .at .left) (p .type) (checked .before .before .if2 .left) (checked .check2 .ensures) (c .before .right .given .1)))
+    (λ t. find-choice-lts.spec (find-choice-calls t) (at 0 find-choice.Pre t) find-choice.Post
+    (λ c κs. omega (arith, c .before .before .pre .1 .ready))
+    (λ c κs. omega (arith, room-one (choice-read t (c .before) .read .ready)))
+    (λ c κs. part-asks (choice-first t (c .before .before .before) .turn))
+    (λ c. search needs)
+    (λ c. search needs)
+    (λ c. let checked = c .before .before .before .before in checked .check .kept .0 ∙ choice-first t (checked .before .before .before .before) .turn .same .long)
+    (λ c. let checked = c .before .before .before .before in part-refused (choice-first t (checked .before .before .before .before) .turn) (checked .check .ensures) (c .enum-told .given .1))
+    (λ c κs. part-asks (choice-second t (c .before .before) .turn))
+    (λ c. search needs)
+    (λ c. search needs)
+    (λ c. let checked = c .before .before .before .before in checked .check2 .kept .0 ∙ choice-second t (checked .before .before .before) .turn .same .long)
+    (λ c. let checked = c .before .before .before .before in part-refused (choice-second t (checked .before .before .before) .turn) (checked .check2 .ensures) (c .enum-told2 .given .1))
+    (λ c κs. part-asks (choice-third t (c .before .before) .turn))
+    (λ c. let checked = c .before .before in checked .check3 .kept .0 ∙ choice-third t (checked .before .before .before) .turn .same .long)
+    (λ c. let checked = c .before .before in part-last (choice-third t (checked .before .before .before) .turn) (checked .check3 .ensures)))
     (λ t. find-fix-lts.spec (find-fix-calls t) (at 0 find-fix.Pre t) find-fix.Post
     (λ c κs. omega (arith, c .before .before .pre .1 .ready))
     (λ c κs. fix-binds (fix-read t (c .before) .read))
@@ -353,6 +414,17 @@ pub +check+find+find-anno+find-app+find-fix+find-lam+find-left+find-merge+find-p
     (λ c κs. let p = rcd-type t (c .before) in rcd-room (p .at .at .read) (p .at .left) (p .type))
     (λ c. c .before .before .add .kept .0 ∙ rcd-type t (c .before .before .before .before) .at .left .kept)
     (λ c. let p = rcd-type t (c .before .before .before .before) in rcd-found (p .at .at .read) (p .at .left) (p .type) (c .before .before .add .ensures)))
+    (λ t. find-sum-lts.spec (find-sum-calls t) (at 0 find-sum.Pre t) find-sum.Post
+    (λ c κs. omega (arith, c .before .before .pre .1 .ready))
+    (λ c κs. omega (arith, room-one (sum-read t (c .before) .read .ready)))
+    (λ c κs. part-asks (sum-first t (c .before .before .before) .turn))
+    (λ c. search needs)
+    (λ c. search needs)
+    (λ c. let checked = c .before .before .before .before in checked .check .kept .0 ∙ sum-first t (checked .before .before .before .before) .turn .same .long)
+    (λ c. let checked = c .before .before .before .before in part-refused (sum-first t (checked .before .before .before .before) .turn) (checked .check .ensures) (c .enum-told .given .1))
+    (λ c κs. part-asks (sum-second t (c .before .before) .turn))
+    (λ c. let checked = c .before .before in checked .check2 .kept .0 ∙ sum-second t (checked .before .before .before) .turn .same .long)
+    (λ c. let checked = c .before .before in part-last (sum-second t (checked .before .before .before) .turn) (checked .check2 .ensures)))
     λ t. find-two-lts.spec (find-two-calls t) (at 1 find-two.Pre t) find-two.Post
     (λ c κs. omega (arith, c .before .before .pre .1 .ready))
     (λ c κs. let read = c .before .before .before in let start = read .before .before .before in (omega (arith, start .pre .0), at-kind (start .pre .1 .ready) (read .read-cell .ensures) (c .before .if1 .taken)))
