@@ -25,6 +25,8 @@ const COUNT: usize = 100_000;
 const SELF_TEST_COUNT: usize = 6_000;
 /// A fault is not searched in books of so many bytes, but for random ones.
 const LARGE: usize = 8_192;
+/// A fault that so many families have found is searched no further.
+const ENOUGH: usize = 2;
 /// A comparison stops after so many failed books.
 const FAILURES: usize = 3;
 /// Families, and faults, are taken side by side by so many.
@@ -204,12 +206,12 @@ fn self_test(options: &Options) -> bool {
     found == all
 }
 
-/// The families that find a fault, with the place of the first book, and the smallest of these books made smaller.
+/// The first families that find a fault, with the place of the first book in each, and the smallest of these books made smaller.
 fn found_in(fault: Fault, seed: u64, searched: &[Searched]) -> Option<String> {
     let start = Instant::now();
     let faulty = Evaluator(Some(fault));
     let comparison = Comparison::new(&faulty, false);
-    let mut finders = String::new();
+    let (mut finders, mut found) = (String::new(), 0);
     let mut smallest: Option<(&Vec<u8>, Question)> = None;
     for (name, books) in searched {
         for (place, book) in books.iter().enumerate() {
@@ -219,6 +221,10 @@ fn found_in(fault: Fault, seed: u64, searched: &[Searched]) -> Option<String> {
             if smallest.as_ref().is_none_or(|(smallest, _)| book.len() < smallest.len()) {
                 smallest = Some((book, question));
             }
+            found += 1;
+            break;
+        }
+        if found == ENOUGH {
             break;
         }
     }

@@ -28,7 +28,7 @@ use Rattle.answers.specs.Samples.{Call, Sample, called, expected, Meets,
 use Rattle.answers.specs.Samples.{equalNumbers, unequalNumbers, mergedVariable, twiceRead, identityOnMerge, identityUnderTop}
 use Rattle.answers.specs.Samples.{appliedTop, appliedNumber, hiddenField, ownFixpoint, doubled, refusals}
 use Rattle.answers.specs.Samples.{mergedField, missingField, twoFields, topLikeBesideField, topLikeFields, topLikeContent, loneTopLike, topLikeFunction, nestedParts, hiddenUnannotated, laterMerge, twoFieldsBesideTop, topLikeOtherLabel, topPart, loneFunction, loneOtherLabel, fieldReads}
-use Rattle.answers.specs.Samples.{onePlusTwo, pastUpperEnd, pastLowerEnd, atUpperEnd, atLowerEnd, bothEnds, sumOfSums, mergedSide, topPlusVariable, onePlusTop, choiceByZero, choiceByOne, choiceByMinusOne, choiceByHigh, waitingLoop, annotatedBranch, choiceByTop, topForZero, topForOther, freeInOther, sumMerged, equalBodies, exchangedBodies, triangle, sumNamesC, labelledSum, labelledChoice, choiceOfItself, choiceOfType, unknownKind, sumsAndChoices}
+use Rattle.answers.specs.Samples.{onePlusTwo, pastUpperEnd, pastLowerEnd, atUpperEnd, atLowerEnd, bothEnds, sumOfSums, mergedSide, mergedRightSide, topPlusVariable, onePlusTop, choiceByZero, choiceByOne, choiceByMinusOne, choiceByHigh, waitingLoop, annotatedBranch, choiceByTop, topForZero, topForOther, freeInOther, sumMerged, equalBodies, exchangedBodies, equalChoices, exchangedChoices, otherThirdPart, choiceInBody, sumInBody, triangle, sumNamesC, labelledSum, labelledChoice, choiceOfItself, choiceOfType, unknownKind, sumsAndChoices}
 
 -- to name it on a line is to unfold every definition that a computation of an answer meets, but for the zero tail
 unfoldable pub computing : ℕ
@@ -76,7 +76,7 @@ pub field-reads-hold : All (Meets definition) fieldReads
 field-reads-hold = each fieldReads field-reads-computed
 
 sums-and-choices-computed : map answered sumsAndChoices ≡ map expected sumsAndChoices
-unfolding computing answered sumsAndChoices onePlusTwo pastUpperEnd pastLowerEnd atUpperEnd atLowerEnd bothEnds sumOfSums mergedSide topPlusVariable onePlusTop choiceByZero choiceByOne choiceByMinusOne choiceByHigh waitingLoop annotatedBranch choiceByTop topForZero topForOther freeInOther sumMerged equalBodies exchangedBodies triangle sumNamesC labelledSum labelledChoice choiceOfItself choiceOfType unknownKind
+unfolding computing answered sumsAndChoices onePlusTwo pastUpperEnd pastLowerEnd atUpperEnd atLowerEnd bothEnds sumOfSums mergedSide mergedRightSide topPlusVariable onePlusTop choiceByZero choiceByOne choiceByMinusOne choiceByHigh waitingLoop annotatedBranch choiceByTop topForZero topForOther freeInOther sumMerged equalBodies exchangedBodies equalChoices exchangedChoices otherThirdPart choiceInBody sumInBody triangle sumNamesC labelledSum labelledChoice choiceOfItself choiceOfType unknownKind
 sums-and-choices-computed = refl
 
 pub sums-and-choices-hold : All (Meets definition) sumsAndChoices

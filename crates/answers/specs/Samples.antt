@@ -490,6 +490,17 @@ mergedSide =
     ++ line 26 0 3 0 4 0 0 0
     ++ line 240 1 6 0 5 0 0 0
 
+-- the right side may be a merge too
+unfoldable pub mergedRightSide : List ℕ
+mergedRightSide =
+    line 17 0 0 0 2 0 0 0
+    ++ line 17 0 0 0 1 0 0 0
+    ++ line 17 0 0 0 5 0 0 0
+    ++ line 24 7 2 0 0 0 0 0
+    ++ line 22 0 1 0 3 0 0 0
+    ++ line 26 0 0 0 4 0 0 0
+    ++ line 240 1 6 0 5 0 0 0
+
 -- "Typing checks each part before it walks the next."
 unfoldable pub topPlusVariable : List ℕ
 topPlusVariable =
@@ -506,7 +517,7 @@ onePlusTop =
     ++ line 26 0 0 0 1 0 0 0
     ++ line 240 1 3 0 2 0 0 0
 
--- "the choice becomes b for zero
+-- "the choice becomes b for zero and c for anything else"
 unfoldable pub choiceByZero : List ℕ
 choiceByZero =
     line 17 0 0 0 0 0 0 0
@@ -515,7 +526,7 @@ choiceByZero =
     ++ line 27 0 0 0 1 0 2 0
     ++ line 240 1 4 0 3 0 0 0
 
--- and c for anything else,
+-- one is not zero
 unfoldable pub choiceByOne : List ℕ
 choiceByOne =
     line 17 0 0 0 1 0 0 0
@@ -524,7 +535,7 @@ choiceByOne =
     ++ line 27 0 0 0 1 0 2 0
     ++ line 240 1 4 0 3 0 0 0
 
--- a negative number too,
+-- nor is a negative number
 unfoldable pub choiceByMinusOne : List ℕ
 choiceByMinusOne =
     line 17 0 0 0 255 255 255 255
@@ -533,7 +544,7 @@ choiceByMinusOne =
     ++ line 27 0 0 0 1 0 2 0
     ++ line 240 1 4 0 3 0 0 0
 
--- whatever its low 16 bits are
+-- nor one whose low 16 bits are 0
 unfoldable pub choiceByHigh : List ℕ
 choiceByHigh =
     line 17 0 0 0 0 0 1 0
@@ -643,6 +654,78 @@ exchangedBodies =
     ++ line 22 0 4 0 8 0 0 0
     ++ line 240 1 10 0 9 0 0 0
 
+-- and so are bodies with choices
+unfoldable pub equalChoices : List ℕ
+equalChoices =
+    line 1 0 0 0 0 0 0 0
+    ++ line 16 0 0 0 0 0 0 0
+    ++ line 17 0 0 0 1 0 0 0
+    ++ line 17 0 0 0 2 0 0 0
+    ++ line 27 0 1 0 2 0 3 0
+    ++ line 21 0 4 0 0 0 0 0
+    ++ line 2 0 0 0 0 0 0 0
+    ++ line 4 0 0 0 6 0 0 0
+    ++ line 21 0 4 0 0 0 7 0
+    ++ line 22 0 5 0 8 0 0 0
+    ++ line 240 1 10 0 9 0 0 0
+
+-- with the branches exchanged it is another body
+unfoldable pub exchangedChoices : List ℕ
+exchangedChoices =
+    line 1 0 0 0 0 0 0 0
+    ++ line 16 0 0 0 0 0 0 0
+    ++ line 17 0 0 0 1 0 0 0
+    ++ line 17 0 0 0 2 0 0 0
+    ++ line 27 0 1 0 2 0 3 0
+    ++ line 21 0 4 0 0 0 0 0
+    ++ line 2 0 0 0 0 0 0 0
+    ++ line 4 0 0 0 6 0 0 0
+    ++ line 27 0 1 0 3 0 2 0
+    ++ line 21 0 8 0 0 0 7 0
+    ++ line 22 0 5 0 9 0 0 0
+    ++ line 240 1 11 0 10 0 0 0
+
+-- so it is with another third part
+unfoldable pub otherThirdPart : List ℕ
+otherThirdPart =
+    line 1 0 0 0 0 0 0 0
+    ++ line 16 0 0 0 0 0 0 0
+    ++ line 17 0 0 0 1 0 0 0
+    ++ line 17 0 0 0 2 0 0 0
+    ++ line 27 0 1 0 2 0 3 0
+    ++ line 21 0 4 0 0 0 0 0
+    ++ line 2 0 0 0 0 0 0 0
+    ++ line 4 0 0 0 6 0 0 0
+    ++ line 27 0 1 0 2 0 2 0
+    ++ line 21 0 8 0 0 0 7 0
+    ++ line 22 0 5 0 9 0 0 0
+    ++ line 240 1 11 0 10 0 0 0
+
+-- what is substituted goes to where the variable stands
+unfoldable pub choiceInBody : List ℕ
+choiceInBody =
+    line 1 0 0 0 0 0 0 0
+    ++ line 17 0 0 0 0 0 0 0
+    ++ line 16 0 0 0 0 0 0 0
+    ++ line 17 0 0 0 7 0 0 0
+    ++ line 27 0 1 0 2 0 3 0
+    ++ line 21 0 4 0 0 0 0 0
+    ++ line 17 0 0 0 5 0 0 0
+    ++ line 20 0 5 0 6 0 0 0
+    ++ line 240 1 8 0 7 0 0 0
+
+-- of a sum too
+unfoldable pub sumInBody : List ℕ
+sumInBody =
+    line 1 0 0 0 0 0 0 0
+    ++ line 16 0 0 0 0 0 0 0
+    ++ line 17 0 0 0 2 0 0 0
+    ++ line 26 0 1 0 2 0 0 0
+    ++ line 21 0 3 0 0 0 0 0
+    ++ line 17 0 0 0 1 0 0 0
+    ++ line 20 0 4 0 5 0 0 0
+    ++ line 240 1 7 0 6 0 0 0
+
 -- a fixpoint that counts: x + .. + 1
 unfoldable pub triangle : List ℕ
 triangle =
@@ -719,9 +802,11 @@ sumsAndChoices =
     ∷ sample "(1 + 2) + (3 + 4)" sumOfSums (run 1) (stopped spent 1) (line 17 0 0 0 3 0 0 0 ++ line 17 0 0 0 3 0 0 0 ++ line 17 0 0 0 4 0 0 0 ++ line 26 0 1 0 2 0 0 0 ++ line 26 0 0 0 3 0 0 0 ++ line 240 1 5 0 4 0 0 0)
     ∷ sample "(1 + 2) + (3 + 4)" sumOfSums (run 3) (stopped value 3) (line 17 0 0 0 10 0 0 0 ++ line 240 1 1 0 0 0 0 0)
     ∷ sample "(1 merged with {7 = 5}) + 2" mergedSide (run 1) (stopped value 1) (line 17 0 0 0 3 0 0 0 ++ line 240 1 1 0 0 0 0 0)
+    ∷ sample "2 + (1 merged with {7 = 5})" mergedRightSide (run 1) (stopped value 1) (line 17 0 0 0 3 0 0 0 ++ line 240 1 1 0 0 0 0 0)
     ∷ sample "the top value + a free variable" topPlusVariable check (refused 15 0) []
     ∷ sample "1 + the top value" onePlusTop check (refused 15 1) []
     ∷ sample "if 0 then 5 else 7" choiceByZero check (accepted 1) (line 1 0 0 0 0 0 0 0 ++ line 240 1 1 0 0 0 0 0)
+    ∷ sample "if 0 then 5 else 7" choiceByZero (run 0) (stopped spent 0) (line 17 0 0 0 0 0 0 0 ++ line 17 0 0 0 5 0 0 0 ++ line 17 0 0 0 7 0 0 0 ++ line 27 0 0 0 1 0 2 0 ++ line 240 1 4 0 3 0 0 0)
     ∷ sample "if 0 then 5 else 7" choiceByZero (run 1) (stopped spent 1) (line 17 0 0 0 5 0 0 0 ++ line 1 0 0 0 0 0 0 0 ++ line 19 0 0 0 1 0 0 0 ++ line 240 1 3 0 2 0 0 0)
     ∷ sample "if 0 then 5 else 7" choiceByZero (run 2) (stopped value 2) (line 17 0 0 0 5 0 0 0 ++ line 240 1 1 0 0 0 0 0)
     ∷ sample "if 1 then 5 else 7" choiceByOne (run 1) (stopped spent 1) (line 17 0 0 0 7 0 0 0 ++ line 1 0 0 0 0 0 0 0 ++ line 19 0 0 0 1 0 0 0 ++ line 240 1 3 0 2 0 0 0)
@@ -740,6 +825,13 @@ sumsAndChoices =
     ∷ sample "(1 + 2) merged with 3" sumMerged check (refused 14 4) []
     ∷ sample "two functions with the body x + 1" equalBodies check (accepted 9) (line 1 0 0 0 0 0 0 0 ++ line 1 0 0 0 0 0 0 0 ++ line 3 0 0 0 1 0 0 0 ++ line 1 0 0 0 0 0 0 0 ++ line 1 0 0 0 0 0 0 0 ++ line 2 0 0 0 0 0 0 0 ++ line 4 0 4 0 5 0 0 0 ++ line 3 0 3 0 6 0 0 0 ++ line 4 0 2 0 7 0 0 0 ++ line 240 1 9 0 8 0 0 0)
     ∷ sample "functions with the bodies x + 1 and 1 + x" exchangedBodies check (refused 14 9) []
+    ∷ sample "two functions with the body if x then 1 else 2" equalChoices check (accepted 9) (line 1 0 0 0 0 0 0 0 ++ line 1 0 0 0 0 0 0 0 ++ line 3 0 0 0 1 0 0 0 ++ line 1 0 0 0 0 0 0 0 ++ line 1 0 0 0 0 0 0 0 ++ line 2 0 0 0 0 0 0 0 ++ line 4 0 4 0 5 0 0 0 ++ line 3 0 3 0 6 0 0 0 ++ line 4 0 2 0 7 0 0 0 ++ line 240 1 9 0 8 0 0 0)
+    ∷ sample "functions with the bodies if x then 1 else 2 and if x then 2 else 1" exchangedChoices check (refused 14 10) []
+    ∷ sample "functions with the bodies if x then 1 else 2 and if x then 1 else 1" otherThirdPart check (refused 14 10) []
+    ∷ sample "the function if 0 then x else 7 on 5" choiceInBody (run 1) (stopped spent 1) (line 17 0 0 0 0 0 0 0 ++ line 17 0 0 0 5 0 0 0 ++ line 17 0 0 0 7 0 0 0 ++ line 27 0 0 0 1 0 2 0 ++ line 1 0 0 0 0 0 0 0 ++ line 19 0 3 0 4 0 0 0 ++ line 240 1 6 0 5 0 0 0)
+    ∷ sample "the function if 0 then x else 7 on 5" choiceInBody (run 4) (stopped value 4) (line 17 0 0 0 5 0 0 0 ++ line 240 1 1 0 0 0 0 0)
+    ∷ sample "the function x + 2 on 1" sumInBody (run 1) (stopped spent 1) (line 17 0 0 0 1 0 0 0 ++ line 17 0 0 0 2 0 0 0 ++ line 26 0 0 0 1 0 0 0 ++ line 1 0 0 0 0 0 0 0 ++ line 19 0 2 0 3 0 0 0 ++ line 240 1 5 0 4 0 0 0)
+    ∷ sample "the function x + 2 on 1" sumInBody (run 3) (stopped value 3) (line 17 0 0 0 3 0 0 0 ++ line 240 1 1 0 0 0 0 0)
     ∷ sample "the triangular number of 4" triangle (run 38) (stopped value 38) (line 17 0 0 0 10 0 0 0 ++ line 240 1 1 0 0 0 0 0)
     ∷ sample "a sum with field c" sumNamesC check (refused 6 1) []
     ∷ sample "a sum with a label" labelledSum check (refused 6 1) []

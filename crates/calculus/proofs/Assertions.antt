@@ -1,6 +1,6 @@
 -- Closed facts that show what the relations and the functions that decide them say. Each is proved from the definitions alone: no theorem
 -- of the other proofs stands between. Assumes nothing.
-use Prim.Native.Nat.{ℕ, zero, suc, _-_, _^_}
+use Prim.Native.Nat.{ℕ, zero, suc, _-_}
 use mathlib.Core.Path.{_≡_, refl}
 use mathlib.Core.Logic.{_≢_, _⊎_, inl, inr}
 use mathlib.Core.Bool.{true, false, decide}
@@ -12,7 +12,7 @@ use native.Mathlib.Decide.{ℕ-discrete}
 use Rattle.calculus.specs.Syntax.{Ty, int, top, arrow, inter, field}
 use Rattle.calculus.specs.Syntax.{Term, var, lit, unit, anno, app, lam, merge, fix, rcd, proj, sum, choice, substitute, size-type}
 use Rattle.calculus.specs.Syntax.{Value, v-lit, v-unit, v-lam, v-merge, v-rcd}
-use Rattle.calculus.specs.Numbers.{hold, chosen}
+use Rattle.calculus.specs.Numbers.{half, hold, chosen}
 use Rattle.calculus.specs.Subtyping.{Below, b-int, b-top, b-left, b-right, b-arrow, b-field}
 use Rattle.calculus.specs.Disjointness.{Disjoint, h-int, h-arrow, DisjointByList}
 use Rattle.calculus.specs.Disjointness.{d-heads, d-arrow}
@@ -235,10 +235,6 @@ places = refl
 
 -- ---- Fields found inside a merge: document 02, (i).
 
--- Sums are held to -2^31 .. 2^31 - 1.
-abbrev half : ℕ
-half = 2 ^ 31
-
 -- the term after n steps
 abbrev after : ℕ → Term → Option Term
 after zero e = some e
@@ -432,6 +428,18 @@ parts-refused = refl
 -- λ.e : Int→Int
 abbrev function : Term → Term
 function e = lam e int int
+
+-- What is substituted goes to where the variable stands, and every part of a sum and of a choice keeps its place.
+put-in :
+    (substitute 0 (number 9) (sum (var 0) (number 1)) ≡ sum (number 9) (number 1))
+    × (substitute 0 (number 9) (sum (number 1) (var 0)) ≡ sum (number 1) (number 9))
+    × (substitute 0 (number 9) (choice (var 0) (number 1) (number 2)) ≡ choice (number 9) (number 1) (number 2))
+    × (substitute 0 (number 9) (choice (number 1) (var 0) (number 2)) ≡ choice (number 1) (number 9) (number 2))
+    × (substitute 0 (number 9) (choice (number 1) (number 2) (var 0)) ≡ choice (number 1) (number 2) (number 9))
+    -- (λ.if 0 then #0 else 7) 5
+    × Runs (app (lam (choice (number 0) (var 0) (number 7)) int int) (number 5)) int 4 (number 5)
+unfolding infer lookup checked applied below? belowWithin topLike? size-type next value? bind cast firstPart orElse castInt apply choose numberOf chosen substitute
+put-in = (refl, refl, refl, refl, refl, refl)
 
 sums-merged :
     -- (1+2),,3 : a sum is no value

@@ -1,6 +1,6 @@
 -- What is promised of the definitions beside the theorem: the source's definitions and document 01's lists agree, the rules of a field read
--- count parts as document 02 does, those of sums and choices say what it says, and the executable functions decide the relations. Assumes nothing.
-use Prim.Native.Nat.{ℕ, _-_, _≤_, _<_}
+-- count parts as document 02 does, those of sums and choices say what it says, substitution keeps every part in its place, and the executable functions decide the relations. Assumes nothing.
+use Prim.Native.Nat.{ℕ, suc, _-_, _≤_, _<_}
 use mathlib.Core.Path.{_≡_}
 use mathlib.Core.Logic.{_↔_, _⊎_, _≢_}
 use mathlib.Core.Option.{some}
@@ -8,7 +8,7 @@ use mathlib.Core.List.{List, [], _∷_}
 use lib.Dec.{T}
 use lib.IntN.{ℤ, pos, negsuc, _+ℤ_}
 use lib.Signed.{mag}
-use Rattle.calculus.specs.Syntax.{Ty, int, top, inter, field, Term, lit, anno, proj, sum, choice, Value, IsValue}
+use Rattle.calculus.specs.Syntax.{Ty, int, top, inter, field, Term, var, lit, anno, proj, sum, choice, Value, IsValue, substitute}
 use Rattle.calculus.specs.Numbers.{hold}
 use Rattle.calculus.specs.Subtyping.{TopLike, Ordinary, Below}
 use Rattle.calculus.specs.Disjointness.{Disjoint, DisjointByList}
@@ -20,6 +20,8 @@ use Rattle.calculus.specs.Runtime.{Runtime}
 use Rattle.calculus.specs.Step.{Step}
 use Rattle.calculus.specs.Decide.{topLike?, FieldPart, no-part, top-part, more-parts, one-part, fieldPart, below?, disjoint?, value?, consistent?}
 use Rattle.calculus.specs.Infer.{Reason, no-field, mismatch, found, refused, infer}
+use Rattle.calculus.specs.RefusalPaths.{At, here, in-anno, in-left, in-right, in-body, in-first, in-second, in-fix, in-content, in-read}
+use Rattle.calculus.specs.RefusalPaths.{in-sum-left, in-sum-right, in-tested, in-zero, in-other}
 use Rattle.calculus.specs.Evaluate.{cast, next}
 
 -- "This list decides; the source's definition by all readings has to agree with it on typed values." Here on all values; and so do disjoint
@@ -108,6 +110,30 @@ pub record SumsAndChoices : Type 0 where
       infer Γ (choice e f g) ≡ refused r (1 ∷ p)
   pub choice-refuses-c : (Γ : List Ty) (e f g : Term) (r : Reason) (p : List ℕ) → ChecksInt Γ e → ChecksInt Γ f → RefusesInt Γ g r p →
       infer Γ (choice e f g) ≡ refused r (2 ∷ p)
+
+-- A variable that skips k binders outside a part skips so many inside: "Kinds 21 and 23 bind one variable in a."
+abbrev pub skipsIn : {e f : Term} {p : List ℕ} → At e p f → ℕ → ℕ
+skipsIn here k = k
+skipsIn (in-anno a) k = skipsIn a k
+skipsIn (in-left a) k = skipsIn a k
+skipsIn (in-right a) k = skipsIn a k
+skipsIn (in-body a) k = skipsIn a (suc k)
+skipsIn (in-first a) k = skipsIn a k
+skipsIn (in-second a) k = skipsIn a k
+skipsIn (in-fix a) k = skipsIn a (suc k)
+skipsIn (in-content a) k = skipsIn a k
+skipsIn (in-read a) k = skipsIn a k
+skipsIn (in-sum-left a) k = skipsIn a k
+skipsIn (in-sum-right a) k = skipsIn a k
+skipsIn (in-tested a) k = skipsIn a k
+skipsIn (in-zero a) k = skipsIn a k
+skipsIn (in-other a) k = skipsIn a k
+
+-- Document 01's "put in": a variable of so many binders becomes what is substituted, every other stays, and every part of a term stands where it stood.
+pub record SubstitutesInPlace : Type 0 where
+  pub variable : (k : ℕ) (s : Term) → substitute k s (var k) ≡ s
+  pub others : (k n : ℕ) (s : Term) → n ≢ k → substitute k s (var n) ≡ var n
+  pub parts : (k : ℕ) (s e f : Term) (p : List ℕ) (a : At e p f) → At (substitute k s e) p (substitute (skipsIn a k) s f)
 
 -- Each function answers exactly what its relation says: of readings and steps, where the term is typed.
 pub record Decides : Type 0 where

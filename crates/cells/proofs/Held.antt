@@ -10,7 +10,7 @@ use lib.ListN.{length, take, drop, set}
 use lib.Seq.{sets, length-sets, sets-eq, length-take-le, take-set-le, take-take, getD-take}
 use borrow.Author.Tests.{eq-eqb, ne-eqb}
 use Rattle.calculus.specs.Syntax.{Ty, int, top, arrow, inter}
-use Rattle.calculus.specs.Syntax.{Term, var, lit, unit, anno, app, merge, fix, rcd, proj, sum, choice}
+use Rattle.calculus.specs.Syntax.{Term, var, lit, unit, anno, app, merge, fix, rcd, proj, sum}
 use Rattle.calculus.specs.Decide.{topLike?}
 use Rattle.calculus.proofs.Bools.{T-and, Test, _and_, at-most}
 use Rattle.format.specs.Table.{Sort, type-sort, term-sort, Use, plain, refers, Row, table, rowIn, rowOf}

@@ -56,7 +56,7 @@ module _ {w : List ℕ} {i : ℕ} (bytes : IsBytes w) where
           at = record { term = p .term; encoded = root-encoded (p .term) (p .root); type = p .root .type; typed = p .root .typed };
         }
 
-    module _ {u : List ℕ} {l : ℕ} {z : End} (y : Runs v u n l z) where
+    module _ {u : List ℕ} {l : ℕ} {z : End} (y : Runs half v u n l z) where
       pub end-encoded : length u ≡ length w → SomeRoot w i → SomeTree u (z .cells)
       end-encoded h p =
           let k = y .says (p .term) (p .root .type) (root-encoded (p .term) (p .root)) (p .root .typed) in

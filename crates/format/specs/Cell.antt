@@ -1,11 +1,13 @@
 -- Document 01, "Bytes of a book": cells from bytes and back. "Fields of two bytes and stored numbers are little-endian."
 -- Assumes nothing.
-use Prim.Native.Nat.{ℕ, suc, _+_, _*_, _-_, _/_, _%_, _^_, _<_}
+use Prim.Native.Nat.{ℕ, suc, _+_, _*_, _-_, _/_, _%_, _<_}
 use mathlib.Core.List.{List, [], _∷_}
 use mathlib.Core.Bool.{cond}
 use lib.Dec.{ltb}
 use lib.IntN.{ℤ, pos, negsuc}
 use lib.ListN.{getD}
+-- "bytes 4–7, signed 32 bits"
+pub use Rattle.calculus.specs.Numbers.{half}
 
 -- every element is a byte
 abbrev pub IsBytes : List ℕ → Type 0
@@ -56,7 +58,3 @@ signed h n = cond (ltb n h) (pos n) (negsuc (2 * h - suc n))
 unfoldable pub unsigned : ℕ → ℤ → ℕ
 unsigned h (pos n) = n
 unsigned h (negsuc n) = 2 * h - suc n
-
--- "bytes 4–7, signed 32 bits"
-abbrev pub half : ℕ
-half = 2 ^ 31

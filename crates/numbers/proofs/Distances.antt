@@ -12,7 +12,7 @@ use Rattle.calculus.proofs.Bools.{by-test}
 use Rattle.calculus.proofs.Numbers.{hold-id, hold-above, hold-below}
 use Rattle.format.specs.Cell.{signed}
 use Rattle.format.proofs.Numbers.{by-half}
-use Rattle.numbers.specs.Sums.{offsetOf, Stored, SumReady, AddsHeld}
+use Rattle.numbers.specs.Sums.{offsetOf, Stored, Offsets, SumReady, AddsHeld}
 
 -- z is d above -k.
 abbrev Above : ℕ → ℤ → ℕ → Type 0
@@ -113,16 +113,16 @@ module _ {x y h : ℕ} (p : SumReady x y h) where
 
 -- ---- what the calls answer
 
-pub offset-up : {x h : ℕ} → Stored x h → x < h → (x + h ≡ offsetOf h x) × (x + h < 2 * h)
-offset-up {x} {h} p l = (sym (by-less (λ d. d ≡ x + h) x h (λ _. refl) (λ m. absurd (omega arith))), omega arith)
+pub offset-up : {x h : ℕ} → Stored x h → x < h → Offsets x h (x + h)
+offset-up {x} {h} p l = record { is = sym (by-less (λ d. d ≡ x + h) x h (λ _. refl) (λ m. absurd (omega arith))); fits = omega arith }
 
-pub offset-down : {x h : ℕ} → Stored x h → h ≤ x → (x - h ≡ offsetOf h x) × (x - h < 2 * h)
-offset-down {x} {h} p l = (sym (by-less (λ d. d ≡ x - h) x h (λ m. absurd (omega arith)) (λ _. refl)), omega (arith, p .fits))
+pub offset-down : {x h : ℕ} → Stored x h → h ≤ x → Offsets x h (x - h)
+offset-down {x} {h} p l = record { is = sym (by-less (λ d. d ≡ x - h) x h (λ m. absurd (omega arith)) (λ _. refl)); fits = omega (arith, p .fits) }
 
 -- a and b are the distances of x and y
-module _ {x y h a b : ℕ} (p : SumReady x y h) (u : (a ≡ offsetOf h x) × (a < 2 * h)) (v : (b ≡ offsetOf h y) × (b < 2 * h)) where
+module _ {x y h a b : ℕ} (p : SumReady x y h) (u : Offsets x h a) (v : Offsets y h b) where
   sum-is : a + b ≡ sum-offset p
-  sum-is = rw (u .0, v .0) refl
+  sum-is = rw (u .is, v .is) refl
 
   pub adds-low : a + b < h → AddsHeld x y h h
   adds-low l = held-low p (rw sum-is at l)
@@ -130,5 +130,5 @@ module _ {x y h a b : ℕ} (p : SumReady x y h) (u : (a ≡ offsetOf h x) × (a 
   pub adds-high : h ≤ a + b → 2 * h ≤ a + b - h → AddsHeld x y h (h - 1)
   adds-high l m = held-high p (rw sum-is at l) (rw sum-is at m)
 
-  pub adds-within : {r : ℕ} → h ≤ a + b → a + b - h < 2 * h → (r ≡ offsetOf h (a + b - h)) × (r < 2 * h) → AddsHeld x y h r
-  adds-within l m e = held-within p (rw sum-is at l) (rw sum-is refl) m (e .0)
+  pub adds-within : {r : ℕ} → h ≤ a + b → a + b - h < 2 * h → Offsets (a + b - h) h r → AddsHeld x y h r
+  adds-within l m e = held-within p (rw sum-is at l) (rw sum-is refl) m (e .is)

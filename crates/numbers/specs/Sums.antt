@@ -16,6 +16,11 @@ pub record Stored (x h : ℕ) : Type 0 where
 abbrev pub offsetOf : ℕ → ℕ → ℕ
 offsetOf h x = cond (ltb x h) (x + h) (x - h)
 
+-- r is that distance, and within the range itself.
+pub record Offsets (x h r : ℕ) : Type 0 where
+  pub is : r ≡ offsetOf h x
+  pub fits : r < 2 * h
+
 -- Two stored numbers of one range.
 pub record SumReady (x y h : ℕ) : Type 0 where
   pub first : Stored x h

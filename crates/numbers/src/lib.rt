@@ -1,12 +1,10 @@
 // Sums of numbers as they are stored, over half of the range: a number z from -half to half - 1 is stored as z, a negative one as z + 2 * half.
-ghost use Prim.Native.Nat.{_*_, _<_};
-ghost use mathlib.Core.Path.{_≡_};
-ghost use Rattle.numbers.specs.Sums.{Stored, offsetOf, SumReady, AddsHeld};
+ghost use Rattle.numbers.specs.Sums.{Stored, Offsets, SumReady, AddsHeld};
 
 // The number z as its distance z + half from the lower end, and back: both halves of the range change places.
 fn offset(x: usize, half: usize) -> usize
     requires { ⌜ Stored x half ⌝ }
-    ensures { λ r. ⌜ (r ≡ offsetOf half x) × (r < 2 * half) ⌝ }
+    ensures { λ r. ⌜ Offsets x half r ⌝ }
 {
     if x < half { x + half } else { x - half }
 }

@@ -53,7 +53,7 @@ zero-stored {n} f = (λ e. rw e refl, λ e. sym (unsigned-signed half n f) ∙ a
 
 module _ {s d : List ℕ} {i m : ℕ} (o : ContractAt s d i m 27) where
   own : Choosing s i (o .ready .successor)
-  own = choice-redex (o .ready .redex) (o .ready .steps) (o .kind)
+  own = choice-redex (o .ready .half) (o .ready .redex) (o .ready .steps) (o .kind)
 
   module _ {t : Cell} (c : t ≡ cellAt s i) where
     pub tested-ready : NumberReady s (t .a)
@@ -74,8 +74,8 @@ module _ {s d : List ℕ} {i m : ℕ} (o : ContractAt s d i m 27) where
       pub zero-emits : {e : List ℕ} {r : Emitted} → n ≡ 0 → EmitsAnnotated s d e (t .b) m r → EmitsContractum s d e i m r
       zero-emits z h =
           record {
-            says = λ e g x k.
-                let w = choice-redex x k (o .kind) in
+            says = λ u e g x k.
+                let w = choice-redex u x k (o .kind) in
                 elim (chosen-says (λ b. anno b int) (numberOf (w .reduct)) (w .zero) (w .other) g .0 (w .is)) [
                   | inl p ↦ rw (p .1) (h .says (w .zero) (rw c (w .holds-zero)))
                   | inr p ↦ absurd (p .0 (tells w .0 z))
@@ -85,8 +85,8 @@ module _ {s d : List ℕ} {i m : ℕ} (o : ContractAt s d i m 27) where
       pub other-emits : {e : List ℕ} {r : Emitted} → (n ≡ 0 → ⊥) → EmitsAnnotated s d e (t .c) m r → EmitsContractum s d e i m r
       other-emits z h =
           record {
-            says = λ e g x k.
-                let w = choice-redex x k (o .kind) in
+            says = λ u e g x k.
+                let w = choice-redex u x k (o .kind) in
                 elim (chosen-says (λ b. anno b int) (numberOf (w .reduct)) (w .zero) (w .other) g .0 (w .is)) [
                   | inl p ↦ absurd (z (tells w .1 (p .0)))
                   | inr p ↦ rw (p .1) (h .says (w .other) (rw c (w .holds-other)))

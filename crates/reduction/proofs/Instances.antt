@@ -103,17 +103,17 @@ module _ {s d : List ℕ} {i m : ℕ} (o : ContractAt s d i m 23) where
       pub fix-emits : {e : List ℕ} {r : Emitted} → EmitsInstance s d e (t .a) (t .b) m (record { reduct = 0; term = i; under = b }) r → EmitsContractum s d e i m r
       fix-emits q =
           record {
-            says = λ e g x k.
+            says = λ u e g x k.
                 let h = fix-redex x (o .kind) in
                 let w = fix-at h (o .kind) in
-                rw (fix-instance (w .term) (w .type) (rw (w .is) at k))
+                rw (fix-instance u (w .term) (w .type) (rw (w .is) at k))
                 (q .says (w .term) (fix (w .term) (w .type)) (w .type) (rw c (w .holds-term)) (itself (rw (w .is) at h)) (rw c (w .holds-type)));
           }
 
 -- ---- a value applied to a value: t is the application's cell as it was read, u that of the value on the left
 
 pub first-within : {s d : List ℕ} {i m : ℕ} {t : Cell} → t ≡ cellAt s i → ContractAt s d i m 20 → 8 * t .a + 8 ≤ length s
-first-within c o = rw c (held-within (holds-term (app-redex (o .ready .redex) (o .ready .steps) (o .kind) .holds-first)))
+first-within c o = rw c (held-within (holds-term (app-redex (o .ready .half) (o .ready .redex) (o .ready .steps) (o .kind) .holds-first)))
 
 pub record Applying (s d : List ℕ) (i m : ℕ) (t u : Cell) : Type 0 where
   pub at : ContractAt s d i m 20
@@ -124,8 +124,8 @@ module _ {s d : List ℕ} {i m : ℕ} {t u : Cell} (j : Applying s d i m t u) wh
   pub unit-applied : {e : List ℕ} {r : Emitted} → u .kind ≡ 18 → Emits d e m r (fromTerm unit) → EmitsContractum s d e i m r
   unit-applied k f =
       record {
-        says = λ e g x n.
-            let w = app-redex x n (j .at .kind) in
+        says = λ b e g x n.
+            let w = app-redex b x n (j .at .kind) in
             let is : g ≡ unit = unit-applies (w .second) (rw (unit-at (holds-term (w .holds-first)) (rw (j .left, j .cell) at k)) at (w .applies)) in
             rw is f;
       }
@@ -140,7 +140,7 @@ module _ {s d : List ℕ} {i m : ℕ} {t u : Cell} (j : Applying s d i m t u) wh
     pub function-ready : InstanceReady s d (u .a) (u .c) m (record { reduct = 1; term = t .b; under = u .b })
     function-ready =
         let r = j .at .ready in
-        let own = app-redex (r .redex) (r .steps) (j .at .kind) in
+        let own = app-redex (r .half) (r .redex) (r .steps) (j .at .kind) in
         let f = function own in
         let l : t .a < i = rw (j .cell) (own .lower) in
         let n : t .b < i = rw (j .cell) (own .second-lower) in
@@ -160,8 +160,8 @@ module _ {s d : List ℕ} {i m : ℕ} {t u : Cell} (j : Applying s d i m t u) wh
         → EmitsContractum s d e i m r
     function-emits q =
         record {
-          says = λ e g x n.
-              let w = app-redex x n (j .at .kind) in
+          says = λ b e g x n.
+              let w = app-redex b x n (j .at .kind) in
               let f = function w in
               rw (f .is)
               (q .says (f .body) (f .reduct) (f .output) (f .holds-body)
@@ -174,7 +174,7 @@ module _ {s d : List ℕ} {i m : ℕ} {t u : Cell} (j : Applying s d i m t u) wh
 module _ {s d : List ℕ} {i m : ℕ} {t : Cell} (c : t ≡ cellAt s i) (r : ContractReady s d i m) where
   pub read-ready : t .kind ≡ 19 → CastReady s d (t .a) (t .b) m
   read-ready k =
-      let w = anno-redex (r .redex) (r .steps) (rw c at k) in
+      let w = anno-redex (r .half) (r .redex) (r .steps) (rw c at k) in
       record {
         space = r .space;
         both = record { value = w .value; type = w .type; holds-value = rw c (w .holds-value); holds-type = rw c (w .holds-type) };
@@ -185,8 +185,8 @@ module _ {s d : List ℕ} {i m : ℕ} {t : Cell} (c : t ≡ cellAt s i) (r : Con
   pub read-emits : {e : List ℕ} {l : Emitted} → t .kind ≡ 19 → EmitsCast s d e (t .a) (t .b) m l → EmitsContractum s d e i m l
   read-emits k q =
       record {
-        says = λ e g x n.
-            let w = anno-redex x n (rw c at k) in
+        says = λ b e g x n.
+            let w = anno-redex b x n (rw c at k) in
             q .says (w .value) g (w .type) (rw c (w .holds-value)) (rw c (w .holds-type)) (w .casts);
       }
 

@@ -11,7 +11,7 @@ use Rattle.calculus.specs.Syntax.{Ty, int, Term, unit, anno, app, fix, choice, 
 use Rattle.calculus.specs.Numbers.{chosen}
 use Rattle.calculus.specs.Decide.{value?}
 use Rattle.calculus.specs.Evaluate.{cast, apply, numberOf, choose, next}
-use Rattle.format.specs.Cell.{Cell, cellAt, half}
+use Rattle.format.specs.Cell.{Cell, cellAt}
 use Rattle.format.specs.Tree.{kindIn}
 use Rattle.format.specs.Terms.{fromTerm}
 use Rattle.cells.specs.Held.{HoldsTerm}
@@ -35,7 +35,7 @@ within-some f (some x) {g} h = record { to = x; answers = refl; is = sym (Option
 no-answer : {A : Type 0} {g : Term} → _≡_ {A = Option Term} none (some g) → A
 no-answer {g = g} h = absurd (Option·none-ne-some g h)
 
-module _ {g : Term} where
+module _ (half : ℕ) {g : Term} where
   pub anno-reads : (e : Term) (A : Ty) → value? e ≡ true → next half (anno e A) ≡ some g → cast A e ≡ some g
   unfolding next
   anno-reads e A v h = rw (v, next) at h
@@ -53,6 +53,14 @@ module _ {g : Term} where
   fix-instance e A h = sym (Option·some-injective _ g h)
 
 -- ---- a redex, by its kind
+
+-- its successor is the same to whatever range sums are held
+pub any-range : {s : List ℕ} {i : ℕ} {e : Term} (h k : ℕ) → Redex s i e → next h e ≡ next k e
+unfolding next
+any-range h k (at-anno p _ _ v _ _) = rw (v, next) refl
+any-range h k (at-app p _ _ v u _ _) = rw (v, u, next) refl
+any-range h k (at-choice p _ _ _ v _ _ _) = rw (v, next) refl
+any-range h k (at-fix r) = refl
 
 pub redex-within : {s : List ℕ} {i : ℕ} {e : Term} → Redex s i e → 8 * i + 8 ≤ length s
 redex-within (at-anno p _ _ _ _ _) = p .within
@@ -72,12 +80,12 @@ pub record Read (s : List ℕ) (i : ℕ) (g : Term) : Type 0 where
   pub holds-type : RunsType s (cellAt s i .b) type
   pub casts : cast type value ≡ some g
 
-pub anno-redex : {s : List ℕ} {i : ℕ} {e g : Term} → Redex s i e → next half e ≡ some g → cellAt s i .kind ≡ 19 → Read s i g
-anno-redex (at-anno {v = v} {A = A} p _ _ d h k) n _ =
-    record { value = v; type = A; holds-value = rw (p .is) h; holds-type = rw (p .is) k; casts = anno-reads v A d n }
-anno-redex (at-app p _ _ _ _ _ _) n o = absurd (omega (arith, kind-of p, o))
-anno-redex (at-choice p _ _ _ _ _ _ _) n o = absurd (omega (arith, kind-of p, o))
-anno-redex (at-fix r) n o = absurd (omega (arith, fix-kind (holds-term r), o))
+pub anno-redex : (half : ℕ) {s : List ℕ} {i : ℕ} {e g : Term} → Redex s i e → next half e ≡ some g → cellAt s i .kind ≡ 19 → Read s i g
+anno-redex half (at-anno {v = v} {A = A} p _ _ d h k) n _ =
+    record { value = v; type = A; holds-value = rw (p .is) h; holds-type = rw (p .is) k; casts = anno-reads half v A d n }
+anno-redex half (at-app p _ _ _ _ _ _) n o = absurd (omega (arith, kind-of p, o))
+anno-redex half (at-choice p _ _ _ _ _ _ _) n o = absurd (omega (arith, kind-of p, o))
+anno-redex half (at-fix r) n o = absurd (omega (arith, fix-kind (holds-term r), o))
 
 -- a value applied to a value
 pub record Arguments (s : List ℕ) (i : ℕ) (g : Term) : Type 0 where
@@ -89,12 +97,12 @@ pub record Arguments (s : List ℕ) (i : ℕ) (g : Term) : Type 0 where
   pub holds-second : RunsTerm s (cellAt s i .b) second
   pub applies : apply first second ≡ some g
 
-pub app-redex : {s : List ℕ} {i : ℕ} {e g : Term} → Redex s i e → next half e ≡ some g → cellAt s i .kind ≡ 20 → Arguments s i g
-app-redex (at-anno p _ _ _ _ _) n o = absurd (omega (arith, kind-of p, o))
-app-redex (at-app {v = v} {u = u} p l m c d h k) n _ =
-    record { first = v; second = u; lower = rw (p .is) l; second-lower = rw (p .is) m; holds-first = rw (p .is) h; holds-second = rw (p .is) k; applies = app-applies v u c d n }
-app-redex (at-choice p _ _ _ _ _ _ _) n o = absurd (omega (arith, kind-of p, o))
-app-redex (at-fix r) n o = absurd (omega (arith, fix-kind (holds-term r), o))
+pub app-redex : (half : ℕ) {s : List ℕ} {i : ℕ} {e g : Term} → Redex s i e → next half e ≡ some g → cellAt s i .kind ≡ 20 → Arguments s i g
+app-redex half (at-anno p _ _ _ _ _) n o = absurd (omega (arith, kind-of p, o))
+app-redex half (at-app {v = v} {u = u} p l m c d h k) n _ =
+    record { first = v; second = u; lower = rw (p .is) l; second-lower = rw (p .is) m; holds-first = rw (p .is) h; holds-second = rw (p .is) k; applies = app-applies half v u c d n }
+app-redex half (at-choice p _ _ _ _ _ _ _) n o = absurd (omega (arith, kind-of p, o))
+app-redex half (at-fix r) n o = absurd (omega (arith, fix-kind (holds-term r), o))
 
 -- a choice by a value, which is read under Int
 pub record Choosing (s : List ℕ) (i : ℕ) (g : Term) : Type 0 where
@@ -108,12 +116,12 @@ pub record Choosing (s : List ℕ) (i : ℕ) (g : Term) : Type 0 where
   pub casts : cast int tested ≡ some reduct
   pub is : g ≡ anno (chosen (numberOf reduct) zero other) int
 
-pub choice-redex : {s : List ℕ} {i : ℕ} {e g : Term} → Redex s i e → next half e ≡ some g → cellAt s i .kind ≡ 27 → Choosing s i g
+pub choice-redex : (half : ℕ) {s : List ℕ} {i : ℕ} {e g : Term} → Redex s i e → next half e ≡ some g → cellAt s i .kind ≡ 27 → Choosing s i g
 unfolding choose
-choice-redex (at-anno p _ _ _ _ _) n o = absurd (omega (arith, kind-of p, o))
-choice-redex (at-app p _ _ _ _ _ _) n o = absurd (omega (arith, kind-of p, o))
-choice-redex (at-choice {v = v} {e = e} {f = f} p _ _ _ d h k m) n _ =
-    let a = within-some (λ x. anno (chosen (numberOf x) e f) int) (cast int v) (choice-chooses v e f d n) in
+choice-redex half (at-anno p _ _ _ _ _) n o = absurd (omega (arith, kind-of p, o))
+choice-redex half (at-app p _ _ _ _ _ _) n o = absurd (omega (arith, kind-of p, o))
+choice-redex half (at-choice {v = v} {e = e} {f = f} p _ _ _ d h k m) n _ =
+    let a = within-some (λ x. anno (chosen (numberOf x) e f) int) (cast int v) (choice-chooses half v e f d n) in
     record {
       tested = v;
       zero = e;
@@ -125,7 +133,7 @@ choice-redex (at-choice {v = v} {e = e} {f = f} p _ _ _ d h k m) n _ =
       casts = a .answers;
       is = a .is;
     }
-choice-redex (at-fix r) n o = absurd (omega (arith, fix-kind (holds-term r), o))
+choice-redex half (at-fix r) n o = absurd (omega (arith, fix-kind (holds-term r), o))
 
 -- a fixpoint
 pub fix-redex : {s : List ℕ} {i : ℕ} {e : Term} → Redex s i e → cellAt s i .kind ≡ 23 → RunsTerm s i e

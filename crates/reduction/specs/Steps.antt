@@ -7,7 +7,7 @@ use mathlib.Core.List.{List}
 use Rattle.calculus.specs.Syntax.{Ty, int, Term, anno, app, fix, choice, substitute}
 use Rattle.calculus.specs.Decide.{value?}
 use Rattle.calculus.specs.Evaluate.{cast, next}
-use Rattle.format.specs.Cell.{half, cellAt}
+use Rattle.format.specs.Cell.{cellAt}
 use Rattle.format.specs.Table.{Use, unused, plain, refers, type-sort, term-sort}
 use Rattle.format.specs.Tree.{Tree, raw}
 use Rattle.format.specs.Terms.{fromType, fromTerm}
@@ -108,12 +108,13 @@ pub data Redex (s : List ℕ) (i : ℕ) : Term → Type 0 where
       RunsTerm s c f → Redex s i (choice v e f)
   at-fix : {e : Term} {A : Ty} → RunsTerm s i (fix e A) → Redex s i (fix e A)
 
--- A redex that has a successor, and a buffer for it.
+-- A redex that has a successor, sums being held to some range, and a buffer for it.
 pub record ContractReady (s d : List ℕ) (i m : ℕ) : Type 0 where
   pub space : Space d m
   pub low : i < 8192
   pub term : Term
   pub redex : Redex s i term
+  pub half : ℕ
   pub successor : Term
   pub steps : next half term ≡ some successor
 
@@ -122,6 +123,6 @@ pub record ContractAt (s d : List ℕ) (i m k : ℕ) : Type 0 where
   pub ready : ContractReady s d i m
   pub kind : cellAt s i .kind ≡ k
 
--- The successor is emitted.
+-- The successor is emitted, to whatever range sums are held; h is half of it.
 pub record EmitsContractum (s d t : List ℕ) (i m : ℕ) (r : Emitted) : Type 0 where
-  pub says : (e f : Term) → Redex s i e → next half e ≡ some f → Emits d t m r (fromTerm f)
+  pub says : (h : ℕ) (e f : Term) → Redex s i e → next h e ≡ some f → Emits d t m r (fromTerm f)

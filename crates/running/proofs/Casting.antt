@@ -15,7 +15,7 @@ use Rattle.calculus.specs.Evaluate.{next, cast, firstPart, castInt, castArrow}
 use Rattle.calculus.proofs.Decisions.{topLike?-says, not-topLike}
 use Rattle.calculus.proofs.Tests.{cast-top, cast-arrow}
 use Rattle.format.specs.Table.{type-sort, term-sort, refers, rowOf, rowIn, table}
-use Rattle.format.specs.Cell.{Cell, cellAt, cellBytes, half}
+use Rattle.format.specs.Cell.{Cell, cellAt, cellBytes}
 use Rattle.format.specs.Terms.{fromType, fromTerm}
 use Rattle.cells.specs.Held.{HoldsType}
 use Rattle.cells.proofs.Held.{top-like, not-top-like, int-at, arrow-at}
@@ -27,9 +27,8 @@ use Rattle.moving.proofs.Runs.{shift-ready, run-shifted}
 use Rattle.typed_reduction.proofs.Deciding.{ordinary-at}
 use Rattle.typed_reduction.proofs.Casts.{when-some}
 use Rattle.reduction.proofs.Nexts.{anno-reads}
-use Rattle.running.specs.Places.{RedexParts, of-anno, Standing, doneAt, Becomes, BecomesTop, RedexAt, TopAt, FunctionAt}
+use Rattle.running.specs.Places.{RedexParts, of-anno, Standing, doneAt, Becomes, TopReady, RedexAt, TopAt, FunctionAt}
 use Rattle.running.specs.declared.Place.{Place}
-use Rattle.running.specs.declared.Focus.{Focus}
 use Rattle.running.specs.declared.Focus.the-variants.{Redex}
 use Rattle.running.proofs.Going.{wrote-run}
 use Rattle.running.proofs.Entering.{Kind, k-lit, k-anno, k-lam, term-kind}
@@ -64,20 +63,20 @@ module _ {w : List ℕ} (p : Place) (t : Cell) (d : RedexAt w p t 19) where
   pub type-in : 8 * t .b + 8 ≤ length w
   type-in = run-within (annotated (d .ready .standing) .under)
 
-  cast-is : {e : Term} (s : Standing w (Redex p) e) {h : Term} → next half (s .focus) ≡ some h → cast (annotated s .type) (annotated s .value) ≡ some h
-  cast-is s n = let q = annotated s in anno-reads (q .value) (q .type) (q .final) (sym (ap (next half) (q .is)) ∙ n)
+  cast-is : (half : ℕ) {e : Term} (s : Standing w (Redex p) e) {h : Term} → next half (s .focus) ≡ some h → cast (annotated s .type) (annotated s .value) ≡ some h
+  cast-is half s n = let q = annotated s in anno-reads half (q .value) (q .type) (q .final) (sym (ap (next half) (q .is)) ∙ n)
 
 -- ---- the top value
 
-pub casts-top : {w v : List ℕ} {p : Place} {t y : Cell} {r : Focus} → TopAt w p t y → BecomesTop w v p r → Becomes w v p r
-casts-top {w} {p = p} {t} {y} d o = o .says becomes-top
+pub top-ready : {half : ℕ} {w : List ℕ} {p : Place} {t y : Cell} → TopAt w p t y → TopReady half w p
+top-ready {half} {w} {p} {t} {y} d = record { ready = d .at .ready; becomes = λ e s _. becomes-top e s }
   where
     becomes-top : (e : Term) (s : Standing w (Redex p) e) (h : Term) → next half (s .focus) ≡ some h → unit ≡ h
     becomes-top e s h n =
         let q = annotated p t (d .at) s in
         let u = held-type p t (d .at) s in
         let c = cast-top (q .type) (q .value) (ordinary-at u (kind-not (d .type) (d .no-intersection))) (topLike?-says (q .type) .0 (top-like u y (d .type) (d .top-like))) in
-        Option·some-injective unit h (sym c ∙ cast-is p t (d .at) s n)
+        Option·some-injective unit h (sym c ∙ cast-is p t (d .at) half s n)
 
 -- ---- a number
 
@@ -86,10 +85,10 @@ unfolding cast firstPart castInt
 number-read h (k-lit {z}) c = Option·some-injective (lit z) h c
 
 -- a number annotated with Int
-pub casts-number : {w : List ℕ} {p : Place} {t v y : Cell} → RedexAt w p t 19 → v ≡ cellAt w (t .a) → y ≡ cellAt w (t .b) → v .kind ≡ 17 → y .kind ≡ 1 →
-    Becomes w w p (doneAt p (p .left))
+pub casts-number : {half : ℕ} {w : List ℕ} {p : Place} {t v y : Cell} → RedexAt w p t 19 → v ≡ cellAt w (t .a) → y ≡ cellAt w (t .b) → v .kind ≡ 17 → y .kind ≡ 1 →
+    Becomes half w w p (doneAt p (p .left))
 unfolding size
-casts-number {w} {p} {t} d i o x y = becomes p (unchanged p) (omega (arith, r .apart, r .right)) (λ e s _. content e s)
+casts-number {half} {w} {p} {t} d i o x y = becomes p (unchanged p) (omega (arith, r .apart, r .right)) (λ e s _. content e s)
   where
     r : RedexRange p
     r = redex-range (d .ready .standing .at)
@@ -99,7 +98,7 @@ casts-number {w} {p} {t} d i o x y = becomes p (unchanged p) (omega (arith, r .a
         let q = annotated p t d s in
         let k = term-kind (q .value) (q .run) (kind-at i x) in
         let l = int-at (held-type p t d s) (kind-at o y) in
-        let u : q .value ≡ h = number-read h k (sym (ap (λ (A : Ty). cast A (q .value)) l) ∙ cast-is p t d s n) in
+        let u : q .value ≡ h = number-read h k (sym (ap (λ (A : Ty). cast A (q .value)) l) ∙ cast-is p t d half s n) in
         reduct-of (q .is) u (record { final = q .final; run = at-run refl (omega (arith, ends (q .run))) refl (q .run); small = omega arith })
 
 -- ---- a function
@@ -250,11 +249,11 @@ module _ {w : List ℕ} (p : Place) (t v y : Cell) (d : FunctionAt w p t v y) wh
         refl
         (refl, tt)
 
-    read-is : {e h : Term} (s : Standing w (Redex p) e) (q : Retyped w p (s .focus) v y) → next half (s .focus) ≡ some h → lam (q .body) (q .input) (q .second) ≡ h
+    read-is : (half : ℕ) {e h : Term} (s : Standing w (Redex p) e) (q : Retyped w p (s .focus) v y) → next half (s .focus) ≡ some h → lam (q .body) (q .input) (q .second) ≡ h
     unfolding topLike? value?
-    read-is {e} {h} s q n =
+    read-is half {e} {h} s q n =
         let a = annotated p t (d .at) s in
-        let i = cast-is p t (d .at) s n in
+        let i = cast-is p t (d .at) half s n in
         let m = not-top-like (held-type p t (d .at) s) y (d .type) (d .proper) in
         let j : anno (a .value) (a .type) ≡ anno (lam (q .body) (q .input) (q .output)) (arrow (q .first) (q .second)) = sym (a .is) ∙ q .is in
         let f : a .value ≡ lam (q .body) (q .input) (q .output) = cc in
@@ -262,11 +261,11 @@ module _ {w : List ℕ} (p : Place) (t v y : Cell) (d : FunctionAt w p t v y) wh
         function-read (q .body) (q .input) (q .output) (q .first) (q .second) h (subst (λ (A : Ty). topLike? A ≡ false) g m)
         (sym (ap (λ (A : Ty). cast A (lam (q .body) (q .input) (q .output))) g) ∙ sym (ap (cast (a .type)) f) ∙ i)
 
-    pub retypes : {left : ℕ} → left ≡ v .b + 1 + (y .b - y .a) + 1 → Becomes w z p (doneAt p left)
+    pub retypes : {half : ℕ} {left : ℕ} → left ≡ v .b + 1 + (y .b - y .a) + 1 → Becomes half w z p (doneAt p left)
     unfolding size size-type value?
-    retypes i = subst (λ (n : ℕ). Becomes w z p (doneAt p n)) (sym i) (becomes p kept (omega (arith, places)) (λ e s _. content e s))
+    retypes {half} i = subst (λ (n : ℕ). Becomes half w z p (doneAt p n)) (sym i) (becomes p kept (omega (arith, places)) (λ e s _. content e s))
       where
         content : (e : Term) (s : Standing w (Redex p) e) (h : Term) → next half (s .focus) ≡ some h → Reduct z (p .start) (v .b + 1 + (y .b - y .a) + 1) (size (s .focus)) h
         content e s h n =
             let q = retyped s in
-            reduct-of (q .is) (read-is s q n) (record { final = refl; run = at-run refl (omega arith) (omega arith) (retyped-run s q); small = omega arith })
+            reduct-of (q .is) (read-is half s q n) (record { final = refl; run = at-run refl (omega arith) (omega arith) (retyped-run s q); small = omega arith })

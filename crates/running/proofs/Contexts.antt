@@ -1,4 +1,5 @@
 -- A step inside is the term's step, and the term is no value. Assumes nothing.
+use Prim.Native.Nat.{ℕ}
 use mathlib.Core.Path.{_≡_, refl, sym, ap, _∙_}
 use mathlib.Core.Bool.{false}
 use mathlib.Core.Option.{Option, none, some, Option·map, Option·some-injective, Option·none-ne-some}
@@ -6,7 +7,6 @@ use mathlib.Core.List.{List, [], _∷_}
 use Rattle.calculus.specs.Syntax.{Term}
 use Rattle.calculus.specs.Decide.{value?}
 use Rattle.calculus.specs.Evaluate.{next}
-use Rattle.format.specs.Cell.{half}
 use Rattle.format.specs.Terms.{fromTerm}
 use Rattle.running.specs.Waiting.{plug, fill}
 use Rattle.running.specs.Contexts.{Around, anno-of, app-left, app-right, merge-left, merge-right, rcd-of, proj-of, sum-left, sum-right, choice-of}
@@ -26,18 +26,18 @@ stays (sum-right v) e p h = refl
 stays (choice-of f g) e p h = refl
 
 -- the step of a term around e, if any, is that of e
-around-steps : (f : Around) (e : Term) → Proper f → value? e ≡ false → next half (plugTerm f e) ≡ Option·map (plugTerm f) (next half e)
+around-steps : (half : ℕ) (f : Around) (e : Term) → Proper f → value? e ≡ false → next half (plugTerm f e) ≡ Option·map (plugTerm f) (next half e)
 unfolding plugTerm next
-around-steps (anno-of A) e p h = rw (h, next) refl
-around-steps (app-left f) e p h = rw (h, next) refl
-around-steps (app-right v) e p h = rw (p, next, h) refl
-around-steps (merge-left f) e p h = rw (h, next) refl
-around-steps (merge-right v) e p h = rw (p, next) refl
-around-steps (rcd-of l) e p h = refl
-around-steps (proj-of l) e p h = rw (h, next) refl
-around-steps (sum-left f) e p h = rw (h, next) refl
-around-steps (sum-right v) e p h = rw (p, next, h) refl
-around-steps (choice-of f g) e p h = rw (h, next) refl
+around-steps half (anno-of A) e p h = rw (h, next) refl
+around-steps half (app-left f) e p h = rw (h, next) refl
+around-steps half (app-right v) e p h = rw (p, next, h) refl
+around-steps half (merge-left f) e p h = rw (h, next) refl
+around-steps half (merge-right v) e p h = rw (p, next) refl
+around-steps half (rcd-of l) e p h = refl
+around-steps half (proj-of l) e p h = rw (h, next) refl
+around-steps half (sum-left f) e p h = rw (h, next) refl
+around-steps half (sum-right v) e p h = rw (p, next, h) refl
+around-steps half (choice-of f g) e p h = rw (h, next) refl
 
 pub no-value : (k : List Around) (e : Term) → AllProper k → value? e ≡ false → value? (whole k e) ≡ false
 unfolding whole
@@ -45,33 +45,33 @@ no-value [] e p h = h
 no-value (f ∷ k) e (p-more p q) h = no-value k (plugTerm f e) q (stays f e p h)
 
 -- of the whole too
-whole-steps : (k : List Around) (e : Term) → AllProper k → value? e ≡ false → next half (whole k e) ≡ Option·map (whole k) (next half e)
+whole-steps : (half : ℕ) (k : List Around) (e : Term) → AllProper k → value? e ≡ false → next half (whole k e) ≡ Option·map (whole k) (next half e)
 unfolding whole
-whole-steps [] e p h = go (next half e)
+whole-steps half [] e p h = go (next half e)
   where
     go : (o : Option Term) → o ≡ Option·map (whole []) o
     go none = refl
     go (some x) = refl
-whole-steps (f ∷ k) e (p-more p q) h =
-    whole-steps k (plugTerm f e) q (stays f e p h) ∙ ap (Option·map (whole k)) (around-steps f e p h) ∙ go (next half e)
+whole-steps half (f ∷ k) e (p-more p q) h =
+    whole-steps half k (plugTerm f e) q (stays f e p h) ∙ ap (Option·map (whole k)) (around-steps half f e p h) ∙ go (next half e)
   where
     go : (o : Option Term) → Option·map (whole k) (Option·map (plugTerm f) o) ≡ Option·map (whole (f ∷ k)) o
     go none = refl
     go (some x) = refl
 
-pub next-whole : (k : List Around) (e x : Term) → AllProper k → value? e ≡ false → next half e ≡ some x → next half (whole k e) ≡ some (whole k x)
-next-whole k e x p h n = whole-steps k e p h ∙ ap (Option·map (whole k)) n
+pub next-whole : (half : ℕ) (k : List Around) (e x : Term) → AllProper k → value? e ≡ false → next half e ≡ some x → next half (whole k e) ≡ some (whole k x)
+next-whole half k e x p h n = whole-steps half k e p h ∙ ap (Option·map (whole k)) n
 
 -- What the whole steps to is what the focus steps to, in its place.
-pub record Inside (k : List Around) (e g : Term) : Type 0 where
+pub record Inside (half : ℕ) (k : List Around) (e g : Term) : Type 0 where
   pub to : Term
   pub steps : next half e ≡ some to
   pub is : g ≡ whole k to
 
-pub next-inside : (k : List Around) (e g : Term) → AllProper k → value? e ≡ false → next half (whole k e) ≡ some g → Inside k e g
-next-inside k e g p h n = go (next half e) refl (sym (whole-steps k e p h) ∙ n)
+pub next-inside : (half : ℕ) (k : List Around) (e g : Term) → AllProper k → value? e ≡ false → next half (whole k e) ≡ some g → Inside half k e g
+next-inside half k e g p h n = go (next half e) refl (sym (whole-steps half k e p h) ∙ n)
   where
-    go : (o : Option Term) → next half e ≡ o → Option·map (whole k) o ≡ some g → Inside k e g
+    go : (o : Option Term) → next half e ≡ o → Option·map (whole k) o ≡ some g → Inside half k e g
     go none q i = absurd (Option·none-ne-some g i)
     go (some x) q i = record { to = x; steps = q; is = sym (Option·some-injective (whole k x) g i) }
 

@@ -19,7 +19,7 @@ use Rattle.calculus.proofs.TypedReduction.{cast-to}
 use Rattle.calculus.proofs.Soundness.{value-no-step}
 use Rattle.calculus.proofs.Evaluation.{next-sound}
 use Rattle.format.specs.Table.{term-sort, refers, rowOf, rowIn, table}
-use Rattle.format.specs.Cell.{Cell, cellAt, half}
+use Rattle.format.specs.Cell.{Cell, cellAt}
 use Rattle.format.specs.Tree.{cells, encode}
 use Rattle.format.specs.Terms.{fromTerm, TermFits}
 use Rattle.format.specs.Book.{sizeLimit}
@@ -38,6 +38,7 @@ use Rattle.moving.specs.Moves.{Kept, PlaceReady, Places}
 use Rattle.moving.proofs.Runs.{place-ready}
 use Rattle.moving.proofs.PlacedRuns.{run-placed}
 use Rattle.reduction.specs.Steps as Reduction
+use Rattle.reduction.proofs.Nexts.{any-range}
 use Rattle.running.specs.Waiting.{Waits, around}
 use Rattle.running.specs.Contexts.{Around, whole, frames}
 use Rattle.running.specs.Places.{RedexParts, of-anno, of-app, of-fix, of-proj, of-sum, of-choice, Standing, Runnable}
@@ -54,7 +55,7 @@ use Rattle.running.proofs.Contexts.{Inside, next-inside, next-whole}
 use Rattle.running.proofs.Waiting.{kept-waits, waiting, waits-right}
 use Rattle.running.proofs.Entering.{Kind, k-anno, term-kind}
 use Rattle.running.proofs.Ranges.{redex-range, redex-low, kind-at, kind-not}
-use Rattle.running.proofs.Standing.{goes, focus-fits, standing-fits, successor-fits}
+use Rattle.running.proofs.Standing.{goes, standing-fits, successor-fits}
 use Rattle.running.proofs.Projecting.{size-whole, redex-value, redex-kind}
 
 -- ---- installing
@@ -169,7 +170,7 @@ emitted-run s {t} m h f n l e =
     at-run refl (omega (arith, root-last m g)) refl (encoded-run m g (part-set s m (encode m (fromTerm h)) (omega (arith, z, l, n)) e))
 
 -- an annotated value becomes a value
-anno-value : {v h : Term} {A : Ty} → value? v ≡ true → Step half (anno v A) h → value? h ≡ true
+anno-value : {half : ℕ} {v h : Term} {A : Ty} → value? v ≡ true → Step half (anno v A) h → value? h ≡ true
 anno-value {v} f (s-anno x) = absurd (value-no-step (value?-says v .0 (subst⁻¹ T f tt) .1) x)
 anno-value {h = h} f (s-cast c) = T-true (value?-says h) (cast-to c)
 
@@ -203,26 +204,26 @@ module _ {w : List ℕ} (p : Place) {e : Term} (s : Standing w (Redex p) e) (r :
   pub redex-at : (cellAt w (p .root) .kind ≡ 25 → ⊥) → (cellAt w (p .root) .kind ≡ 26 → ⊥) → Reduction.Redex w (p .root) (s .focus)
   redex-at k m = redex-of (s .focus) (standing-fits s r) (s .at .parts) k m
 
-  pub successor-of : (h : Term) × (next half (s .focus) ≡ some h)
-  successor-of = goes (s .around) (s .focus) (s .is) (s .proper) r (redex-value (s .at .parts))
+  pub successor-of : (half : ℕ) → (h : Term) × (next half (s .focus) ≡ some h)
+  successor-of half = goes half (s .around) (s .focus) (s .is) (s .proper) r (redex-value (s .at .parts))
 
-  pub within-of : {g : Term} → next half e ≡ some g → Inside (s .around) (s .focus) g
-  within-of {g} n = next-inside (s .around) (s .focus) g (s .proper) (redex-value (s .at .parts)) (sym (ap (next half) (s .is)) ∙ n)
+  pub within-of : (half : ℕ) {g : Term} → next half e ≡ some g → Inside half (s .around) (s .focus) g
+  within-of half {g} n = next-inside half (s .around) (s .focus) g (s .proper) (redex-value (s .at .parts)) (sym (ap (next half) (s .is)) ∙ n)
 
-  fits-after : {g : Term} (n : next half e ≡ some g) → TermFits (within-of n .to)
-  fits-after {g} n =
-      let i = within-of n in
-      focus-fits (s .around) (i .to) (subst TermFits (i .is) (successor-fits e g n (r .fits)))
+  fits-after : (half : ℕ) {g : Term} (n : next half e ≡ some g) → Reduction.Redex w (p .root) (s .focus) → TermFits (within-of half n .to)
+  fits-after half n x =
+      let i = within-of half n in
+      successor-fits (s .focus) (i .to) (any-range Rattle.format.specs.Cell.half half x ∙ i .steps) (standing-fits s r)
 
-  size-after : {g : Term} (n : next half e ≡ some g) → size g ≡ p .start + 8191 - p .root + cells (fromTerm (within-of n .to))
-  size-after {g} n =
-      let i = within-of n in
+  size-after : (half : ℕ) {g : Term} (n : next half e ≡ some g) → size g ≡ p .start + 8191 - p .root + cells (fromTerm (within-of half n .to))
+  size-after half {g} n =
+      let i = within-of half n in
       let a = ap size (i .is) ∙ size-whole (s .around) (i .to) in
       omega (arith, a, around-is, term-cells (i .to))
 
   -- an annotated value becomes a value
-  value-after : {g : Term} (n : next half e ≡ some g) → cellAt w (p .root) .kind ≡ 19 → value? (within-of n .to) ≡ true
-  value-after n k = go (redex-kind (s .at .parts) k) (s .at .parts) (within-of n .steps)
+  value-after : (half : ℕ) {g : Term} (n : next half e ≡ some g) → cellAt w (p .root) .kind ≡ 19 → value? (within-of half n .to) ≡ true
+  value-after half n k = go (redex-kind (s .at .parts) k) (s .at .parts) (within-of half n .steps)
     where
       go : {f h : Term} → Kind 19 f → RedexParts w p f → next half f ≡ some h → value? h ≡ true
       go {f} {h} k-anno (of-anno c v a b) q = anno-value v (next-sound half f h q)
@@ -230,12 +231,13 @@ module _ {w : List ℕ} (p : Place) {e : Term} (s : Standing w (Redex p) e) (r :
 pub emit-ready : {s w : List ℕ} {p : Place} {t : Cell} → Emitting s w p t → Reduction.ContractReady w s (p .root) (p .start + 8191 - p .root)
 emit-ready {p = p} d =
     let y = d .contracting .ready in
-    let a = successor-of p (y .standing) (y .runnable) in
+    let a = successor-of p (y .standing) (y .runnable) Rattle.format.specs.Cell.half in
     record {
       space = record { long = d .contracting .long; used = around-small p (y .standing) (y .runnable) };
       low = redex-low (y .standing .at);
       term = y .standing .focus;
       redex = redex-at p (y .standing) (y .runnable) (kind-not (d .cell) (d .no-read)) (kind-not (d .cell) (d .no-sum));
+      half = Rattle.format.specs.Cell.half;
       successor = a .0;
       steps = a .1;
     }
@@ -246,51 +248,55 @@ module _ {s s′ w : List ℕ} {p : Place} {t : Cell} (d : Emitting s w p t) {o 
   abbrev m : ℕ
   m = p .start + 8191 - p .root
 
-  emits-after : {e g : Term} (st : Standing w (Redex p) e) (r : Runnable e) (n : next half e ≡ some g) → Emits s s′ m o (fromTerm (within-of p st r n .to))
-  emits-after st r n = let i = within-of p st r n in x .says (st .focus) (i .to) (redex-at p st r (kind-not (d .cell) (d .no-read)) (kind-not (d .cell) (d .no-sum))) (i .steps)
+  redex-here : {e : Term} (st : Standing w (Redex p) e) → Runnable e → Reduction.Redex w (p .root) (st .focus)
+  redex-here st r = redex-at p st r (kind-not (d .cell) (d .no-read)) (kind-not (d .cell) (d .no-sum))
 
-  pub contracts-full : o ≡ Out.Full → Contracts w w p Full
-  contracts-full q = record { says = go }
+  emits-after : (half : ℕ) {e g : Term} (st : Standing w (Redex p) e) (r : Runnable e) (n : next half e ≡ some g) → Emits s s′ m o (fromTerm (within-of p st r half n .to))
+  emits-after half st r n = let i = within-of p st r half n in x .says half (st .focus) (i .to) (redex-here st r) (i .steps)
+
+  pub contracts-full : {half : ℕ} → o ≡ Out.Full → Contracts half w w p Full
+  contracts-full {half} q = record { says = go }
     where
       go : (e g : Term) → Standing w (Redex p) e → Runnable e → next half e ≡ some g → ContractsTo w w g Full
-      go e g st r n = by (decLe (m + cells (fromTerm (within-of p st r n .to))) sizeLimit)
+      go e g st r n = by (decLe (m + cells (fromTerm (within-of p st r half n .to))) sizeLimit)
         where
-          by : Dec (m + cells (fromTerm (within-of p st r n .to)) ≤ sizeLimit) → ContractsTo w w g Full
-          by (yes l) = let a = emits-after st r n .fits l .0 in let z : _≡_ {A = ℕ} 0 1 = cc in absurd (omega arith)
-          by (no l) = c-full (omega (arith, size-after p st r n, l)) refl refl
+          by : Dec (m + cells (fromTerm (within-of p st r half n .to)) ≤ sizeLimit) → ContractsTo w w g Full
+          by (yes l) = let a = emits-after half st r n .fits l .0 in let z : _≡_ {A = ℕ} 0 1 = cc in absurd (omega arith)
+          by (no l) = c-full (omega (arith, size-after p st r half n, l)) refl refl
 
   module _ {end : ℕ} (q : o ≡ Out.Next end) where
-    became-after : {e g : Term} (st : Standing w (Redex p) e) (r : Runnable e) (n : next half e ≡ some g) →
-        ((end ≡ m + cells (fromTerm (within-of p st r n .to))) × (end ≤ sizeLimit) × ContractumAt s′ w p (t .kind) m end (st .around) (within-of p st r n .to))
-    became-after st r n = by (decLe (m + cells (fromTerm h)) sizeLimit)
+    became-after : (half : ℕ) {e g : Term} (st : Standing w (Redex p) e) (r : Runnable e) (n : next half e ≡ some g) →
+        ((end ≡ m + cells (fromTerm (within-of p st r half n .to))) × (end ≤ sizeLimit) × ContractumAt s′ w p (t .kind) m end (st .around) (within-of p st r half n .to))
+    became-after half st r n = by (decLe (m + cells (fromTerm h)) sizeLimit)
       where
         h : Term
-        h = within-of p st r n .to
+        h = within-of p st r half n .to
 
         by : Dec (m + cells (fromTerm h) ≤ sizeLimit) → (end ≡ m + cells (fromTerm h)) × (end ≤ sizeLimit) × ContractumAt s′ w p (t .kind) m end (st .around) h
         by (yes l) =
-            let a = emits-after st r n .fits l in
+            let a = emits-after half st r n .fits l in
             let z : end ≡ m + cells (fromTerm h) = cc in
-            let y = emitted-run s m h (fits-after p st r n) (d .contracting .long) l (a .1) in (
+            let y = emitted-run s m h (fits-after p st r half n (redex-here st r)) (d .contracting .long) l (a .1) in (
               z,
               omega (arith, z, l),
               record {
                 proper = st .proper;
                 waits = st .at .waits;
                 run = at-run refl (omega (arith, z)) (sym z) y;
-                fits = fits-after p st r n;
-                value = λ v. value-after p st r n (kind-at (d .cell) v);
+                fits = fits-after p st r half n (redex-here st r);
+                value = λ v. value-after p st r half n (kind-at (d .cell) v);
               },
             )
-        by (no l) = let a = emits-after st r n .full (omega (arith, l)) in let z : _≡_ {A = ℕ} 0 1 = cc in absurd (omega arith)
+        by (no l) = let a = emits-after half st r n .full (omega (arith, l)) in let z : _≡_ {A = ℕ} 0 1 = cc in absurd (omega arith)
 
     pub installing : {kind : ℕ} → length s′ ≡ length s → kind ≡ t .kind → Installing s′ w p kind m end
     installing l i =
         let y = d .contracting .ready in
         let st = y .standing in
-        let a = successor-of p st (y .runnable) in
-        let n : next half (y .term) ≡ some (whole (st .around) (a .0)) = ap (next half) (st .is) ∙ next-whole (st .around) (st .focus) (a .0) (st .proper) (redex-value (st .at .parts)) (a .1) in
-        let b = became-after st (y .runnable) n in
+        let half = Rattle.format.specs.Cell.half in
+        let a = successor-of p st (y .runnable) half in
+        let n : next half (y .term) ≡ some (whole (st .around) (a .0)) = ap (next half) (st .is) ∙ next-whole half (st .around) (st .focus) (a .0) (st .proper) (redex-value (st .at .parts)) (a .1) in
+        let b = became-after half st (y .runnable) n in
         subst (λ (k : ℕ). Installing s′ w p k m end) (sym i)
         (record {
           long = omega (arith, l, d .contracting .long);
@@ -298,43 +304,43 @@ module _ {s s′ w : List ℕ} {p : Place} {t : Cell} (d : Emitting s w p t) {o 
           around = omega (arith, redex-range (st .at) .root);
           small = b .1;
           within = st .around;
-          term = within-of p st (y .runnable) n .to;
+          term = within-of p st (y .runnable) half n .to;
           contractum = b .2;
         })
 
-    pub contracts-next : {v : List ℕ} {y : Focus} → Installs s′ w v p (t .kind) m end y → Contracts w v p (To y)
-    contracts-next {v} {y} z = record { says = go }
+    pub contracts-next : {half : ℕ} {v : List ℕ} {y : Focus} → Installs s′ w v p (t .kind) m end y → Contracts half w v p (To y)
+    contracts-next {half} {v} {y} z = record { says = go }
       where
         go : (e g : Term) → Standing w (Redex p) e → Runnable e → next half e ≡ some g → ContractsTo w v g (To y)
         go e g st r n =
-            let b = became-after st r n in
-            c-to (omega (arith, b .0, b .1, size-after p st r n)) refl
-            (subst (Standing v y) (sym (within-of p st r n .is)) (z .says (st .around) (within-of p st r n .to) (b .2)))
+            let b = became-after half st r n in
+            c-to (omega (arith, b .0, b .1, size-after p st r half n)) refl
+            (subst (Standing v y) (sym (within-of p st r half n .is)) (z .says (st .around) (within-of p st r half n .to) (b .2)))
 
-pub contracts-in-place : {w v : List ℕ} {p : Place} {y : Focus} → Becomes w v p y → Contracts w v p (To y)
+pub contracts-in-place : {half : ℕ} {w v : List ℕ} {p : Place} {y : Focus} → Becomes half w v p y → Contracts half w v p (To y)
 contracts-in-place x = record { says = λ e g st r n. let a = x .says e g st r n in c-to (omega (arith, a .1, r .small)) refl (a .0) }
 
 -- ---- an annotated value, in place or not
 
-module _ {w v : List ℕ} {p : Place} {r : InPlace} (h : CastsInPlace w v p r) where
-  pub became-is : {x : Focus} → r ≡ Became x → Contracts w v p (To x)
+module _ {half : ℕ} {w v : List ℕ} {p : Place} {r : InPlace} (h : CastsInPlace half w v p r) where
+  pub became-is : {x : Focus} → r ≡ Became x → Contracts half w v p (To x)
   became-is {x} q = go (h .says)
     where
-      go : InPlaceBy w v p r → Contracts w v p (To x)
-      go (h-became {x = y} e b) = let i : y ≡ x = cc in subst (λ (z : Focus). Contracts w v p (To z)) i (contracts-in-place b)
+      go : InPlaceBy half w v p r → Contracts half w v p (To x)
+      go (h-became {x = y} e b) = let i : y ≡ x = cc in subst (λ (z : Focus). Contracts half w v p (To z)) i (contracts-in-place b)
       go (h-elsewhere e b) = let z : _≡_ {A = ℕ} 0 1 = cc in absurd (omega arith)
 
   same : r ≡ Elsewhere → v ≡ w
   same q = go (h .says)
     where
-      go : InPlaceBy w v p r → v ≡ w
+      go : InPlaceBy half w v p r → v ≡ w
       go (h-became e b) = let z : _≡_ {A = ℕ} 0 1 = cc in absurd (omega arith)
       go (h-elsewhere e b) = b
 
-  pub still-contracts : {u : List ℕ} {o : Contracted} → r ≡ Elsewhere → Contracts v u p o → Contracts w u p o
-  still-contracts {u} {o} q c = subst (λ (z : List ℕ). Contracts z u p o) (same q) c
+  pub still-contracts : {u : List ℕ} {o : Contracted} → r ≡ Elsewhere → Contracts half v u p o → Contracts half w u p o
+  still-contracts {u} {o} q c = subst (λ (z : List ℕ). Contracts half z u p o) (same q) c
 
-pub still-emitting : {s w v : List ℕ} {p : Place} {t : Cell} {r : InPlace} → ContractingAnno s w p t → CastsInPlace w v p r → r ≡ Elsewhere → Emitting s v p t
-still-emitting {s} {w} {v} {p} {t} a h q =
+pub still-emitting : {half : ℕ} {s w v : List ℕ} {p : Place} {t : Cell} {r : InPlace} → ContractingAnno s w p t → CastsInPlace half w v p r → r ≡ Elsewhere → Emitting s v p t
+still-emitting {s = s} {w} {v} {p} {t} a h q =
     subst (λ (z : List ℕ). Emitting s z p t) (sym (same h q))
     (record { contracting = a .contracting; cell = a .cell; no-read = λ k. omega (arith, k, a .kind); no-sum = λ k. omega (arith, k, a .kind) })

@@ -66,10 +66,10 @@ module _ {l : ℕ} {s₀ w₀ s w : List ℕ} {x₀ : Focus} {x : State} (g : Al
 
 module _ {l : ℕ} {s₀ w₀ s w v : List ℕ} {x₀ : Focus} {x : State} {r : Turn} (g : AllGoing l s₀ w₀ x₀ s w x) where
   -- a turn that goes on took one step of those left
-  going-more : {y : State} → Steps w v x l r → r ≡ Next y → (y .steps ≡ x .steps + 1) × (x .steps < l) × Settled (y .focus)
+  going-more : {y : State} → Steps half w v x l r → r ≡ Next y → (y .steps ≡ x .steps + 1) × (x .steps < l) × Settled (y .focus)
   going-more {y} o q = by (o .says (now g .term) (now g .standing) (now g .runnable))
     where
-      by : TurnOf v (x .focus) (x .steps) l (now g .term) r → (y .steps ≡ x .steps + 1) × (x .steps < l) × Settled (y .focus)
+      by : TurnOf half v (x .focus) (x .steps) l (now g .term) r → (y .steps ≡ x .steps + 1) × (x .steps < l) × Settled (y .focus)
       by (t-value a c i) = let z : _≡_ {A = ℕ} 0 1 = cc in absurd (omega arith)
       by (t-spent a b c i) = let z : _≡_ {A = ℕ} 0 1 = cc in absurd (omega arith)
       by (t-room a b d f c i) = let z : _≡_ {A = ℕ} 0 1 = cc in absurd (omega arith)
@@ -77,10 +77,10 @@ module _ {l : ℕ} {s₀ w₀ s w v : List ℕ} {x₀ : Focus} {x : State} {r : 
           let z : u ≡ y = cc in
           (ap (λ (u : State). u .steps) (sym z) ∙ j, b, subst (λ (u : State). Settled (u .focus)) z k)
 
-  pub going-less : {y : State} → Steps w v x l r → r ≡ Next y → l - y .steps < l - x .steps
+  pub going-less : {y : State} → Steps half w v x l r → r ≡ Next y → l - y .steps < l - x .steps
   going-less o q = let m = going-more o q in omega (arith, m .0, m .1)
 
-  pub going-next : {t : List ℕ} {y : State} → length t ≡ length s → length v ≡ length w → Steps w v x l r → r ≡ Next y → AllGoing l s₀ w₀ x₀ t v y
+  pub going-next : {t : List ℕ} {y : State} → length t ≡ length s → length v ≡ length w → Steps half w v x l r → r ≡ Next y → AllGoing l s₀ w₀ x₀ t v y
   going-next {y = y} a b o q =
       let m = going-more o q in
       record { same = a ∙ g .same; long = omega (arith, a, g .long); work = b ∙ g .work; first = g .first; settled = m .2; taken = omega (arith, m .0, m .1); says = go }
@@ -91,7 +91,7 @@ module _ {l : ℕ} {s₀ w₀ s w v : List ℕ} {x₀ : Focus} {x : State} {r : 
           p : Going l e₀ w x
           p = g .says e₀ i t
 
-          by : TurnOf v (x .focus) (x .steps) l (p .term) r → Going l e₀ v y
+          by : TurnOf half v (x .focus) (x .steps) l (p .term) r → Going l e₀ v y
           by (t-value a c i) = let z : _≡_ {A = ℕ} 0 1 = cc in absurd (omega arith)
           by (t-spent a b c i) = let z : _≡_ {A = ℕ} 0 1 = cc in absurd (omega arith)
           by (t-room a b d f c i) = let z : _≡_ {A = ℕ} 0 1 = cc in absurd (omega arith)
@@ -109,26 +109,26 @@ module _ {l : ℕ} {s₀ w₀ s w v : List ℕ} {x₀ : Focus} {x : State} {r : 
               }
 
   -- a turn that ends the run leaves the term where it stands
-  ending-ready : {y : Focus} {z : Stop} → Steps w v x l r → r ≡ Ended z y → FocusReady v y
+  ending-ready : {y : Focus} {z : Stop} → Steps half w v x l r → r ≡ Ended z y → FocusReady v y
   ending-ready {y} {z} o q = by (o .says (now g .term) (now g .standing) (now g .runnable))
     where
       at : x .focus ≡ y → Standing v (x .focus) (now g .term) → FocusReady v y
       at e i = record { term = now g .term; standing = subst (λ (d : Focus). Standing v d (now g .term)) e i; runnable = now g .runnable }
 
-      by : TurnOf v (x .focus) (x .steps) l (now g .term) r → FocusReady v y
+      by : TurnOf half v (x .focus) (x .steps) l (now g .term) r → FocusReady v y
       by (t-value a c i) = let e : x .focus ≡ y = cc in at e i
       by (t-spent a b c i) = let e : x .focus ≡ y = cc in at e i
       by (t-room a b d f c i) = let e : x .focus ≡ y = cc in at e i
       by (t-next a b d m c j k i) = let z : _≡_ {A = ℕ} 0 1 = cc in absurd (omega arith)
 
-  pub ending-whole : {t : List ℕ} {y : Focus} {z : Stop} → length t ≡ length s → Steps w v x l r → r ≡ Ended z y → WholeReady t v y
+  pub ending-whole : {t : List ℕ} {y : Focus} {z : Stop} → length t ≡ length s → Steps half w v x l r → r ≡ Ended z y → WholeReady t v y
   ending-whole a o q = record { long = omega (arith, a, g .long); ready = ending-ready o q }
 
-  pub going-ends : {y : Focus} {z : Stop} {u : List ℕ} {m : ℕ} → Steps w v x l r → r ≡ Ended z y → EncodesWhole v u y m →
-      {a : List ℕ} {n : ℕ} → Starts a w₀ n x₀ → Runs a u n l (record { stop = z; cells = m })
+  pub going-ends : {y : Focus} {z : Stop} {u : List ℕ} {m : ℕ} → Steps half w v x l r → r ≡ Ended z y → EncodesWhole v u y m →
+      {a : List ℕ} {n : ℕ} → Starts a w₀ n x₀ → Runs half a u n l (record { stop = z; cells = m })
   going-ends {y} {z} {u} {m} o q d b = record { says = λ e A i t. go e (b .says e A i t) (encoded-runnable i t) }
     where
-      go : (e₀ : Term) → Standing w₀ x₀ e₀ → Runnable e₀ → RunOf u l e₀ (record { stop = z; cells = m })
+      go : (e₀ : Term) → Standing w₀ x₀ e₀ → Runnable e₀ → RunOf half u l e₀ (record { stop = z; cells = m })
       go e₀ i t = by (o .says (p .term) (p .standing) (p .runnable))
         where
           p : Going l e₀ w x
@@ -136,7 +136,7 @@ module _ {l : ℕ} {s₀ w₀ s w v : List ℕ} {x₀ : Focus} {x : State} {r : 
 
           done : (a : Answer.Stop) → evaluate half sizeLimit (l - x .steps) (x .steps) (p .term) ≡ ended a (x .steps) (p .term) →
               Rattle.answers.specs.Cases.stopAnswer z ≡ Answer.stopped a (x .steps) → x .focus ≡ y → Standing v (x .focus) (p .term) →
-              RunOf u l e₀ (record { stop = z; cells = m })
+              RunOf half u l e₀ (record { stop = z; cells = m })
           done a b c e i =
               record {
                 stop = a;
@@ -147,7 +147,7 @@ module _ {l : ℕ} {s₀ w₀ s w v : List ℕ} {x₀ : Focus} {x : State} {r : 
                 encoded = d .says (p .term) (subst (λ (f : Focus). Standing v f (p .term)) e i) (p .runnable);
               }
 
-          by : TurnOf v (x .focus) (x .steps) l (p .term) r → RunOf u l e₀ (record { stop = z; cells = m })
+          by : TurnOf half v (x .focus) (x .steps) l (p .term) r → RunOf half u l e₀ (record { stop = z; cells = m })
           by (t-value a c i) =
               let b : Value (x .steps) ≡ z = cc in
               let e : x .focus ≡ y = cc in

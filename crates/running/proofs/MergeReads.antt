@@ -10,7 +10,7 @@ use Rattle.calculus.specs.Syntax.{Term, unit, size}
 use Rattle.calculus.specs.Decide.{FieldPart, no-part, top-part, more-parts, one-part, fieldPart, value?, typeOf}
 use Rattle.calculus.specs.Evaluate.{next, firstPart, content, topValue, readParts, project}
 use Rattle.format.specs.Table.{term-sort, refers}
-use Rattle.format.specs.Cell.{Cell, half}
+use Rattle.format.specs.Cell.{Cell}
 use Rattle.format.specs.Terms.{fromTerm}
 use Rattle.format.proofs.Trees.{term-cells}
 use Rattle.emission.specs.Runs.{Run}
@@ -21,9 +21,8 @@ use Rattle.projection.specs.Parts.{IsValueFrom, ValueFrom, ContentIs, FindsCont
 use Rattle.projection.specs.declared.Content.{Content}
 use Rattle.projection.specs.declared.Content.the-variants.{Cells, Nothing}
 use Rattle.projection.proofs.Values.{no-cells}
-use Rattle.running.specs.Places.{Standing, doneAt, Becomes, BecomesTop, MergeAt}
+use Rattle.running.specs.Places.{Standing, doneAt, TopReady, Becomes, MergeAt}
 use Rattle.running.specs.declared.Place.{Place}
-use Rattle.running.specs.declared.Focus.{Focus}
 use Rattle.running.specs.declared.Focus.the-variants.{Redex}
 use Rattle.running.proofs.Entering.{Kind, k-merge, term-kind}
 use Rattle.running.proofs.Ranges.{redex-range}
@@ -107,15 +106,15 @@ module _ {w : List ℕ} (p : Place) (t : Cell) (d : MergeAt w p t) where
   merge-value = let s = d .at .ready .standing in record { value = field-read p t (d .at) s .value; is = value-from s }
 
   -- what the read becomes, by its parts
-  parts-are : {e h : Term} (s : Standing w (Redex p) e) → next half (s .focus) ≡ some h →
+  parts-are : (half : ℕ) {e h : Term} (s : Standing w (Redex p) e) → next half (s .focus) ≡ some h →
       let v = field-read p t (d .at) s .value in orElse (firstPart (content (t .label)) v) (topValue (fieldPart (t .label) (typeOf v))) ≡ some h
-  parts-are s n =
+  parts-are half s n =
       let q = field-read p t (d .at) s in
-      sym (project-merge (t .label) (term-kind (q .value) (q .run) (d .merged))) ∙ project-is p t (d .at) s n
+      sym (project-merge (t .label) (term-kind (q .value) (q .run) (d .merged))) ∙ project-is p t (d .at) half s n
 
   module _ {r : Content} (f : FindsContent w (p .start) (t .a) (t .label) r) where
-    pub projects-none : {v : List ℕ} {x : Focus} → r ≡ Nothing → BecomesTop w v p x → Becomes w v p x
-    projects-none c o = o .says (λ e s h n. no-other _ _ (none-taken f (value-from s) c) (parts-are s n))
+    pub none-ready : {half : ℕ} → r ≡ Nothing → TopReady half w p
+    none-ready {half} c = record { ready = d .at .ready; becomes = λ e s _ h n. no-other _ _ (none-taken f (value-from s) c) (parts-are half s n) }
 
     module _ {x end : ℕ} (c : r ≡ Cells x end) where
       pub part-range : PartRange p x end
@@ -132,9 +131,9 @@ module _ {w : List ℕ} (p : Place) (t : Cell) (d : MergeAt w p t) where
           let r = part-range in
           shift-ready (p .start) (s .long) (omega (arith, r .some, r .left, r .root)) (r .low) (at-run refl refl (omega (arith, r .some)) (taken f (value-from s) c .run))
 
-      pub projects-part : {v : List ℕ} → Shifts w v x (p .start) (end - x) → Becomes w v p (doneAt p (p .start + (end - x)))
+      pub projects-part : {half : ℕ} {v : List ℕ} → Shifts w v x (p .start) (end - x) → Becomes half w v p (doneAt p (p .start + (end - x)))
       unfolding size
-      projects-part {v} m = becomes p kept (omega (arith, part-range)) (λ e s _. content-done e s)
+      projects-part {half} {v} m = becomes p kept (omega (arith, part-range)) (λ e s _. content-done e s)
         where
           kept : Kept w v (p .start) (suc (p .root))
           kept =
@@ -148,7 +147,7 @@ module _ {w : List ℕ} (p : Place) (t : Cell) (d : MergeAt w p t) where
               let moved = run-shifted (at-run refl refl (omega (arith, z .some)) (z .run)) m in
               let a = counts (z .run) ∙ ap (λ (n : ℕ). x + n) (term-cells (z .part)) in
               let b = counts (q .run) ∙ ap (λ (n : ℕ). p .start + n) (term-cells (q .value)) in
-              reduct-of (q .is) (the-part _ _ (z .is) (parts-are s n))
+              reduct-of (q .is) (the-part _ _ (z .is) (parts-are half s n))
               (record {
                 final = z .final;
                 run = at-run refl (omega (arith, z .some)) refl moved;

@@ -15,7 +15,7 @@ use Rattle.calculus.specs.Evaluate.{next, project}
 use Rattle.calculus.proofs.Bools.{true-says}
 use Rattle.calculus.proofs.Tests.{value?-says}
 use Rattle.format.specs.Table.{term-sort, refers, rowOf, rowIn, table}
-use Rattle.format.specs.Cell.{Cell, cellAt, cellBytes, half}
+use Rattle.format.specs.Cell.{Cell, cellAt, cellBytes}
 use Rattle.format.specs.Tree.{kindIn}
 use Rattle.format.specs.Terms.{fromTerm}
 use Rattle.format.proofs.Trees.{term-cells, term-positive}
@@ -28,7 +28,7 @@ use Rattle.typed_reduction.proofs.Casts.{when-some}
 use Rattle.running.specs.Waiting.{Waits, around}
 use Rattle.running.specs.Contexts.{Around, whole, frames}
 use Rattle.running.specs.Places.{RedexParts, of-anno, of-app, of-fix, of-proj, of-sum, of-choice, Standing, Runnable, doneAt, Becomes, RedexAt}
-use Rattle.running.specs.Places.{SingleCell, top-cell, number-cell, SingleReady, BecomesSingle, BecomesTop}
+use Rattle.running.specs.Places.{SingleCell, top-cell, number-cell, SingleReady, TopReady}
 use Rattle.running.specs.declared.Place.{Place}
 use Rattle.running.specs.declared.Focus.{Focus}
 use Rattle.running.specs.declared.Focus.the-variants.{Redex}
@@ -76,9 +76,9 @@ read-of p t k-proj (of-proj {v = v} c f r i) e =
     record { value = v; is = ap (λ (n : ℕ). proj n v) (sym l); final = f; run = at-run refl (sym a) refl r }
 
 -- a field read of a value, by the rule
-next-proj : (l : ℕ) (v : Term) → value? v ≡ true → next half (proj l v) ≡ project l v
+next-proj : (half : ℕ) (l : ℕ) (v : Term) → value? v ≡ true → next half (proj l v) ≡ project l v
 unfolding next
-next-proj l v f = rw (f, next) refl
+next-proj half l v f = rw (f, next) refl
 
 -- a value of at most n cells that runs from start and ends before left
 pub record Reduct (w : List ℕ) (start left n : ℕ) (h : Term) : Type 0 where
@@ -91,15 +91,15 @@ pub reduct-of : {w : List ℕ} {start left : ℕ} {f g x h : Term} → f ≡ g �
 reduct-of {w} {start} {left} {f} {x = x} i j c = subst (Reduct w start left (size f)) j (subst (λ (t : Term). Reduct w start left (size t) x) (sym i) c)
 
 -- a redex that has become such a value in place
-pub becomes : {w v : List ℕ} (p : Place) {left : ℕ} → Kept w v (p .start) (suc (p .root)) → left ≤ p .root →
+pub becomes : {half : ℕ} {w v : List ℕ} (p : Place) {left : ℕ} → Kept w v (p .start) (suc (p .root)) → left ≤ p .root →
     ((e : Term) (s : Standing w (Redex p) e) → Runnable e → (h : Term) → next half (s .focus) ≡ some h → Reduct v (p .start) left (size (s .focus)) h) →
-    Becomes w v p (doneAt p left)
-becomes {w} {v} p {left} k l c = record { says = λ e g s r n. go s r n }
+    Becomes half w v p (doneAt p left)
+becomes {half} {w} {v} p {left} k l c = record { says = λ e g s r n. go s r n }
   where
     go : {e g : Term} → Standing w (Redex p) e → Runnable e → next half e ≡ some g → Standing v (doneAt p left) g × (size g ≤ size e)
     go {e} {g} s r n =
         let K = s .around in
-        let i = next-inside K (s .focus) g (s .proper) (redex-value (s .at .parts)) (sym (ap (next half) (s .is)) ∙ n) in
+        let i = next-inside half K (s .focus) g (s .proper) (redex-value (s .at .parts)) (sym (ap (next half) (s .is)) ∙ n) in
         let m = c e s r (i .to) (i .steps) in
         let a : size g ≡ size (whole K (i .to)) = ap size (i .is) in
         let b : size e ≡ size (whole K (s .focus)) = ap size (s .is) in (
@@ -119,14 +119,14 @@ becomes {w} {v} p {left} k l c = record { says = λ e g s r n. go s r n }
           omega (arith, size-whole K (i .to), size-whole K (s .focus), a, b, m .small),
         )
 
-pub becomes-at : {w v : List ℕ} {p : Place} {left : ℕ} {r : Focus} → r ≡ doneAt p left → Becomes w v p (doneAt p left) → Becomes w v p r
-becomes-at {w} {v} {p} e b = subst (Becomes w v p) (sym e) b
+pub becomes-at : {half : ℕ} {w v : List ℕ} {p : Place} {left : ℕ} {r : Focus} → r ≡ doneAt p left → Becomes half w v p (doneAt p left) → Becomes half w v p r
+becomes-at {half} {w} {v} {p} e b = subst (Becomes half w v p) (sym e) b
 
 pub unchanged : {w : List ℕ} (p : Place) → Kept w w (p .start) (suc (p .root))
 unchanged p = record { long = refl; below = λ i h. refl; above = λ i h. refl }
 
 -- a value of one cell, written where the redex begins
-module _ {w v : List ℕ} {p : Place} {t : Cell} (d : SingleReady w p t) (o : v ≡ sets w (8 * p .start) (cellBytes t)) where
+module _ {half : ℕ} {w v : List ℕ} {p : Place} {t : Cell} (d : SingleReady half w p t) (o : v ≡ sets w (8 * p .start) (cellBytes t)) where
   x : Stored w v (p .start) t
   x = stored _ (start-within (d .ready .standing)) o
 
@@ -146,17 +146,16 @@ module _ {w v : List ℕ} {p : Place} {t : Cell} (d : SingleReady w p t) (o : v 
       let tree = number b c (omega (arith, d .b-fits, ap (λ (c : Cell). c .b) i)) (omega (arith, d .c-fits, ap (λ (c : Cell). c .c) i)) in
       record { final = refl; run = rw tree (at-run refl (omega arith) (omega arith) (r-refers y refl refl r-unused r-plain r-plain refl (refl, tt))); small = l }
 
-  pub becomes-single : {f : Focus} → f ≡ doneAt p (p .start + 1) → BecomesSingle w v p t f
+  pub becomes-single : {f : Focus} → f ≡ doneAt p (p .start + 1) → Becomes half w v p f
   becomes-single is =
-      record {
-        says = λ f c i. becomes-at is (becomes p kept (omega (arith, r .start, r .apart, r .right))
-            (λ e s r h n. subst (Reduct v (p .start) (p .start + 1) (size (s .focus))) (i e s r h n)
-            (single-reduct c (omega (arith, term-positive (s .focus), term-cells (s .focus))))));
-      }
+      becomes-at is (becomes p kept (omega (arith, r .start, r .apart, r .right))
+      (λ e s r h n. subst (Reduct v (p .start) (p .start + 1) (size (s .focus))) (d .becomes e s r h n)
+      (single-reduct (d .single) (omega (arith, term-positive (s .focus), term-cells (s .focus))))))
 
 -- the top value
-pub becomes-top : {w v : List ℕ} {p : Place} {f : Focus} → BecomesSingle w v p (record { kind = 18; label = 0; a = 0; b = 0; c = 0 }) f → BecomesTop w v p f
-becomes-top b = record { says = λ i. b .says unit (top-cell refl) (λ e s r h n. i e s h n) }
+pub top-single : {half : ℕ} {w : List ℕ} {p : Place} → TopReady half w p → SingleReady half w p (record { kind = 18; label = 0; a = 0; b = 0; c = 0 })
+top-single d =
+    record { ready = d .ready; a-fits = omega arith; b-fits = omega arith; c-fits = omega arith; value = unit; single = top-cell refl; becomes = d .becomes }
 
 module _ {w : List ℕ} {start left a : ℕ} (l : ℕ) where
   reduct-top : {v : Term} (h : Term) → Run true w start (refers term-sort) a (fromTerm v) left → Kind 18 v → project l v ≡ some h →
@@ -200,16 +199,16 @@ module _ {w : List ℕ} (p : Place) (t : Cell) (d : RedexAt w p t 25) where
   left-low = let r = redex-range (d .ready .standing .at) in omega (arith, r .apart, r .right)
 
   -- what the read becomes, by the rule
-  pub project-is : {e : Term} (s : Standing w (Redex p) e) {h : Term} → next half (s .focus) ≡ some h → project (t .label) (field-read s .value) ≡ some h
-  project-is s n = let q = field-read s in sym (next-proj (t .label) (q .value) (q .final)) ∙ sym (ap (next half) (q .is)) ∙ n
+  pub project-is : (half : ℕ) {e : Term} (s : Standing w (Redex p) e) {h : Term} → next half (s .focus) ≡ some h → project (t .label) (field-read s .value) ≡ some h
+  project-is half s n = let q = field-read s in sym (next-proj half (t .label) (q .value) (q .final)) ∙ sym (ap (next half) (q .is)) ∙ n
 
-  pub projects-top : {v : Cell} → v ≡ cellAt w (t .a) → v .kind ≡ 18 → Becomes w w p (doneAt p (p .left))
-  projects-top i k =
+  pub projects-top : {half : ℕ} {v : Cell} → v ≡ cellAt w (t .a) → v .kind ≡ 18 → Becomes half w w p (doneAt p (p .left))
+  projects-top {half} i k =
       becomes p (unchanged p) left-low
-      (λ e s r h n. let q = field-read s in reduct-of (q .is) refl (reduct-top (t .label) h (q .run) (term-kind (q .value) (q .run) (kind-at i k)) (project-is s n)))
+      (λ e s r h n. let q = field-read s in reduct-of (q .is) refl (reduct-top (t .label) h (q .run) (term-kind (q .value) (q .run) (kind-at i k)) (project-is half s n)))
 
-  pub projects-record : {v : Cell} → v ≡ cellAt w (t .a) → (v .kind ≡ 18 → ⊥) → (v .kind ≡ 22 → ⊥) → Becomes w w p (doneAt p (p .left - 1))
-  projects-record i k m =
+  pub projects-record : {half : ℕ} {v : Cell} → v ≡ cellAt w (t .a) → (v .kind ≡ 18 → ⊥) → (v .kind ≡ 22 → ⊥) → Becomes half w w p (doneAt p (p .left - 1))
+  projects-record {half} i k m =
       becomes p (unchanged p) (omega (arith, left-low))
       (λ e s r h n. let q = field-read s in
-      reduct-of (q .is) refl (reduct-record (t .label) h (value?-says (q .value) .0 (true-says _ .1 (q .final)) .1) (q .final) (q .run) (kind-not i k) (kind-not i m) (project-is s n)))
+      reduct-of (q .is) refl (reduct-record (t .label) h (value?-says (q .value) .0 (true-says _ .1 (q .final)) .1) (q .final) (q .run) (kind-not i k) (kind-not i m) (project-is half s n)))

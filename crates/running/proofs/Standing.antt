@@ -24,14 +24,14 @@ use Rattle.running.specs.declared.Focus.{Focus}
 use Rattle.running.proofs.Contexts.{no-value, next-inside}
 
 -- a typed term that is no value has a successor
-pub successor : {e : Term} → Runnable e → value? e ≡ false → (f : Term) × (next half e ≡ some f)
-successor {e} t v = go (progress (t .typed))
+pub successor : (k : ℕ) {e : Term} → Runnable e → value? e ≡ false → (f : Term) × (next k e ≡ some f)
+successor k {e} t v = go (progress (t .typed))
   where
-    go : IsValue e ⊎ ((f : Term) × Step half e f) → (f : Term) × (next half e ≡ some f)
+    go : IsValue e ⊎ ((f : Term) × Step k e f) → (f : Term) × (next k e ≡ some f)
     go (inl u) = absurd (subst T v (value?-says e .1 u))
     go (inr s) = next-complete (s .1)
 
--- it fits where the term does
+-- it fits where the term does, if sums are held to the range of a cell's numbers
 pub successor-fits : (e f : Term) → next half e ≡ some f → TermFits e → TermFits f
 successor-fits e f n h = reaches-fits (r-suc r-zero (next-sound half e f n)) h
 
@@ -42,17 +42,17 @@ next-runnable {e} {f} t n l =
     record { type = y .0; typed = y .1; fits = successor-fits e f n (t .fits); small = l }
 
 -- a focus that is no value has a successor of its own
-pub goes : (K : List Around) {e : Term} (f : Term) → e ≡ whole K f → AllProper K → Runnable e → value? f ≡ false → (g : Term) × (next half f ≡ some g)
-goes K {e} f is p t v =
-    let n = successor t (rw is (no-value K f p v)) in
-    let i = next-inside K f (n .0) p v (sym (ap (next half) is) ∙ n .1) in
+pub goes : (k : ℕ) (K : List Around) {e : Term} (f : Term) → e ≡ whole K f → AllProper K → Runnable e → value? f ≡ false → (g : Term) × (next k f ≡ some g)
+goes k K {e} f is p t v =
+    let n = successor k t (rw is (no-value K f p v)) in
+    let i = next-inside k K f (n .0) p v (sym (ap (next k) is) ∙ n .1) in
     (i .to, i .steps)
 
 -- it is no variable
 pub no-variable : (K : List Around) {e : Term} (f : Term) {n : ℕ} → e ≡ whole K f → AllProper K → Runnable e → (f ≡ var n → ⊥)
 unfolding value? next
 no-variable K {e} f {n} is p t q =
-    let g = goes K f is p t (ap value? q) in
+    let g = goes half K f is p t (ap value? q) in
     Option·none-ne-some (g .0) (sym (ap (next half) q) ∙ g .1)
 
 inside-fits : (F : Around) (e : Term) → TermFits (plugTerm F e) → TermFits e

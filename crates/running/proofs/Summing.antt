@@ -18,9 +18,8 @@ use Rattle.emission.proofs.Runs.{at-run}
 use Rattle.emission.proofs.RunParts.{runs-term}
 use Rattle.numbers.specs.Sums.{AddsHeld}
 use Rattle.typed_reduction.specs.Casting.{NumberReady, ReadsNumber}
-use Rattle.running.specs.Places.{RedexParts, of-sum, Standing, Runnable, RedexAt, Becomes, number-cell, BecomesSingle}
+use Rattle.running.specs.Places.{RedexParts, of-sum, Standing, Runnable, RedexAt, number-cell, SingleReady}
 use Rattle.running.specs.declared.Place.{Place}
-use Rattle.running.specs.declared.Focus.{Focus}
 use Rattle.running.specs.declared.Focus.the-variants.{Redex}
 use Rattle.running.proofs.Entering.{Kind, k-sum}
 use Rattle.running.proofs.Ranges.{kind-at}
@@ -52,18 +51,18 @@ sides-of {t = t} k-sum g (of-sum {v = v} {u = u} d) e =
     }
 
 -- the readings of both sides, by the rule
-record Readings (v u g : Term) : Type 0 where
+record Readings (k : ℕ) (v u g : Term) : Type 0 where
   left : Term
   right : Term
   left-reads : cast int v ≡ some left
   right-reads : cast int u ≡ some right
-  is : lit (hold half (numberOf left +ℤ numberOf right)) ≡ g
+  is : lit (hold k (numberOf left +ℤ numberOf right)) ≡ g
 
-readings : (v u : Term) {g : Term} → value? v ≡ true → value? u ≡ true → next half (sum v u) ≡ some g → Readings v u g
+readings : (k : ℕ) (v u : Term) {g : Term} → value? v ≡ true → value? u ≡ true → next k (sum v u) ≡ some g → Readings k v u g
 unfolding next add
-readings v u {g} e f n = go (cast int v) (cast int u) refl refl (rw (e, f, next) at n)
+readings k v u {g} e f n = go (cast int v) (cast int u) refl refl (rw (e, f, next) at n)
   where
-    go : (o q : Option Term) → cast int v ≡ o → cast int u ≡ q → add half o q ≡ some g → Readings v u g
+    go : (o q : Option Term) → cast int v ≡ o → cast int u ≡ q → add k o q ≡ some g → Readings k v u g
     go none q i j n = absurd (Option·none-ne-some g n)
     go (some x) none i j n = absurd (Option·none-ne-some g n)
     go (some x) (some y) i j n = record { left = x; right = y; left-reads = i; right-reads = j; is = Option·some-injective _ g n }
@@ -72,14 +71,14 @@ module _ {w : List ℕ} {p : Place} {t : Cell} (d : RedexAt w p t 26) where
   sides : {e : Term} (s : Standing w (Redex p) e) → Runnable e → Sides w (s .focus) t
   sides s r = sides-of (redex-kind (s .at .parts) (kind-at (d .cell) (d .kind))) (standing-fits s r) (s .at .parts) (d .cell)
 
-  read : {e g : Term} (s : Standing w (Redex p) e) (r : Runnable e) → next half (s .focus) ≡ some g → Readings (sides s r .left) (sides s r .right) g
-  read s r n = let q = sides s r in readings (q .left) (q .right) (q .left-value) (q .right-value) (sym (ap (next half) (q .is)) ∙ n)
+  read : (k : ℕ) {e g : Term} (s : Standing w (Redex p) e) (r : Runnable e) → next k (s .focus) ≡ some g → Readings k (sides s r .left) (sides s r .right) g
+  read k s r n = let q = sides s r in readings k (q .left) (q .right) (q .left-value) (q .right-value) (sym (ap (next k) (q .is)) ∙ n)
 
   abbrev here : Sides w (d .ready .standing .focus) t
   here = sides (d .ready .standing) (d .ready .runnable)
 
-  abbrev here-read : Readings (here .left) (here .right) (successor-of p (d .ready .standing) (d .ready .runnable) .0)
-  here-read = read (d .ready .standing) (d .ready .runnable) (successor-of p (d .ready .standing) (d .ready .runnable) .1)
+  abbrev here-read : Readings half (here .left) (here .right) (successor-of p (d .ready .standing) (d .ready .runnable) half .0)
+  here-read = read half (d .ready .standing) (d .ready .runnable) (successor-of p (d .ready .standing) (d .ready .runnable) half .1)
 
   pub left-ready : NumberReady w (t .a)
   left-ready = record { at = record { value = here .left; holds = here .left-runs }; reduct = here-read .left; casts = here-read .left-reads }
@@ -87,15 +86,24 @@ module _ {w : List ℕ} {p : Place} {t : Cell} (d : RedexAt w p t 26) where
   pub right-ready : NumberReady w (t .b)
   right-ready = record { at = record { value = here .right; holds = here .right-runs }; reduct = here-read .right; casts = here-read .right-reads }
 
-  pub sums : {v : List ℕ} {r : Focus} {x y z : ℕ} → ReadsNumber w (t .a) x → ReadsNumber w (t .b) y → AddsHeld x y half z →
-      BecomesSingle w v p (record { kind = 17; label = 0; a = 0; b = z % 65536; c = z / 65536 }) r → Becomes w v p r
+  pub sum-ready : {x y z : ℕ} → ReadsNumber w (t .a) x → ReadsNumber w (t .b) y → AddsHeld x y half z →
+      SingleReady half w p (record { kind = 17; label = 0; a = 0; b = z % 65536; c = z / 65536 })
   unfolding numberOf
-  sums {x = x} {y} {z} f g h o = o .says (lit (signed half (z % 65536 + 65536 * (z / 65536)))) (number-cell refl) same
+  sum-ready {x} {y} {z} f g h =
+      record {
+        ready = d .ready;
+        a-fits = omega arith;
+        b-fits = omega arith;
+        c-fits = omega (arith, h .fits);
+        value = lit (signed half (z % 65536 + 65536 * (z / 65536)));
+        single = number-cell refl;
+        becomes = same;
+      }
     where
       same : (e : Term) (s : Standing w (Redex p) e) → Runnable e → (d : Term) → next half (s .focus) ≡ some d → lit (signed half (z % 65536 + 65536 * (z / 65536))) ≡ d
       same e s r d n =
           let q = sides s r in
-          let a = read s r n in
+          let a = read half s r n in
           let i = f .says (q .left) (a .left) (q .left-runs) (a .left-reads) in
           let j = g .says (q .right) (a .right) (q .right-runs) (a .right-reads) in
           ap lit (ap (signed half) (omega arith) ∙ h .says) ∙ (rw (i, j) at (a .is))

@@ -202,9 +202,9 @@ pub record Settles (w v : List ℕ) (x y : Focus) : Type 0 where
 abbrev pub doneAt : Place → ℕ → Focus
 doneAt p left = Done (record { left = left; start = p .start; right = p .root + 1; root = p .root; up = p .up })
 
--- The redex has become a term that is no larger and has its place.
-pub record Becomes (w v : List ℕ) (p : Place) (r : Focus) : Type 0 where
-  pub says : (e g : Term) → Standing w (Redex p) e → Runnable e → next half e ≡ some g → Standing v r g × (size g ≤ size e)
+-- The redex has become a term that is no larger and has its place; h is half of the range that sums are held to, here and below.
+pub record Becomes (h : ℕ) (w v : List ℕ) (p : Place) (r : Focus) : Type 0 where
+  pub says : (e g : Term) → Standing w (Redex p) e → Runnable e → next h e ≡ some g → Standing v r g × (size g ≤ size e)
 
 -- The focus is a redex.
 abbrev pub AtRedex : List ℕ → Place → Type 0
@@ -215,21 +215,20 @@ pub data SingleCell (t : Cell) : Term → Type 0 where
   top-cell : t ≡ record { kind = 18; label = 0; a = 0; b = 0; c = 0 } → SingleCell t unit
   number-cell : {b c : ℕ} → t ≡ record { kind = 17; label = 0; a = 0; b = b; c = c } → SingleCell t (lit (signed half (b + 65536 * c)))
 
--- The cell t of a value of one cell, for which there is room.
-pub record SingleReady (w : List ℕ) (p : Place) (t : Cell) : Type 0 where
+-- The redex becomes a value of one cell, t, and nothing else.
+pub record SingleReady (h : ℕ) (w : List ℕ) (p : Place) (t : Cell) : Type 0 where
   pub ready : AtRedex w p
   pub a-fits : t .a < 65536
   pub b-fits : t .b < 65536
   pub c-fits : t .c < 65536
+  pub value : Term
+  pub single : SingleCell t value
+  pub becomes : (e : Term) (s : Standing w (Redex p) e) → Runnable e → (d : Term) → next h (s .focus) ≡ some d → value ≡ d
 
--- The value x of one cell, t, is done in its place: the redex has become it, if it becomes nothing else.
-pub record BecomesSingle (w v : List ℕ) (p : Place) (t : Cell) (r : Focus) : Type 0 where
-  pub says : (x : Term) → SingleCell t x →
-      ((e : Term) (s : Standing w (Redex p) e) → Runnable e → (d : Term) → next half (s .focus) ≡ some d → x ≡ d) → Becomes w v p r
-
--- The top value is done in its place: the redex has become it, if it becomes nothing else.
-pub record BecomesTop (w v : List ℕ) (p : Place) (r : Focus) : Type 0 where
-  pub says : ((e : Term) (s : Standing w (Redex p) e) (d : Term) → next half (s .focus) ≡ some d → unit ≡ d) → Becomes w v p r
+-- The redex becomes the top value, and nothing else.
+pub record TopReady (h : ℕ) (w : List ℕ) (p : Place) : Type 0 where
+  pub ready : AtRedex w p
+  pub becomes : (e : Term) (s : Standing w (Redex p) e) → Runnable e → (d : Term) → next h (s .focus) ≡ some d → unit ≡ d
 
 -- A redex whose cell t is of kind k.
 pub record RedexAt (w : List ℕ) (p : Place) (t : Cell) (k : ℕ) : Type 0 where
@@ -259,13 +258,13 @@ pub record FunctionAt (w : List ℕ) (p : Place) (t v y : Cell) : Type 0 where
   pub proper : y .c ≡ 1 → ⊥
 
 -- It has become what it becomes in place, or nothing has changed.
-pub data InPlaceBy (w v : List ℕ) (p : Place) (r : InPlace) : Type 0 where
-  h-became : {x : Focus} → r ≡ Became x → Becomes w v p x → InPlaceBy w v p r
-  h-elsewhere : r ≡ Elsewhere → v ≡ w → InPlaceBy w v p r
+pub data InPlaceBy (h : ℕ) (w v : List ℕ) (p : Place) (r : InPlace) : Type 0 where
+  h-became : {x : Focus} → r ≡ Became x → Becomes h w v p x → InPlaceBy h w v p r
+  h-elsewhere : r ≡ Elsewhere → v ≡ w → InPlaceBy h w v p r
 
 -- What casting an annotated value in place gives.
-pub record CastsInPlace (w v : List ℕ) (p : Place) (r : InPlace) : Type 0 where
-  pub says : InPlaceBy w v p r
+pub record CastsInPlace (h : ℕ) (w v : List ℕ) (p : Place) (r : InPlace) : Type 0 where
+  pub says : InPlaceBy h w v p r
 
 -- What a redex became is encoded from cell m of s on, before end, all its numbers fitting: a value if the redex was an annotation.
 pub record ContractumAt (s w : List ℕ) (p : Place) (kind m end : ℕ) (K : List Around) (h : Term) : Type 0 where
@@ -320,8 +319,8 @@ pub data ContractsTo (w v : List ℕ) (g : Term) (r : Contracted) : Type 0 where
   c-full : sizeLimit < size g → r ≡ Full → v ≡ w → ContractsTo w v g r
 
 -- The redex is contracted.
-pub record Contracts (w v : List ℕ) (p : Place) (r : Contracted) : Type 0 where
-  pub says : (e g : Term) → Standing w (Redex p) e → Runnable e → next half e ≡ some g → ContractsTo w v g r
+pub record Contracts (h : ℕ) (w v : List ℕ) (p : Place) (r : Contracted) : Type 0 where
+  pub says : (e g : Term) → Standing w (Redex p) e → Runnable e → next h e ≡ some g → ContractsTo w v g r
 
 -- The cell up waits for a tree that is held at child.
 pub record Held (w : List ℕ) (up child : ℕ) (K : List Around) (t : Tree) : Type 0 where

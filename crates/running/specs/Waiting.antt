@@ -1,6 +1,7 @@
 -- What waits around the focus of a run: the cells whose parts are not all values yet. Such a cell keeps its place and lends its fields: one
--- that waits for its first part has in field a the cell that waits around it, and keeps its others; one that waits for its second part has that in
--- field b, and in field c where its first part begins, raised by 1. Assumes nothing.
+-- that waits for its first part has in field a the cell that waits around it, and keeps field b, and of a choice field c; of every other kind
+-- field c is 0 then. One that waits for its second part has that cell in field b, and in field c where its first part begins, raised by 1. Assumes
+-- nothing.
 use Prim.Native.Nat.{ℕ, suc, _+_, _≤_, _<_}
 use mathlib.Core.Path.{_≡_}
 use mathlib.Core.Bool.{true}

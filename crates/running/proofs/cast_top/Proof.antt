@@ -1,17 +1,17 @@
 -- `running::cast_top` meets its contract. Assumes nothing.
-use Rattle.running.proofs.Casting.{casts-top}
+use Rattle.running.proofs.Casting.{top-ready}
 use borrow.Author.Needs.{needs}
 use Rattle.running.proofs.cast_top.Statement.{statement}
 use Rattle.running.proofs.cast_top.Tie as tie
 
 become-top-requires : tie.Need-become-top-requires
-become-top-requires c κs = search
+become-top-requires c κs = search top-ready
 
 same-length : tie.Need-same-length
 same-length c = search needs
 
 returns : tie.Need-returns
-returns c = search casts-top
+returns c = search needs
 
 pub cast-top-spec : {M : Type 1} → statement M
 cast-top-spec =

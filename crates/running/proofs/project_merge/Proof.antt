@@ -2,7 +2,7 @@
 use native.Mathlib.Omega.{arith}
 use Rattle.running.proofs.Ranges.{redex-low}
 use Rattle.running.proofs.Projecting.{becomes-at}
-use Rattle.running.proofs.MergeReads.{merge-value, part-range, part-shift, projects-none, projects-part}
+use Rattle.running.proofs.MergeReads.{merge-value, part-range, part-shift, none-ready, projects-part}
 use borrow.Author.Needs.{needs}
 use Rattle.running.proofs.project_merge.Statement.{statement}
 use Rattle.running.proofs.project_merge.Tie as tie
@@ -17,16 +17,16 @@ enum-told : tie.Need-enum-told
 enum-told c = search needs
 
 become-top-requires : tie.Need-become-top-requires
-become-top-requires c κs = search
+become-top-requires c κs =
+    let told = c .before in
+    let asked = told .before .before in
+    none-ready _ _ (asked .before .before .before .pre) (asked .value-part .ensures) (told .enum-told .given .1)
 
 same-length : tie.Need-same-length
 same-length c = search needs
 
 returns : tie.Need-returns
-returns c =
-    let told = c .before .before .before .before in
-    let asked = told .before .before in
-    projects-none _ _ (asked .before .before .before .pre) (asked .value-part .ensures) (told .enum-told .given .1) (c .before .before .become-top .ensures)
+returns c = search needs
 
 sub-n : tie.Need-sub-n
 sub-n c =
