@@ -7,7 +7,7 @@ use compare::extremes::{left, times};
 use compare::families::families;
 use compare::loops::{accumulated, countdown, triangular};
 use compare::random::Random;
-use compare::samples::{doubled, own_fixpoint};
+use compare::samples::{doubled, own_fixpoint, two_chains};
 use evaluator::{decode, encode_term, kind, Answer, Cell, Term, Type};
 
 pub type Named = (String, Vec<u8>);
@@ -120,7 +120,7 @@ pub fn costly() -> Vec<Named> {
         named("2,048 equal numbers, balanced", balanced),
         named("600 records of one label against 600", Term::merge(alike.clone(), alike)),
         ("two equal bodies of 1,020 sums, unshared".to_string(), encode_term(&Term::merge(summing(1_020), summing(1_020)))),
-        ("two equal doubling chains of 39 cells".to_string(), two_chains()),
+        ("two equal doubling chains of 39 cells".to_string(), chains_merged()),
     ]
 }
 
@@ -129,12 +129,45 @@ fn summing(count: usize) -> Term {
     Term::function(times(count, number(1), |e| Term::sum(e, Term::variable(0))), int(), int())
 }
 
-fn two_chains() -> Vec<u8> {
-    let one = Cells::of(&doubled(zeroed(kind::TOP_VALUE), 38)).expect("a book").cells;
-    let n = one.len() as u16;
-    let other = one.iter().map(|cell| cell.redirected(|to| to + n));
-    let merge = Cell::new(kind::MERGE, 0, [n - 1, 2 * n - 1, 0]);
-    Cells { cells: one.iter().copied().chain(other).chain([merge]).collect(), root: 2 * n }.bytes()
+/// So many functions in cells of their own whose body is one cell, merged.
+fn one_body(count: usize) -> [(&'static str, Vec<u8>); 3] {
+    let function = Cell::new(kind::FUNCTION, 0, [1, 0, 0]);
+    merges(&vec![number(0); count]).map(|(way, merge)| {
+        let mut book = Cells::of(&encode_term(&merge)).expect("a book");
+        [kind::VARIABLE, kind::INT].map(zeroed).into_iter().for_each(|cell| book.insert(0, cell));
+        book.cells.iter_mut().filter(|cell| cell.kind == kind::NUMBER).for_each(|cell| *cell = function);
+        (way, book.bytes())
+    })
+}
+
+/// Merges of functions: with one body, with equal bodies in cells of their own, with types that are disjoint, and large ones that differ in
+/// the cell that is compared last.
+pub fn merged_functions() -> Vec<Named> {
+    let unshared = |name: String, term: &Term| (name, encode_term(term));
+    let sum = |n: i32| Term::sum(Term::variable(0), number(n));
+    let alike = Term::function(Term::choice(sum(1), sum(2), sum(3)), int(), int());
+    let equal = merges(&vec![alike; 200]);
+    let to_top = merges(&(0..600).map(|n| Term::function(number(n), int(), top())).collect::<Vec<_>>());
+    let field = |label: u8| Term::function(Term::record(label, Term::variable(0)), int(), Type::record(label, int()));
+    let fields = merges(&(0..=255).map(field).collect::<Vec<_>>());
+    let last = |n: i32| {
+        let sums = times(1_018, number(1), |e| Term::sum(e, Term::variable(0)));
+        Term::function(Term::sum(sums, number(n)), int(), int())
+    };
+    let mut books = one_body(600).map(|(way, book)| (format!("600 functions with one body, {way}"), book)).to_vec();
+    books.extend(equal.map(|(way, e)| unshared(format!("200 functions with equal bodies of 10 cells, unshared, {way}"), &e)));
+    books.extend(to_top.map(|(way, e)| unshared(format!("600 functions to Top with other bodies, {way}"), &e)));
+    books.extend(fields.map(|(way, e)| unshared(format!("256 functions to other fields, {way}"), &e)));
+    books.push(unshared("two equal bodies of 1,019 sums, unshared".to_string(), &Term::merge(last(1), last(1))));
+    books.push(unshared("the same, the last number another".to_string(), &Term::merge(last(1), last(2))));
+    books
+}
+
+fn chains_merged() -> Vec<u8> {
+    let mut chains = two_chains(38);
+    let [one, other] = [chains.root / 2, chains.root];
+    chains.cells.push(Cell::new(kind::MERGE, 0, [one, other, 0]));
+    Cells { root: other + 1, ..chains }.bytes()
 }
 
 fn records(count: usize, content: Term) -> Term {

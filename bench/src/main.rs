@@ -225,7 +225,7 @@ fn casts(title: &str) {
 /// A table, from its title on.
 type Table = fn(&str);
 
-const TABLES: [(&str, Table); 13] = [
+const TABLES: [(&str, Table); 14] = [
     ("Small typed books together", small_books),
     ("Books of 4,095 cells: check", |title| table(title, &TWO, Call::Check, &books::full())),
     ("Books of 4,095 cells: run, limit 10,000", |title| table(title, &THREE, DESK, &books::full())),
@@ -234,6 +234,7 @@ const TABLES: [(&str, Table); 13] = [
     ("Long runs", long_runs),
     ("Counting loops: run, limit 10,000", counting_loops),
     ("Costly books: check", |title| table(title, &TWO, Call::Check, &books::costly())),
+    ("Merges of functions: check", |title| table(title, &TWO, Call::Check, &books::merged_functions())),
     ("The sample books: check, and run with limit 10,000", samples),
     ("Growth: the check", growth_of_the_check),
     ("Growth: a step of a function that calls itself within records", growth_of_a_step),

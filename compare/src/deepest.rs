@@ -1,5 +1,5 @@
 //! The deepest books of every shape, each as deep as 4,095 cells allow: terms in one another, fixpoints that unfold, values substituted in
-//! bodies, types, field reads of merges, sums and choices.
+//! bodies, types, field reads of merges, functions that are compared, sums and choices.
 
 use crate::cells::{encode, Sharing};
 use crate::extremes::times;
@@ -141,9 +141,10 @@ fn holding(inside: Term) -> Term {
 /// All of them, in their groups.
 pub fn deepest() -> Vec<Deep> {
     let terms = [terms(), terms_in_terms(), fixpoints(), fixpoints_within(), substitutions()];
-    let types = [types(), two_types(), cast_values(), equal_values(), many_parts(), field_reads(), reads_within()];
+    let types = [types(), two_types(), cast_values(), many_parts(), field_reads(), reads_within()];
+    let equal = [equal_values(), equal_types()];
     let numbers = [sums_and_choices(), operands(), numbers_in_bodies()];
-    terms.into_iter().chain(types).chain(numbers).flatten().collect()
+    terms.into_iter().chain(types).chain(equal).chain(numbers).flatten().collect()
 }
 
 /// Each shape alone.
@@ -306,16 +307,50 @@ fn cast_values() -> Vec<Deep> {
     books
 }
 
-/// Deep values merged with themselves.
+/// Deep values merged with themselves; and functions with one that a deep merge ends with.
 fn equal_values() -> Vec<Deep> {
     let mut books = Vec::new();
-    let mut add = |name: String, value: Term| books.push(deep("equal values", name, Term::merge(value.clone(), value)));
+    let mut add = |name: String, one: &Term, other: &Term| {
+        books.push(deep("equal values", name, Term::merge(one.clone(), other.clone())));
+    };
+    let mut twice = |name: String, value: Term| add(name, &value, &value);
+    let function = |shape: &Shape, cells: usize| holding(Term::annotation(shape.alone(cells), top()));
     for shape in shapes() {
-        add(format!("functions of {}", shape.name), holding(Term::annotation(shape.alone(2_038), top())));
+        twice(format!("functions of {}", shape.name), function(&shape, 2_038));
+        let within = times(1_000, function(&shape, 1_038), |e| Term::record(LABEL, e));
+        twice(format!("records round functions of {}", shape.name), within);
     }
-    add("records".to_string(), times(2_045, Term::number(1), |e| Term::record(LABEL, e)));
-    add("numbers to the left".to_string(), times(500, Term::number(1), |e| Term::merge(e, Term::number(1))));
-    add("numbers to the right".to_string(), times(500, Term::number(1), |e| Term::merge(Term::number(1), e)));
+    twice("records".to_string(), times(2_045, Term::number(1), |e| Term::record(LABEL, e)));
+    twice("numbers to the left".to_string(), times(500, Term::number(1), |e| Term::merge(e, Term::number(1))));
+    twice("numbers to the right".to_string(), times(500, Term::number(1), |e| Term::merge(Term::number(1), e)));
+    for shape in shapes() {
+        let one = function(&shape, 1_000);
+        for (side, way) in SIDES {
+            let name = format!("functions of {}, one in a merge to the {way}", shape.name);
+            add(name, &one, &far_merge(side, 3_000, one.clone()));
+        }
+    }
+    books
+}
+
+/// Each type wherever it can stand in a function's body, and as its input: merged with itself, and with another at the far end.
+fn equal_types() -> Vec<Deep> {
+    let beside = |e: Term| holding(Term::annotation(e, top()));
+    let mut books = Vec::new();
+    for place in Place::all(Sort::Type) {
+        let [one, other] = [int(), top()].map(|leaf| place.around(CELLS / 2 - 20, &leaf));
+        let mut add = |at: &str, function: &dyn Fn(Type) -> Term| {
+            for (second, end) in [(&one, "equal"), (&other, "not equal")] {
+                let merge = Term::merge(function(one.clone()), function(second.clone()));
+                books.push(deep("equal types in functions", format!("{}, {at}, {end}", place.name()), merge));
+            }
+        };
+        add("a fixpoint's", &|t| beside(Term::fixpoint(Term::variable(0), t)));
+        add("an annotation's", &|t| beside(Term::annotation(Term::top(), Type::function(t, top()))));
+        add("an input in a body", &|t| beside(Term::function(Term::top(), t, top())));
+        add("an output in a body", &|t| beside(Term::function(Term::top(), int(), Type::function(t, top()))));
+        add("the input", &|t| Term::function(Term::number(5), t, int()));
+    }
     books
 }
 

@@ -1,5 +1,6 @@
 //! The books that are compared, in families.
 
+use crate::bodies;
 use crate::cells::{alike, encode, is_labelled, unknown_kinds, zeroed, Cells, Sharing};
 use crate::contexts;
 use crate::deepest::deepest;
@@ -55,12 +56,17 @@ fn whole_families() -> Vec<Family> {
         whole("refusals", refusals),
         whole("ends of the range", numbers::ends),
         whole("refused parts", || numbers::refused().into_iter().map(|refused| refused.book).collect()),
+        whole("one cell apart", || {
+            let stated = bodies::stated().into_iter().map(|sample| sample.book);
+            stated.chain(bodies::one_cell_apart().into_iter().map(|pair| pair.book.bytes())).collect()
+        }),
     ]
 }
 
 fn random_families() -> Vec<Family> {
     let random = |name, share, make| Family { name, share, make: Make::Random(make) };
     vec![
+        random("nearly equal bodies", 10, bodies::nearly_equal_bodies),
         random("merges", 12, |r| typed(r, Weights { merge: 8, ..EVEN }.of_type(kind::INTERSECTION, 6), 30)),
         random("hidden fields", 6, hidden_fields),
         random("reads of merges", 12, reads_of_merges),

@@ -1,5 +1,6 @@
 //! Books of many families, and the engine and the evaluator compared on them.
 
+pub mod bodies;
 pub mod cells;
 pub mod comparing;
 pub mod contexts;

@@ -12,7 +12,7 @@ use compare::families::{families, Family};
 use compare::random::Random;
 use compare::reporting::{described, Figures};
 use compare::{samples, shrinking};
-use evaluator::{encode_term, on_large_stack, Fault, WORK};
+use evaluator::{decode, encode_term, on_large_stack, Fault, WORK};
 use std::fmt::Write;
 use std::process::ExitCode;
 use std::sync::atomic::{AtomicUsize, Ordering::Relaxed};
@@ -177,13 +177,17 @@ fn stated_samples() -> usize {
 /// The name of a family, and the books of it that a fault is searched in.
 type Searched = (&'static str, Vec<Vec<u8>>);
 
+/// The families with the fewest cells first.
 fn searched(seed: u64, count: usize) -> Vec<Searched> {
     let of = |family: Family| {
         let count = share(family.share.max(1), count);
         let asked = family.books(seed, count).filter(|book| family.share > 0 || book.len() < LARGE);
         (family.name, asked.take(count.max(500)).collect())
     };
-    families().into_iter().map(of).collect()
+    let cells = |(_, books): &Searched| books.iter().map(|book| decode(book).map_or(0, |root| root.size())).sum::<u64>();
+    let mut all: Vec<Searched> = families().into_iter().map(of).collect();
+    all.sort_by_cached_key(cells);
+    all
 }
 
 /// Compares the evaluator with each faulty copy of itself. Yes if every fault was found.

@@ -1,6 +1,7 @@
 //! The sample books of document 01 with the answers that it states, and small books for what document 02 adds: field reads of merges (i), sums
 //! and choices (ii).
 
+use crate::bodies;
 use crate::cells::{encode, zeroed, Cells, Sharing};
 use crate::engines::Call;
 use crate::loops::{accumulated, countdown, triangular};
@@ -52,6 +53,13 @@ pub fn own_fixpoint() -> Term {
 pub fn doubled(leaf: Cell, times: u16) -> Vec<u8> {
     let merges = (0..times).map(|n| Cell::new(kind::MERGE, 0, [n, n, 0]));
     Cells { cells: [leaf].into_iter().chain(merges).collect(), root: times }.bytes()
+}
+
+/// The top value merged with itself so many times over, twice, in cells of their own; the second for a root.
+pub fn two_chains(times: u16) -> Cells {
+    let Cells { cells: one, root } = Cells::of(&doubled(zeroed(kind::TOP_VALUE), times)).expect("a book");
+    let other = one.iter().map(|cell| cell.redirected(|to| to + root + 1));
+    Cells { cells: one.iter().copied().chain(other).collect(), root: 2 * root + 1 }
 }
 
 /// The book of the desk program's example.
@@ -192,11 +200,11 @@ fn reads_by_value() -> Vec<Sample> {
     list
 }
 
-/// The samples, and the sums and choices with a part that is refused: all books of which the answer is stated.
+/// The samples, the sums and choices with a part that is refused, and functions that are compared: all books of which the answer is stated.
 pub fn stated() -> Vec<Sample> {
     let name = "a refused part of a sum or choice";
     let sample = |Refused { book, answer }| Sample { name, book, call: Call::Check, answer, value: None };
-    samples().into_iter().chain(refused().into_iter().map(sample)).collect()
+    samples().into_iter().chain(refused().into_iter().map(sample)).chain(bodies::stated()).collect()
 }
 
 /// Sums and choices that run.

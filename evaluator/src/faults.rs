@@ -138,10 +138,50 @@ pub enum Fault {
     SubstitutedInTwoParts,
     /// Room without the branches that wait around the part that steps.
     RoomWithoutBranches,
+    /// Two bodies called the same only if they are one cell.
+    BodiesByCell,
+    /// Two bodies called the same only if their cells have the same bytes.
+    BodiesByBytes,
+    /// Two bodies called the same as soon as a part of both is one cell.
+    SharedPartEnough,
+    /// Bodies compared to their eighth level.
+    EightLevels,
+    /// Labels in bodies not compared.
+    LabelsIgnored,
+    /// Types in bodies not compared.
+    TypesIgnored,
+    /// Variables in bodies called equal whatever they skip.
+    VariablesAlike,
+    /// The low 16 bits of numbers in bodies not compared.
+    LowHalfIgnored,
+    /// The high 16 bits of numbers in bodies not compared.
+    HighHalfIgnored,
+    /// The first of two parts or three not compared in bodies.
+    FirstIgnored,
+    /// The second of two parts not compared in bodies.
+    SecondOfTwoIgnored,
+    /// Functions in bodies called equal on body and input alone.
+    FunctionsByTwoParts,
+    /// Applications, merges and sums in bodies not told apart.
+    PairsAlike,
+    /// Records and field reads in bodies not told apart.
+    RecordsAsReads,
+    /// Annotations and fixpoints in bodies not told apart.
+    AnnotationsAsFixpoints,
+    /// Function types and intersections in bodies not told apart.
+    FunctionTypesAsIntersections,
+    /// Int and Top in bodies not told apart.
+    IntAsTop,
+    /// Functions called consistent on their bodies alone.
+    InputsIgnored,
+    /// Input types compared by kind and label alone.
+    InputsByFirstCell,
+    /// Functions with the same body and input called consistent only if their outputs are equal.
+    OutputsCompared,
 }
 
 impl Fault {
-    pub const ALL: [Fault; 67] = [
+    pub const ALL: [Fault; 87] = [
         Fault::CovariantInputs,
         Fault::ArgumentUncast,
         Fault::RoomOneEarly,
@@ -209,6 +249,26 @@ impl Fault {
         Fault::EqualByTwoParts,
         Fault::SubstitutedInTwoParts,
         Fault::RoomWithoutBranches,
+        Fault::BodiesByCell,
+        Fault::BodiesByBytes,
+        Fault::SharedPartEnough,
+        Fault::EightLevels,
+        Fault::LabelsIgnored,
+        Fault::TypesIgnored,
+        Fault::VariablesAlike,
+        Fault::LowHalfIgnored,
+        Fault::HighHalfIgnored,
+        Fault::FirstIgnored,
+        Fault::SecondOfTwoIgnored,
+        Fault::FunctionsByTwoParts,
+        Fault::PairsAlike,
+        Fault::RecordsAsReads,
+        Fault::AnnotationsAsFixpoints,
+        Fault::FunctionTypesAsIntersections,
+        Fault::IntAsTop,
+        Fault::InputsIgnored,
+        Fault::InputsByFirstCell,
+        Fault::OutputsCompared,
     ];
 }
 

@@ -15,6 +15,7 @@ mod fields;
 mod kinds;
 mod numbers;
 mod running;
+mod sameness;
 mod stack;
 mod terms;
 mod typing;

@@ -176,6 +176,11 @@ impl Type {
         &self.0.shape
     }
 
+    /// Both were decoded from one cell, or one was cloned from the other.
+    pub(crate) fn is(&self, other: &Type) -> bool {
+        Rc::ptr_eq(&self.0, &other.0)
+    }
+
     pub fn node(&self) -> Node<'_> {
         self.0.shape.node()
     }
@@ -202,10 +207,7 @@ struct TermNode {
 /// "As trees": the cell that a term was decoded from is no part of it.
 impl PartialEq for TermNode {
     fn eq(&self, other: &TermNode) -> bool {
-        match (&self.shape, &other.shape) {
-            (TermShape::Choice(a, b, _), TermShape::Choice(x, y, _)) if planted(Fault::EqualByTwoParts) => a == x && b == y,
-            _ => self.size == other.size && self.shape == other.shape,
-        }
+        self.size == other.size && self.shape == other.shape
     }
 }
 
@@ -374,6 +376,11 @@ impl Term {
 
     pub fn cell(&self) -> usize {
         self.0.cell
+    }
+
+    /// Both were decoded from one cell, or one was cloned from the other.
+    pub(crate) fn is(&self, other: &Term) -> bool {
+        Rc::ptr_eq(&self.0, &other.0)
     }
 
     pub fn size(&self) -> u64 {

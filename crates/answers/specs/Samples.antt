@@ -1,4 +1,4 @@
--- Document 01, "Sample books": those marked M, as one list; books for the field reads of document 02, (i), and for its sums and choices, (ii); and a small book for each row from
+-- Document 01, "Sample books": those marked M, as one list; books for the field reads, sums and choices, and bodies of document 02, (i) to (iii); and a small book for each row from
 -- 2 to 15 of "Where a book is turned back". Bytes, answers and encoded bytes are literals. Assumes nothing.
 use Prim.Native.Nat.{ℕ}
 use Prim.Native.String.{String}
@@ -839,6 +839,198 @@ sumsAndChoices =
     ∷ sample "a choice whose third part is itself" choiceOfItself check (refused 7 1) []
     ∷ sample "a choice whose third part is a type" choiceOfType check (refused 8 2) []
     ∷ sample "kind 28" unknownKind check (refused 5 1) []
+    ∷ []
+
+-- the same body by two cells: the types are not disjoint
+unfoldable pub sameBody : List ℕ
+sameBody =
+    line 1 0 0 0 0 0 0 0
+    ++ line 16 0 0 0 0 0 0 0
+    ++ line 21 0 1 0 0 0 0 0
+    ++ line 16 0 0 0 0 0 0 0
+    ++ line 2 0 0 0 0 0 0 0
+    ++ line 4 0 0 0 4 0 0 0
+    ++ line 21 0 3 0 0 0 5 0
+    ++ line 22 0 2 0 6 0 0 0
+    ++ line 240 1 8 0 7 0 0 0
+
+-- another body
+unfoldable pub otherBody : List ℕ
+otherBody =
+    line 1 0 0 0 0 0 0 0
+    ++ line 16 0 0 0 0 0 0 0
+    ++ line 21 0 1 0 0 0 0 0
+    ++ line 17 0 0 0 1 0 0 0
+    ++ line 2 0 0 0 0 0 0 0
+    ++ line 4 0 0 0 4 0 0 0
+    ++ line 21 0 3 0 0 0 5 0
+    ++ line 22 0 2 0 6 0 0 0
+    ++ line 240 1 8 0 7 0 0 0
+
+-- equal bodies that share no cell
+unfoldable pub openedBodies : List ℕ
+openedBodies =
+    line 1 0 0 0 0 0 0 0
+    ++ line 16 0 0 0 0 0 0 0
+    ++ line 24 1 1 0 0 0 0 0
+    ++ line 25 1 2 0 0 0 0 0
+    ++ line 21 0 3 0 0 0 0 0
+    ++ line 16 0 0 0 0 0 0 0
+    ++ line 24 1 5 0 0 0 0 0
+    ++ line 25 1 6 0 0 0 0 0
+    ++ line 21 0 7 0 0 0 0 0
+    ++ line 22 0 4 0 8 0 0 0
+    ++ line 240 1 10 0 9 0 0 0
+
+-- bodies that differ in one label
+unfoldable pub otherLabel : List ℕ
+otherLabel =
+    line 1 0 0 0 0 0 0 0
+    ++ line 16 0 0 0 0 0 0 0
+    ++ line 24 1 1 0 0 0 0 0
+    ++ line 24 2 1 0 0 0 0 0
+    ++ line 22 0 2 0 3 0 0 0
+    ++ line 25 1 4 0 0 0 0 0
+    ++ line 21 0 5 0 0 0 0 0
+    ++ line 25 2 4 0 0 0 0 0
+    ++ line 21 0 7 0 0 0 0 0
+    ++ line 22 0 6 0 8 0 0 0
+    ++ line 240 1 10 0 9 0 0 0
+
+-- numbers that differ in field c alone
+unfoldable pub otherHighHalf : List ℕ
+otherHighHalf =
+    line 1 0 0 0 0 0 0 0
+    ++ line 17 0 0 0 255 255 255 255
+    ++ line 21 0 1 0 0 0 0 0
+    ++ line 17 0 0 0 255 255 0 0
+    ++ line 21 0 3 0 0 0 0 0
+    ++ line 22 0 2 0 4 0 0 0
+    ++ line 240 1 6 0 5 0 0 0
+
+-- and in field b alone
+unfoldable pub otherLowHalf : List ℕ
+otherLowHalf =
+    line 1 0 0 0 0 0 0 0
+    ++ line 17 0 0 0 0 0 1 0
+    ++ line 21 0 1 0 0 0 0 0
+    ++ line 17 0 0 0 1 0 1 0
+    ++ line 21 0 3 0 0 0 0 0
+    ++ line 22 0 2 0 4 0 0 0
+    ++ line 240 1 6 0 5 0 0 0
+
+-- bodies that differ in a type
+unfoldable pub otherTypeInBody : List ℕ
+otherTypeInBody =
+    line 1 0 0 0 0 0 0 0
+    ++ line 16 0 0 0 0 0 0 0
+    ++ line 19 0 1 0 0 0 0 0
+    ++ line 21 0 2 0 0 0 0 0
+    ++ line 4 0 0 0 0 0 0 0
+    ++ line 19 0 1 0 4 0 0 0
+    ++ line 21 0 5 0 0 0 0 0
+    ++ line 22 0 3 0 6 0 0 0
+    ++ line 240 1 8 0 7 0 0 0
+
+-- in the last field of a function inside
+unfoldable pub otherLastField : List ℕ
+otherLastField =
+    line 1 0 0 0 0 0 0 0
+    ++ line 16 0 0 0 0 0 0 0
+    ++ line 21 0 1 0 0 0 0 0
+    ++ line 20 0 2 0 1 0 0 0
+    ++ line 21 0 3 0 0 0 0 0
+    ++ line 2 0 0 0 0 0 0 0
+    ++ line 4 0 0 0 5 0 0 0
+    ++ line 21 0 1 0 0 0 6 0
+    ++ line 20 0 7 0 1 0 0 0
+    ++ line 21 0 8 0 0 0 0 0
+    ++ line 22 0 4 0 9 0 0 0
+    ++ line 240 1 11 0 10 0 0 0
+
+-- the input types are compared, too
+unfoldable pub otherInput : List ℕ
+otherInput =
+    line 1 0 0 0 0 0 0 0
+    ++ line 16 0 0 0 0 0 0 0
+    ++ line 21 0 1 0 0 0 0 0
+    ++ line 4 0 0 0 0 0 0 0
+    ++ line 21 0 1 0 3 0 0 0
+    ++ line 22 0 2 0 4 0 0 0
+    ++ line 240 1 6 0 5 0 0 0
+
+-- other bodies, but disjoint types
+unfoldable pub disjointBodies : List ℕ
+disjointBodies =
+    line 1 0 0 0 0 0 0 0
+    ++ line 16 0 0 0 0 0 0 0
+    ++ line 5 1 0 0 0 0 0 0
+    ++ line 24 1 1 0 0 0 0 0
+    ++ line 21 0 3 0 0 0 2 0
+    ++ line 5 2 0 0 0 0 0 0
+    ++ line 24 2 1 0 0 0 0 0
+    ++ line 21 0 6 0 0 0 5 0
+    ++ line 22 0 4 0 7 0 0 0
+    ++ line 240 1 9 0 8 0 0 0
+
+-- two equal chains of 18 merges that nothing reaches
+unfoldable pub unreachedChains : List ℕ
+unreachedChains =
+    line 18 0 0 0 0 0 0 0
+    ++ line 18 0 0 0 0 0 0 0
+    ++ line 22 0 1 0 1 0 0 0
+    ++ line 22 0 2 0 2 0 0 0
+    ++ line 22 0 3 0 3 0 0 0
+    ++ line 22 0 4 0 4 0 0 0
+    ++ line 22 0 5 0 5 0 0 0
+    ++ line 22 0 6 0 6 0 0 0
+    ++ line 22 0 7 0 7 0 0 0
+    ++ line 22 0 8 0 8 0 0 0
+    ++ line 22 0 9 0 9 0 0 0
+    ++ line 22 0 10 0 10 0 0 0
+    ++ line 22 0 11 0 11 0 0 0
+    ++ line 22 0 12 0 12 0 0 0
+    ++ line 22 0 13 0 13 0 0 0
+    ++ line 22 0 14 0 14 0 0 0
+    ++ line 22 0 15 0 15 0 0 0
+    ++ line 22 0 16 0 16 0 0 0
+    ++ line 22 0 17 0 17 0 0 0
+    ++ line 22 0 18 0 18 0 0 0
+    ++ line 18 0 0 0 0 0 0 0
+    ++ line 22 0 20 0 20 0 0 0
+    ++ line 22 0 21 0 21 0 0 0
+    ++ line 22 0 22 0 22 0 0 0
+    ++ line 22 0 23 0 23 0 0 0
+    ++ line 22 0 24 0 24 0 0 0
+    ++ line 22 0 25 0 25 0 0 0
+    ++ line 22 0 26 0 26 0 0 0
+    ++ line 22 0 27 0 27 0 0 0
+    ++ line 22 0 28 0 28 0 0 0
+    ++ line 22 0 29 0 29 0 0 0
+    ++ line 22 0 30 0 30 0 0 0
+    ++ line 22 0 31 0 31 0 0 0
+    ++ line 22 0 32 0 32 0 0 0
+    ++ line 22 0 33 0 33 0 0 0
+    ++ line 22 0 34 0 34 0 0 0
+    ++ line 22 0 35 0 35 0 0 0
+    ++ line 22 0 36 0 36 0 0 0
+    ++ line 22 0 37 0 37 0 0 0
+    ++ line 240 1 39 0 0 0 0 0
+
+-- Bodies compared, document 02, (iii): "yes exactly when both, sharing opened, are the same tree".
+unfoldable pub bodies : List Sample
+bodies =
+    sample "two functions with the body x, in two cells" sameBody check (accepted 9) (line 1 0 0 0 0 0 0 0 ++ line 1 0 0 0 0 0 0 0 ++ line 3 0 0 0 1 0 0 0 ++ line 1 0 0 0 0 0 0 0 ++ line 1 0 0 0 0 0 0 0 ++ line 2 0 0 0 0 0 0 0 ++ line 4 0 4 0 5 0 0 0 ++ line 3 0 3 0 6 0 0 0 ++ line 4 0 2 0 7 0 0 0 ++ line 240 1 9 0 8 0 0 0)
+    ∷ sample "functions with the bodies x and 1" otherBody check (refused 14 7) []
+    ∷ sample "two functions with the body {1 = x}.1, each in cells of its own" openedBodies check (accepted 7) (line 1 0 0 0 0 0 0 0 ++ line 1 0 0 0 0 0 0 0 ++ line 3 0 0 0 1 0 0 0 ++ line 1 0 0 0 0 0 0 0 ++ line 1 0 0 0 0 0 0 0 ++ line 3 0 3 0 4 0 0 0 ++ line 4 0 2 0 5 0 0 0 ++ line 240 1 7 0 6 0 0 0)
+    ∷ sample "functions that read field 1 and field 2" otherLabel check (refused 14 9) []
+    ∷ sample "functions with the bodies -1 and 65535" otherHighHalf check (refused 14 5) []
+    ∷ sample "functions with the bodies 65536 and 65537" otherLowHalf check (refused 14 5) []
+    ∷ sample "functions with the bodies x : Int and x : Int & Int" otherTypeInBody check (refused 14 7) []
+    ∷ sample "functions whose bodies apply functions with the outputs Int and Int & Top" otherLastField check (refused 14 10) []
+    ∷ sample "functions with the body x and the inputs Int and Int & Int" otherInput check (refused 14 5) []
+    ∷ sample "functions with the bodies {1 = x} and {2 = x}" disjointBodies check (accepted 9) (line 1 0 0 0 0 0 0 0 ++ line 1 0 0 0 0 0 0 0 ++ line 5 1 1 0 0 0 0 0 ++ line 3 0 0 0 2 0 0 0 ++ line 1 0 0 0 0 0 0 0 ++ line 1 0 0 0 0 0 0 0 ++ line 5 2 5 0 0 0 0 0 ++ line 3 0 4 0 6 0 0 0 ++ line 4 0 3 0 7 0 0 0 ++ line 240 1 9 0 8 0 0 0)
+    ∷ sample "the top value, beside two equal doubling chains that nothing reaches" unreachedChains check (accepted 1) (line 2 0 0 0 0 0 0 0 ++ line 240 1 1 0 0 0 0 0)
     ∷ []
 
 -- A small book for each row from 2 to 15, with the number and the cell that it is refused with. docs/FORMAT.md has the same books.

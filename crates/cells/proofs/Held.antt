@@ -64,6 +64,10 @@ unmarked f-unused = f-unused
 unmarked f-plain = f-plain
 unmarked (f-refers l p e m mk u v w) = f-refers l p e m tt (unmarked u) (unmarked v) (unmarked w)
 
+-- nor then of the sort that is referred to
+pub any-sort : {s : List ℕ} {n x : ℕ} {o p : Sort} {t : Tree} → HeldField false s n (refers o) x t → HeldField false s n (refers p) x t
+any-sort (f-refers l p e q m f g h) = f-refers l p e q m f g h
+
 pub plain-at : {q : Bool} {s : List ℕ} {n x : ℕ} {t : Tree} → HeldField q s n plain x t → plainOf t ≡ x
 unfolding plainOf
 plain-at f-plain = refl

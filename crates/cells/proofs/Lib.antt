@@ -7,3 +7,4 @@ pub mod Inside
 pub mod Rows
 pub mod Table
 pub mod Written
+pub mod Opened

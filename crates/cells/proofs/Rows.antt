@@ -40,6 +40,22 @@ uses k y r e = go (y .sort) refl
     go (suc (suc zero)) q = by-sort type-sort (rw q at e)
     go (suc (suc (suc n))) q = by-sort term-sort (rw q at e)
 
+-- a use that is no number refers
+pub refers-at : (u : ℕ) → 2 ≤ u → (o : Sort) × (useOf u ≡ refers o)
+refers-at zero h = absurd (omega arith)
+refers-at (suc zero) h = absurd (omega arith)
+refers-at (suc (suc zero)) h = (type-sort, refl)
+refers-at (suc (suc (suc u))) h = (term-sort, refl)
+
+pub label-unnamed : (u l : ℕ) → u ≡ 0 → 0 ≡ labelBy (useOf u) l
+label-unnamed u l e = rw e
+
+pub label-named : (u l : ℕ) → (u ≡ 0 → ⊥) → l ≡ labelBy (useOf u) l
+label-named zero l n = absurd (n refl)
+label-named (suc zero) l n = refl
+label-named (suc (suc zero)) l n = refl
+label-named (suc (suc (suc u))) l n = refl
+
 -- t as cell i, of row y: the tree that it stands for, its fields held below i
 pub record FieldsOf (q : Bool) (s : List ℕ) (i : ℕ) (t : Cell) (y : Entry) (x : Tree) : Type 0 where
   pub a : Tree

@@ -6,7 +6,8 @@ ghost use lib.ListN.{length};
 ghost use lib.Seq.{sets};
 ghost use Rattle.format.specs.Cell.{pair, cellAt, cellBytes};
 ghost use Rattle.format.specs.Table.{rowOf, inside};
-ghost use Rattle.cells.specs.Coded.{asCell, CellFits, placeOf, rowFrom};
+ghost use Rattle.cells.specs.Coded.{asCell, CellFits, placeOf, useOf, rowFrom};
+ghost use Rattle.cells.specs.Held.{labelBy};
 
 // A cell: kind, label and the fields a, b, c.
 pub struct Cell {
@@ -162,6 +163,13 @@ pub fn entry_of(kind: u8) -> Entry
         b: (line / 8 % 8) as u8,
         c: (line % 8) as u8,
     }
+}
+
+// The label of a cell whose row has this use of it: 0 if the row does not name it.
+pub fn label_by(u: u8, label: u8) -> u8
+    ensures { λ r. ⌜ r ≡ labelBy (useOf u) label ⌝ }
+{
+    if u == 0 { 0 } else { label }
 }
 
 // How many binders are over field a of a term of this kind that is under k: a function and a fixpoint bind one.

@@ -2,28 +2,28 @@
 -- Assumes nothing.
 use Prim.Native.Nat.{ℕ, _+_}
 use mathlib.Core.Path.{_≡_, refl, sym, ap, ap₂, subst, _∙_}
-use mathlib.Core.Logic.{_↔_, _⊎_, inl, inr, ⊎-elim, Iff·trans}
+use mathlib.Core.Logic.{_⊎_, inl, inr, ⊎-elim, Iff·trans}
 use mathlib.Core.Bool.{Bool, true, false, not, _&&_, _||_, and-false, decide}
 use mathlib.Core.List.{List}
 use native.Mathlib.Omega.{arith}
 use lib.Dec.{T, eqb}
 use lib.IntN.{ℤ}
-use borrow.Author.Tests.{eq-eqb, ne-eqb}
+use borrow.Author.Tests.{eq-eqb, ne-eqb, eqb-true}
 use Rattle.calculus.specs.Syntax.{Ty, Term, lit, unit, lam, merge, rcd}
 use Rattle.calculus.specs.Decide.{sameType, sameTerm, disjoint?, sameInteger, eachPart, consistentLit, consistentLam, consistentRcd, consistent?}
-use Rattle.calculus.proofs.Bools.{T-same, T-false, eqb-says, decide-says}
-use Rattle.format.specs.Table.{type-sort, term-sort, table, rowIn, rowOf}
+use Rattle.calculus.proofs.Bools.{T-same, T-true, decide-says}
+use Rattle.format.specs.Table.{type-sort, term-sort}
 use Rattle.format.specs.Cell.{IsBytes, Cell, cellAt}
 use Rattle.format.specs.Tree.{kindIn}
 use Rattle.format.specs.Terms.{fromTerm}
 use Rattle.cells.specs.Held.{HoldsTerm}
-use Rattle.cells.proofs.Held.{by-row, lit-at, unit-at, lam-at, merge-at, rcd-at, kindOf, kind-of-held}
+use Rattle.cells.proofs.Held.{lit-at, unit-at, lam-at, merge-at, rcd-at, kindOf, kind-of-held}
 use Rattle.cells.proofs.Forms.{NoValue, fold-else, parts-else}
-use Rattle.cells.proofs.Rows.{unused-is, plain-is}
-use Rattle.decisions.specs.Questions.{TypesAt, TypesSay, TermsAt, TermsSay, FieldsSay, Plain, PlainAt, PlainPair, Agreeing}
+use Rattle.equality.specs.Same.{SameTree}
+use Rattle.decisions.specs.Questions.{TypesAt, TypesSay, TermsAt, TermsSay, Plain, PlainAt, PlainPair, Agreeing}
 use Rattle.decisions.proofs.Parts.{Passes, Splits, Whenever}
 use Rattle.decisions.proofs.Forms.{Terms, kind-first, kind-second}
-use Rattle.decisions.proofs.Trees.{same-thing, things-say}
+use Rattle.decisions.proofs.Trees.{same-held, same-test}
 
 -- a number, a function or a record
 data PlainTerm : Term → Type 0 where
@@ -149,34 +149,12 @@ module _ {s : List ℕ} {i j : ℕ} {x y : Cell} {e f : Term} (t : Terms s i j x
       d (rw (t .is-first, t .is-second) (kind-of-held (t .holds-first) ∙ q ∙ sym (kind-of-held (t .holds-second))))
 
   module _ (k : x .kind ≡ y .kind) where
-    -- two numbers are the same where fields b and c are
-    module _ (bytes : IsBytes s) (m : x .kind ≡ 17) where
-      same-lits : T (consistent? e f) ↔ (e ≡ f)
-      same-lits =
-          let p = lit-at (t .holds-first) (kind-first t m) in
-          let r = lit-at (t .holds-second) (kind-second t k m) in
-          rw (p, r) (Iff·trans (rw two-numbers (decide-says (sameInteger _ _))) (ap lit, λ q. cc))
-
-      same-halves : ((x .b ≡ y .b) × (x .c ≡ y .c)) ↔ (e ≡ f)
-      unfolding table rowIn rowOf
-      same-halves = rw (t .is-first, t .is-second)
-          let p = by-row (t .holds-first) (kind-first t m) refl in
-          let r = by-row (t .holds-second) (kind-second t k m) refl in
-          let pa = unused-is (p .held-a) in
-          let pb = plain-is (p .held-b) in
-          let pc = plain-is (p .held-c) in
-          let ra = unused-is (r .held-a) in
-          let rb = plain-is (r .held-b) in
-          let rc = plain-is (r .held-c) in
-          let pi = p .is in
-          let ri = r .is in
-          Iff·trans (λ q. let b = q .0 in let c = q .1 in cc, λ q. (cc, cc)) (same-thing bytes (t .holds-first) (t .holds-second))
-
-      pub numbers : x .b ≡ y .b → eqb (x .c) (y .c) ≡ consistent? e f
-      numbers b = T-same (eqb-says _ _) (Iff·trans same-lits (λ q. same-halves .1 q .1, λ c. same-halves .0 (b, c)))
-
-      pub other-numbers : (x .b ≡ y .b → ⊥) → false ≡ consistent? e f
-      other-numbers d = sym (T-false same-lits (λ q. d (same-halves .1 q .0)))
+    -- two numbers are consistent where they are the same
+    pub numbers : {r : Bool} → IsBytes s → x .kind ≡ 17 → SameTree s i j r → r ≡ consistent? e f
+    numbers b m w =
+        let p = lit-at (t .holds-first) (kind-first t m) in
+        let r = lit-at (t .holds-second) (kind-second t k m) in
+        T-same (same-held term-sort b w (t .holds-first) (t .holds-second)) (rw (p, r) (Iff·trans (rw two-numbers (decide-says (sameInteger _ _))) (ap lit, λ q. cc)))
 
     pub records : x .kind ≡ 24 → x .label ≡ y .label → Passes (HoldsTerm s) consistent? (i + j) (x .a) (y .a) e f
     records m l = rw (t .is-first, t .is-second)
@@ -211,21 +189,21 @@ module _ {s : List ℕ} {i j : ℕ} {x y : Cell} {e f : Term} (t : Terms s i j x
           is = ap₂ consistent? (p .is) (r .is) ∙ two-functions (p .body) (p .input) (p .output) (r .body) (r .input) (r .output);
         }
 
-module _ {s : List ℕ} {i j : ℕ} {x y : Cell} {p : Bool} (w : Whenever (HoldsTerm s) i j (Agrees s x y)) (bytes : IsBytes s) (u : FieldsSay s 2 (x .b) (y .b) p) where
+module _ {s : List ℕ} {i j : ℕ} {x y : Cell} {p : Bool} (w : Whenever (HoldsTerm s) i j (Agrees s x y)) (bytes : IsBytes s) (u : SameTree s (x .b) (y .b) p) where
   inputs-same : {e f : Term} (l : Agrees s x y e f) → p ≡ sameType (l .inputs .first) (l .inputs .second)
-  inputs-same l = things-say type-sort bytes u .says _ _ (l .inputs .holds-first) (l .inputs .holds-second)
+  inputs-same l = same-test type-sort bytes u .says _ _ (l .inputs .holds-first) (l .inputs .holds-second)
 
-  bodies-same : {q : Bool} {e f : Term} → FieldsSay s 3 (x .a) (y .a) q → (l : Agrees s x y e f) → q ≡ sameTerm (l .bodies .first) (l .bodies .second)
-  bodies-same v l = things-say term-sort bytes v .says _ _ (l .bodies .holds-first) (l .bodies .holds-second)
+  bodies-same : {q : Bool} {e f : Term} → SameTree s (x .a) (y .a) q → (l : Agrees s x y e f) → q ≡ sameTerm (l .bodies .first) (l .bodies .second)
+  bodies-same v l = same-test term-sort bytes v .says _ _ (l .bodies .holds-first) (l .bodies .holds-second)
 
   -- the same function
-  pub agree-same : {q : Bool} → p ≡ true → FieldsSay s 3 (x .a) (y .a) q → q ≡ true → TermsSay s i j consistent? true
+  pub agree-same : {q : Bool} → p ≡ true → SameTree s (x .a) (y .a) q → q ≡ true → TermsSay s i j consistent? true
   agree-same t v o = record {
     says = λ e f h k. let l = w e f h k in sym (l .is ∙ rw (sym (bodies-same v l) ∙ o, sym (inputs-same l) ∙ t) refl);
   }
 
   -- two functions that differ
-  pub agree-apart : {r : Bool} → (p ≡ false) ⊎ FieldsSay s 3 (x .a) (y .a) false → TypesSay s (x .c) (y .c) disjoint? r → TermsSay s i j consistent? r
+  pub agree-apart : {r : Bool} → (p ≡ false) ⊎ SameTree s (x .a) (y .a) false → TypesSay s (x .c) (y .c) disjoint? r → TermsSay s i j consistent? r
   agree-apart {r} d z = record {
     says = λ e f h k.
         let l = w e f h k in
@@ -235,9 +213,17 @@ module _ {s : List ℕ} {i j : ℕ} {x y : Cell} {p : Bool} (w : Whenever (Holds
         d;
   }
 
--- a no says nothing
+-- a no says nothing; two numbers whose fields b and c are the same are one number
 pub no-answer : {s : List ℕ} {i j : ℕ} {r : Bool} → r ≡ false → Agreeing s i j r
 no-answer e = record { says = λ t. absurd (subst T (sym t ∙ e) tt) }
 
-pub an-answer : {s : List ℕ} {i j : ℕ} {r : Bool} → TermsSay s i j consistent? r → Agreeing s i j r
-an-answer u = record { says = λ t. rw t at u }
+pub one-number : {s : List ℕ} {i j : ℕ} {x y : Cell} → x ≡ cellAt s i → y ≡ cellAt s j → x .kind ≡ 17 → y .kind ≡ 17 → x .b ≡ y .b → Agreeing s i j (eqb (x .c) (y .c))
+one-number {x = x} {y = y} p q m n b = record {
+  says = λ t. let c = eqb-true (x .c) (y .c) t in record {
+    says = λ e f h k.
+        let u = lit-at h (rw p at m) in
+        let v = lit-at k (rw q at n) in
+        let one : f ≡ e = v ∙ rw (← p, ← q, b, c) refl ∙ sym u in
+        rw (one, u) (sym (rw two-numbers (T-true (decide-says (sameInteger _ _)) refl)));
+  };
+}

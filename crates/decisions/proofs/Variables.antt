@@ -1,12 +1,13 @@
 -- Closedness by the row of a kind: one law for all kinds but the variable, and what the calls of `closed` need and say.
 -- Assumes nothing.
-use Prim.Native.Nat.{ℕ, zero, suc, _+_, _≤_, _<_}
+use Prim.Native.Nat.{ℕ, zero, suc, _+_, _*_, _≤_, _<_}
 use native.Mathlib.Omega.{arith}
 use mathlib.Core.Path.{_≡_, refl, sym, ap, _∙_}
 use mathlib.Core.Bool.{Bool, true, false, _&&_}
 use mathlib.Core.List.{List}
 use mathlib.Core.Option.{some}
 use lib.Dec.{ltb}
+use lib.ListN.{length}
 use Rattle.calculus.specs.Decide.{closed?}
 use Rattle.format.specs.Table.{Sort, type-sort, term-sort, refers, Row, table, rowOf, inside}
 use Rattle.format.specs.Cell.{Cell, cellAt}
@@ -95,6 +96,9 @@ closed-says {k = k} w = record { says = λ e h. w .says _ _ (h .held) ∙ ap (cl
 
 as-term : {s : List ℕ} {u i c : ℕ} {f : Tree} → 3 ≤ u → HeldField true s c (useOf u) i f → HeldField true s c (refers term-sort) i f
 as-term {u = u} more h = rw (term-use u more) at h
+
+pub term-within : {s : List ℕ} {u i c : ℕ} {f : Tree} → 3 ≤ u → HeldField true s c (useOf u) i f → 8 * i + 8 ≤ length s
+term-within more h = row-at (as-term more h) .within
 
 pub few-binders : {s : List ℕ} {u i k : ℕ} → 3 ≤ u → ClosedAt s u i k → k < 131072
 few-binders more p = omega (arith, lower (as-term more (p .at .holds)), p .small)

@@ -3,9 +3,8 @@
 use Prim.Native.Nat.{ℕ, _+_, _≤_}
 use mathlib.Core.Path.{_≡_}
 use mathlib.Core.Bool.{Bool, true, _&&_}
-use mathlib.Core.Logic.{_↔_, _⊎_}
+use mathlib.Core.Logic.{_⊎_}
 use mathlib.Core.List.{List}
-use lib.Dec.{T}
 use lib.ListN.{length}
 use Rattle.calculus.specs.Syntax.{Ty, Term}
 use Rattle.calculus.specs.Decide.{value?, closed?, consistent?}
@@ -67,15 +66,6 @@ pub record FieldAt (s : List ℕ) (u n : ℕ) : Type 0 where
   pub cell : ℕ
   pub tree : Tree
   pub holds : HeldField true s cell (useOf u) n tree
-
--- Two fields of one use.
-pub record FieldsAt (s : List ℕ) (u n m : ℕ) : Type 0 where
-  pub first : FieldAt s u n
-  pub second : FieldAt s u m
-
--- A yes where they hold the same tree, and only there.
-pub record FieldsSay (s : List ℕ) (u n m : ℕ) (r : Bool) : Type 0 where
-  pub says : (c d : ℕ) (f g : Tree) → HeldField true s c (useOf u) n f → HeldField true s d (useOf u) m g → T r ↔ (f ≡ g)
 
 -- No variable in a field of this use skips k binders or more; only a term has variables.
 abbrev pub closedIn : Use → ℕ → Tree → Bool

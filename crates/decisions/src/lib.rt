@@ -1,13 +1,14 @@
-// Questions about the types and terms that cells hold: subtyping, disjointness, the same tree, closed, closed value, consistent. Answers only:
+// Questions about the types and terms that cells hold: subtyping, disjointness, closed, closed value, consistent. Answers only:
 // nothing is written, and no function keeps an array. A type cell's field c says whether the type is top-like, so that each pair of
 // nodes is left at once where either side is.
 use cells::binders;
 use cells::entry_of;
 use cells::read_cell;
+use equality::same_tree;
 ghost use Rattle.calculus.specs.Decide.{below?, disjoint?, consistent?};
 ghost use Rattle.calculus.specs.Infer.{mergeable?};
 ghost use Rattle.decisions.specs.Questions.{TypesAt, TypesSay, TermAt, TermSays, TermsAt, TermsSay, HalvesAt, HalvesSay};
-ghost use Rattle.decisions.specs.Questions.{FieldsAt, FieldsSay, ClosedAt, ClosedSays, closedValue?, PlainAt, PlainPair, UnderPlain, TwoPlain};
+ghost use Rattle.decisions.specs.Questions.{ClosedAt, ClosedSays, closedValue?, PlainAt, PlainPair, UnderPlain, TwoPlain};
 ghost use Rattle.decisions.specs.Questions.{OneAt, FirstSingle, PlainSingle, Agreeing, SingleType, SingleTypes};
 ghost use Prim.Native.Nat.{_+_, _*_, _≤_, _<_};
 ghost use mathlib.Core.Path.{_≡_};
@@ -175,30 +176,6 @@ fn apart_pair(s: &[u8], a: usize, b: usize) -> bool
     false
 }
 
-// Whether two fields of use u hold the same tree: an unused one holds nothing, a plain one its number, a reference the tree of its cell.
-// One cell holds the same tree as itself; two cells do where they are of one kind, and by its row label and fields are the same.
-fn same_tree(s: &[u8], u: u8, i: usize, j: usize) -> bool
-    requires { ⌜ FieldsAt (now s) u i j ⌝ }
-    ensures { λ r. ⌜ FieldsSay (now (s .entry)) u i j r ⌝ }
-{
-    if u == 0 || i == j {
-        return true;
-    }
-    if u == 1 {
-        return false;
-    }
-    let x = read_cell(s, i);
-    let y = read_cell(s, j);
-    if x.kind != y.kind {
-        return false;
-    }
-    let e = entry_of(x.kind);
-    if e.label != 0 && x.label != y.label {
-        return false;
-    }
-    same_tree(s, e.a, x.a, y.a) && (same_tree(s, e.b, x.b, y.b) && same_tree(s, e.c, x.c, y.c))
-}
-
 // Whether no variable in a field of use u skips k binders or more. A field that is no term has no variable.
 fn closed(s: &[u8], u: u8, i: usize, k: usize) -> bool
     requires { ⌜ ClosedAt (now s) u i k ⌝ }
@@ -340,12 +317,12 @@ fn consistent_pair(s: &[u8], i: usize, j: usize) -> bool
         return true;
     }
     if x.kind == 17 {
-        return x.b == y.b && x.c == y.c;
+        return same_tree(s, i, j);
     }
     if x.kind == 24 {
         return x.label != y.label || consistent_half(s, x.a, y.a);
     }
-    if same_tree(s, 2, x.b, y.b) && same_tree(s, 3, x.a, y.a) {
+    if same_tree(s, x.b, y.b) && same_tree(s, x.a, y.a) {
         return true;
     }
     disjoint(s, x.c, y.c)

@@ -104,16 +104,6 @@ refer-fits unused x n h g = omega arith
 refer-fits plain x n h g = h
 refer-fits (refers o) x n h g = omega arith
 
--- the label that is written
-pub label-none : (u l : ℕ) → u ≡ 0 → 0 ≡ labelBy (useOf u) l
-label-none u l e = rw e
-
-pub label-kept : (u l : ℕ) → (u ≡ 0 → ⊥) → l ≡ labelBy (useOf u) l
-label-kept zero l n = absurd (n refl)
-label-kept (suc zero) l n = refl
-label-kept (suc (suc zero)) l n = refl
-label-kept (suc (suc (suc u))) l n = refl
-
 -- the last cell by its row, from the parts that are computed for it
 pub row-finished : (t : Cell) (y : Entry) (x v w : ℕ) {d e : List ℕ} {l a b c : ℕ} {r : Emitted} → l ≡ labelBy (useOf (y .label)) (t .label)
     → a ≡ referBy (useOf (y .a)) (t .a) x → b ≡ referBy (useOf (y .b)) (t .b) v → c ≡ referBy (useOf (y .c)) (t .c) w

@@ -14,7 +14,8 @@ use Rattle.format.proofs.Tests.{cell-fits}
 use Rattle.cells.specs.Coded.{useOf, rowFrom}
 use Rattle.cells.specs.declared.Entry.{Entry}
 use Rattle.cells.specs.Held.{IsCell, labelBy, HeldField, f-unused, f-plain, f-refers}
-use Rattle.cells.proofs.Rows.{uses, fieldMeasure, field-less}
+use Rattle.cells.proofs.Held.{any-sort}
+use Rattle.cells.proofs.Rows.{refers-at, uses, fieldMeasure, field-less}
 use Rattle.emission.specs.Emits.{Space, Emits, RowReady, FieldReady, EmitsField}
 use Rattle.emission.specs.declared.Emitted.{Emitted}
 use Rattle.emission.specs.declared.Emitted.the-variants.{Next}
@@ -28,14 +29,8 @@ fields-fit s i y e = let f = cell-fits s y i in rw e (f .1, f .2, f .3)
 
 -- ---- the field of a use: nothing, or the tree of its cell
 
-any-sort : {s : List ℕ} {n x : ℕ} {o p : Sort} {t : Tree} → HeldField false s n (refers o) x t → HeldField false s n (refers p) x t
-any-sort (f-refers l p e q m f g h) = f-refers l p e q m f g h
-
 as-term : {s : List ℕ} {n x : ℕ} {t : Tree} (u : ℕ) → 2 ≤ u → HeldField false s n (useOf u) x t → HeldField false s n (refers term-sort) x t
-as-term zero l h = absurd (omega arith)
-as-term (suc zero) l h = absurd (omega arith)
-as-term (suc (suc zero)) l h = any-sort h
-as-term (suc (suc (suc u))) l h = h
+as-term u l h = any-sort (rw (refers-at u l .1) at h)
 
 pub cell-ready : {s d : List ℕ} {u x m : ℕ} → 2 ≤ u → FieldReady s d u x m → FieldReady s d 3 x m
 cell-ready {u = u} l p = record { space = p .space; cell = p .cell; tree = p .tree; holds = as-term u l (p .holds) }

@@ -3,6 +3,7 @@
 use cells::Cell;
 use cells::Entry;
 use cells::entry_of;
+use cells::label_by;
 use cells::read_cell;
 use cells::write_cell;
 ghost use mathlib.Core.Path.{_≡_};
@@ -10,7 +11,6 @@ ghost use Rattle.calculus.specs.Syntax.{unit};
 ghost use Rattle.format.specs.Terms.{fromTerm};
 ghost use Rattle.cells.specs.Coded.{asCell, useOf};
 ghost use Rattle.emission.specs.Copies.{RenumberReady, renumber as renumberBy, MoveReady, MovesCell, RunReady, EmitsRun, StartReady, StartsAt, EndReady, EmitsEnd};
-ghost use Rattle.cells.specs.Held.{labelBy};
 ghost use Rattle.emission.specs.Emits.{Space, Emits, emittedOf, EndsWithin, LastReady, Finishes, ReferReady, referBy, RowReady, rowCell, FieldReady, EmitsField};
 
 // The next free cell, or no room.
@@ -83,13 +83,6 @@ fn refer(u: u8, x: usize, next: usize) -> usize
         return x;
     }
     next - 1
-}
-
-// The label of a cell: 0 if its row does not name it.
-fn label_by(u: u8, label: u8) -> u8
-    ensures { λ r. ⌜ r ≡ labelBy (useOf u) label ⌝ }
-{
-    if u == 0 { 0 } else { label }
 }
 
 // The last cell of a tree, by the row e of its kind: its fields' trees end before the cells x, y and z.

@@ -1,6 +1,5 @@
 -- A cell that passes rows 5 to 8, over cells that are loaded, is loaded by writing it down. Over kind and field. Assumes nothing.
 use Prim.Native.Nat.{ℕ, zero, suc, _+_, _*_, _≤_, _<_}
-use native.Mathlib.Decide.{decLt}
 use native.Mathlib.Omega.{arith}
 use mathlib.Core.Path.{_≡_, refl, ap, _∙_, sym}
 use mathlib.Core.Bool.{Bool, true, false}
@@ -12,47 +11,19 @@ use lib.ListN.{length}
 use lib.Seq.{sets}
 use Rattle.format.specs.Table.{type-sort, term-sort, Use, unused, plain, refers, Row, table, rowOf}
 use Rattle.format.specs.Cell.{IsBytes, Cell, cellAt, cellBytes}
-use Rattle.format.specs.Tree.{Tree, fieldTree, cellTree, treeAt}
+use Rattle.format.specs.Tree.{Tree, treeAt}
 use Rattle.format.specs.Terms.{toType}
 use Rattle.format.specs.Book.{lowerOf, leadsTo}
-use Rattle.format.proofs.Tests.{FieldOk, CellOk, cellFault-says, sortIs-says, cell-fits}
-use Rattle.format.proofs.Unsharing.{fieldTree-lower, treeAt-cell}
+use Rattle.format.proofs.Tests.{CellOk, cellFault-says, sortIs-says, cell-fits}
 use Rattle.cells.specs.Coded.{CellFits, rowFrom}
 use Rattle.cells.specs.declared.Cell.{Cell as Struct}
 use Rattle.cells.specs.declared.Entry.{Entry}
-use Rattle.cells.specs.Held.{mark, labelBy, MarkIs, HeldField, f-unused, f-plain, f-refers, Fields, Same}
-use Rattle.cells.proofs.Held.{mark-one, same-cell, same-field, below, row-passes, Written, written}
+use Rattle.cells.specs.Held.{mark, MarkIs, HeldField, f-unused, f-refers, Same}
+use Rattle.cells.proofs.Held.{mark-one, same-cell, same-field, row-passes, Written, written}
+use Rattle.cells.proofs.Opened.{more, fields}
 use Rattle.loading.specs.Marks.{markBy, MarkReady}
 use Rattle.loading.specs.Loaded.{Loadable, Loaded, LoadsNext}
 use Rattle.loading.proofs.Marking.{Names, marked, mark-ready}
-
--- a field, by its use: it holds what it decodes to in the book
-held : {b s : List ℕ} {i : ℕ} → Loaded b s i → (u : Use) (x : ℕ) → FieldOk b i u x → HeldField true s i u x (fieldTree (treeAt b) i u x)
-unfolding fieldTree
-held l unused x h = rw h f-unused
-held l plain x h = f-plain
-held {b} {i = i} l (refers o) x h = rw (fieldTree-lower (treeAt b) i x o (h .0)) (below (l .held x (h .0) o (h .1)) (h .0))
-
-label-kept : (b : List ℕ) (i : ℕ) (u : Use) (x : ℕ) → FieldOk b i u x → x ≡ labelBy u x
-label-kept b i unused x h = h
-label-kept b i plain x h = refl
-label-kept b i (refers o) x h = refl
-
--- the tree of a cell that passes rows 5 to 8, by its row
-fields : {b s : List ℕ} {i : ℕ} (k : CellOk b i) → Loaded b s i → Fields true s i (cellAt b i .kind) (k .row) (cellAt b i) (treeAt b i)
-unfolding cellTree
-fields {b} {s} {i} k l =
-    let r = k .row in
-    let t = cellAt b i in
-    record {
-      a = fieldTree (treeAt b) i (r .a) (t .a);
-      b = fieldTree (treeAt b) i (r .b) (t .b);
-      c = fieldTree (treeAt b) i (r .c) (t .c);
-      is = rw (← label-kept b i (r .label) (t .label) (k .fields .label), treeAt-cell b i, k .found);
-      held-a = held l (r .a) (t .a) (k .fields .a);
-      held-b = held l (r .b) (t .b) (k .fields .b);
-      held-c = held l (r .c) (t .c) (k .fields .c);
-    }
 
 -- ---- field c is kept, or the row does not name it
 
@@ -100,17 +71,13 @@ loaded-same l q =
       leads = λ j h f. ap (λ (t : Cell). leadsTo j t f) (same-cell q h) ∙ l .leads j h f;
     }
 
--- what holds of the cells below i, and of i
-more : {P : ℕ → Type 0} {i : ℕ} → ((j : ℕ) → j < i → P j) → P i → (j : ℕ) → j < i + 1 → P j
-more {i = i} f p j h = elim (decLt j i) [ yes l ↦ f j l | no u ↦ let e : j ≡ i = omega (arith, u) in rw e p ]
-
 -- the cell written: its field c may be new
 loaded-more : {b s s′ : List ℕ} {i c : ℕ} (k : CellOk b i) → Loaded b s′ i
     → Written s s′ i (record { kind = cellAt b i .kind; label = cellAt b i .label; a = cellAt b i .a; b = cellAt b i .b; c = c })
     → Kept (k .row .c) c (cellAt b i .c) → MarkIs (k .row .sort) c (treeAt b i)
     → Loaded b s′ (i + 1)
 loaded-more {b} {s} {s′} {i} {c} k l w q m =
-    let n = fields k l in
+    let n = fields k (l .held) in
     let h : HeldField true s′ (suc i) (refers (k .row .sort)) i (treeAt b i)
     = rw (n .is) (f-refers {n = suc i} {x = i} (omega arith) (w .there) (k .found) refl (refl, rw (n .is) at m) (n .held-a) (n .held-b) (held-third q (n .held-c))) in
     record {
@@ -153,7 +120,7 @@ module _ {b s : List ℕ} {i : ℕ} {t : Cell} {y : Entry} (n : Read b s i t y) 
 
   type-cell : y .sort ≡ 2 → Names s i type-sort t (treeAt b i)
   type-cell q =
-      rw (n .cell) record { row = ok .row; found = ok .found; sort = type-row (t .kind) y (ok .row) row q; fields = fields ok (n .next .done) }
+      rw (n .cell) record { row = ok .row; found = ok .found; sort = type-row (t .kind) y (ok .row) row q; fields = fields ok (n .next .done .held) }
 
   type-marked : {c : ℕ} → y .sort ≡ 2 → c ≡ markBy s t (t .kind) → c ≡ mark (toType (treeAt b i))
   type-marked q h = h ∙ marked (t .kind) (type-cell q) refl

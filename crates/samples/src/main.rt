@@ -1,11 +1,15 @@
-// Every sample of document 01 that is not marked M: each book is made here, checked or run, and its answer printed.
+// Every sample of document 01 that is not marked M: each book is made here, checked or run, and its answer printed. Then books whose cells are compared
+// as document 02, (iii), says, in the book's own bytes.
 use answers::Outcome;
 use answers::Refusal;
 use answers::Stop;
+use book::Form;
+use book::check_form;
 use cells::Cell;
 use cells::write_cell;
 use engine::check;
 use engine::run;
+use equality::same_tree;
 use libc::STDOUT_FILENO;
 ghost use Prim.Native.Nat.{_≤_};
 ghost use lib.ListN.{length};
@@ -107,6 +111,51 @@ fn run_ignored() {
     );
 }
 
+// Whether cells i and j of a book, sharing opened, are the same tree; its bytes are not loaded.
+fn print_same(book: &[u8], i: usize, j: usize) {
+    let Form::WellFormed(_) = check_form(book) else {
+        io::write_all(STDOUT_FILENO, b"malformed\n");
+        return;
+    };
+    let n = book.len() / 8 - 1;
+    if n <= i || n <= j {
+        io::write_all(STDOUT_FILENO, b"no such cell\n");
+        return;
+    }
+    if same_tree(book, i, j) {
+        io::write_all(STDOUT_FILENO, b"same\n");
+    } else {
+        io::write_all(STDOUT_FILENO, b"different\n");
+    }
+}
+
+// Functions over two cells of the same variable, the second with another output, merged.
+fn compare_functions(i: usize, j: usize) {
+    print_same(
+        b"\x01\x00\x00\x00\x00\x00\x00\x00\x10\x00\x00\x00\x00\x00\x00\x00\x15\x00\x01\x00\x00\x00\x00\x00\x10\x00\x00\x00\x00\x00\x00\x00\x02\x00\x00\x00\x00\x00\x00\x00\x04\x00\x00\x00\x04\x00\x00\x00\x15\x00\x03\x00\x00\x00\x05\x00\x16\x00\x02\x00\x06\x00\x00\x00\xf0\x01\x08\x00\x07\x00\x00\x00",
+        i,
+        j,
+    );
+}
+
+// Functions with the bodies -1 and 65535, which differ in field c alone, and the top value for a root.
+fn compare_numbers(i: usize, j: usize) {
+    print_same(
+        b"\x01\x00\x00\x00\x00\x00\x00\x00\x11\x00\x00\x00\xff\xff\xff\xff\x15\x00\x01\x00\x00\x00\x00\x00\x11\x00\x00\x00\xff\xff\x00\x00\x15\x00\x03\x00\x00\x00\x00\x00\x12\x00\x00\x00\x00\x00\x00\x00\xf0\x01\x06\x00\x05\x00\x00\x00",
+        i,
+        j,
+    );
+}
+
+// Two chains of merges, the top value doubled four times over, neither of which the root reaches.
+fn compare_chains(i: usize, j: usize) {
+    print_same(
+        b"\x12\x00\x00\x00\x00\x00\x00\x00\x12\x00\x00\x00\x00\x00\x00\x00\x16\x00\x01\x00\x01\x00\x00\x00\x16\x00\x02\x00\x02\x00\x00\x00\x16\x00\x03\x00\x03\x00\x00\x00\x16\x00\x04\x00\x04\x00\x00\x00\x12\x00\x00\x00\x00\x00\x00\x00\x16\x00\x06\x00\x06\x00\x00\x00\x16\x00\x07\x00\x07\x00\x00\x00\x16\x00\x08\x00\x08\x00\x00\x00\x16\x00\x09\x00\x09\x00\x00\x00\xf0\x01\x0b\x00\x00\x00\x00\x00",
+        i,
+        j,
+    );
+}
+
 fn main() {
     let top = Cell {
         kind: 18,
@@ -130,4 +179,15 @@ fn main() {
     run_fixpoint(2046);
     run_fixpoint(2047);
     run_ignored();
+    // the variables, the functions, their outputs; a cell past the last
+    compare_functions(1, 3);
+    compare_functions(2, 6);
+    compare_functions(0, 5);
+    compare_functions(7, 8);
+    compare_numbers(1, 3);
+    compare_numbers(2, 4);
+    // the chains, and parts of them
+    compare_chains(5, 10);
+    compare_chains(4, 9);
+    compare_chains(5, 9);
 }

@@ -1,4 +1,4 @@
--- `types::disjoint`, by a walk over the left side and a walk over the right, meets its contract, and so do `apart_each` and `apart_pair`. The
+-- `decisions::disjoint`, by a walk over the left side and a walk over the right, meets its contract, and so do `apart_each` and `apart_pair`. The
 -- measures are four times the sum of the two cells, with 2, 1 and 0 added. Assumes nothing.
 use Prim.Native.Nat.{_+_, _*_}
 use mathlib.Core.Path.{refl, ap, _∙_}

@@ -1,6 +1,5 @@
--- `types::closed` meets its contract, over kind and field. A field that refers to no cell costs no call. Assumes nothing.
+-- `decisions::closed` meets its contract, over kind and field. A field that refers to no cell costs no call. Assumes nothing.
 use Prim.Native.Nat.{ℕ, _<_}
-use native.Mathlib.Omega.{arith}
 use borrow.Fn.Kinds.{In}
 use borrow.Fn.PlainCycle.{Measures, is, falls, and}
 use Rattle.cells.specs.Coded.{asCell}
@@ -8,8 +7,7 @@ use Rattle.cells.proofs.Rows.{fieldMeasure}
 use Rattle.cells.proofs.binders.Reads as binders-reads
 use Rattle.cells.proofs.entry_of.Reads as entry-of-reads
 use Rattle.cells.proofs.read_cell.Reads as read-cell-reads
-use Rattle.decisions.proofs.Trees.{refers-within}
-use Rattle.decisions.proofs.Variables.{none-closed, variable-closed, few-binders, Inner, parts, open-third, open-first, by-second}
+use Rattle.decisions.proofs.Variables.{none-closed, variable-closed, term-within, few-binders, Inner, parts, open-third, open-first, by-second}
 use Rattle.decisions.proofs.closed.Reads as closed
 use Rattle.decisions.proofs.closed.Kinds as closed-kinds
 use Rattle.decisions.proofs.+closed.Lts-closed as lts
@@ -45,7 +43,7 @@ inner t c = record {
 pub +closed-spec : {M : Type 1} → statement M
 +closed-spec = close μ λ t. lts.spec (calls t) (here t) closed.Post
     (λ c. none-closed (c .if1 .taken))
-    (λ c κs. refers-within {u = c .before .before .args .u} (omega (arith, c .if1 .left)) (c .before .before .pre .1 .at .holds))
+    (λ c κs. term-within {u = c .before .before .args .u} (c .if1 .left) (c .before .before .pre .1 .at .holds))
     (λ c. variable-closed (c .before .before .before .before .if1 .left) (c .before .before .before .read-cell .ensures) (c .before .if2 .taken))
     (λ c κs. tt)
     (λ c κs. few-binders (c .before .before .before .before .if1 .left) (c .before .before .before .before .before .before .pre .1))

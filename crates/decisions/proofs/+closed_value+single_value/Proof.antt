@@ -1,4 +1,4 @@
--- `types::closed_value` and `single_value` meet their contracts. The measure is twice the cell, one more for a walk. The loop goes from half to
+-- `decisions::closed_value` and `single_value` meet their contracts. The measure is twice the cell, one more for a walk. The loop goes from half to
 -- half. Assumes nothing.
 use Prim.Native.Nat.{_*_, _+_}
 use mathlib.Core.Path.{_∙_}

@@ -1,4 +1,4 @@
--- `types::consistent`, by a walk over the left side and a walk over the right, meets its contract, and so do the functions that it calls. The
+-- `decisions::consistent`, by a walk over the left side and a walk over the right, meets its contract, and so do the functions that it calls. The
 -- measures are eight times the sum of the two cells, with 0 to 6 added. Assumes nothing.
 use Prim.Native.Nat.{_+_, _*_}
 use mathlib.Core.Path.{ap, _∙_}
@@ -14,7 +14,7 @@ use Rattle.decisions.proofs.Parts.{outright, flagged, passed}
 use Rattle.decisions.specs.Questions.{TermsAt, PlainAt, PlainPair}
 use Rattle.decisions.proofs.Forms.{read, read-at, AtPair, Alike}
 use Rattle.decisions.proofs.Below.{not-kind}
-use Rattle.decisions.proofs.Trees.{things-at}
+use Rattle.decisions.proofs.Trees.{comparable}
 use Rattle.decisions.proofs.Walks.{Leads, AtHalves, own, walk-starts, and-swapped, and-goes-on, and-ends, kind-read}
 use Rattle.decisions.proofs.Agree as Agree
 use Prim.Native.Nat.{ℕ, _<_}
@@ -39,7 +39,7 @@ use Rattle.cells.proofs.read_cell.Reads as read-cell-reads
 use Rattle.decisions.proofs.disjoint.Reads as disjoint-reads
 use Rattle.decisions.proofs.equal_numbers.Reads as equal-numbers-reads
 use Rattle.decisions.proofs.kind_at.Reads as kind-at-reads
-use Rattle.decisions.proofs.same_tree.Reads as same-tree-reads
+use Rattle.equality.proofs.same_tree.Reads as same-tree-reads
 use Rattle.decisions.proofs.+consistent+consistent_each+consistent_half+consistent_one+consistent_pair+each_half+each_one.{
   statement,
 }
@@ -69,7 +69,7 @@ abbrev consistent-one-calls : ℕ → consistent-one-lts.Claims
 consistent-one-calls t = (read-cell-reads.Asked, read-cell-reads.Learnt, below 2 consistent-each.Pre t, consistent-each.Post)
 
 abbrev consistent-pair-calls : ℕ → consistent-pair-lts.Claims
-consistent-pair-calls t = (read-cell-reads.Asked, read-cell-reads.Learnt, below 6 consistent-half.Pre t, consistent-half.Post, same-tree-reads.Asked, same-tree-reads.Learnt, disjoint-reads.Asked, disjoint-reads.Learnt)
+consistent-pair-calls t = (read-cell-reads.Asked, read-cell-reads.Learnt, same-tree-reads.Asked, same-tree-reads.Learnt, below 6 consistent-half.Pre t, consistent-half.Post, disjoint-reads.Asked, disjoint-reads.Learnt)
 
 abbrev each-half-calls : ℕ → each-half-lts.Claims
 each-half-calls t = (equal-numbers-reads.Asked, equal-numbers-reads.Learnt, below 2 consistent-each.Pre t, consistent-each.Post)
@@ -162,17 +162,17 @@ pub +consistent+consistent-each+consistent-half+consistent-one+consistent-pair+e
     (λ c κs. held-within (c .before .pre .1 .first .terms .holds-first))
     (λ c κs. held-within (c .before .before .pre .1 .first .terms .holds-second))
     (λ c. let p = two-pair t (c .before .before .before) in outright (λ e f h k. Agree.pair-kinds (read (p .first) (p .second) h k) (p .pre .first .plain) (p .pre .plain) (c .if1 .taken)))
-    (λ c. let p = two-alike t (c .before .before .before .before .before .before .before) in outright (λ e f h k. Agree.numbers (read (p .at .first) (p .at .second) h k) (p .alike) (λ n. c .before .before .before .before .before .before .before .before .before .before .before .before .shared-slice-known .given n .fits) (c .before .before .before .before .before .if2 .taken) (c .before .before .if3 .taken)))
-    (λ c. let p = two-alike t (c .before .before .before .before .before) in flagged (ne-eqb _ _ (c .if3 .left)) (λ e f h k. Agree.other-numbers (read (p .at .first) (p .at .second) h k) (p .alike) (λ n. c .before .before .before .before .before .before .before .before .before .before .shared-slice-known .given n .fits) (c .before .before .before .if2 .taken) (c .if3 .left)))
-    (λ c κs. let p = two-alike t (c .before .before .before .before .before .before .before) in let v = Agree.records (read-at (p .at .first) (p .at .second) (p .at .pre .first .terms)) (p .alike) (c .before .before .before .if4 .taken) (c .if5 .left) in (omega (arith, v .less, p .at .measure), v .part))
-    (λ c. let p = two-alike t (c .before .before .before .before .before .before .before) in flagged (ap not (ne-eqb _ _ (c .if5 .taken))) (λ e f h k. Agree.other-records (read (p .at .first) (p .at .second) h k) (p .alike) (c .before .before .before .if4 .taken) (c .if5 .taken)))
-    (λ c. let p = two-alike t (c .before .before .before .before .before .before .before .before) in passed (λ e f h k. Agree.records (read (p .at .first) (p .at .second) h k) (p .alike) (c .before .before .before .before .if4 .taken) (c .before .if5 .left)) (c .consistent-half .ensures))
-    (λ c κs. let other = c in let p = two-alike t (other .before .before .before .before) in things-at type-sort (Agree.functions (read-at (p .at .first) (p .at .second) (p .at .pre .first .terms)) (p .alike) (p .at .pre .first .plain) (other .before .before .if2 .left) (other .if4 .left) .inputs))
-    (λ c κs. let other = c .before .before in let p = two-alike t (other .before .before .before .before) in things-at term-sort (Agree.functions (read-at (p .at .first) (p .at .second) (p .at .pre .first .terms)) (p .alike) (p .at .pre .first .plain) (other .before .before .if2 .left) (other .if4 .left) .bodies))
-    (λ c. let other = c .before .before .before .before in let p = two-alike t (other .before .before .before .before) in Agree.agree-same (λ e f h k. Agree.functions (read (p .at .first) (p .at .second) h k) (p .alike) (p .at .pre .first .plain) (other .before .before .if2 .left) (other .if4 .left)) (λ n. c .before .before .before .before .before .before .before .before .before .before .before .before .before .shared-slice-known .given n .fits) (c .before .before .before .same-tree .ensures) (c .before .before .if6 .taken) (c .before .same-tree2 .ensures) (c .if7 .taken))
-    (λ c κs. let other = c .before .before in let p = two-alike t (other .before .before .before .before) in Agree.functions (read-at (p .at .first) (p .at .second) (p .at .pre .first .terms)) (p .alike) (p .at .pre .first .plain) (other .before .before .if2 .left) (other .if4 .left) .outputs)
-    (λ c. let other = c .before .before .before in let p = two-alike t (other .before .before .before .before) in Agree.agree-apart (λ e f h k. Agree.functions (read (p .at .first) (p .at .second) h k) (p .alike) (p .at .pre .first .plain) (other .before .before .if2 .left) (other .if4 .left)) (λ n. c .before .before .before .before .before .before .before .before .before .before .before .before .shared-slice-known .given n .fits) (c .before .before .same-tree .ensures)
-    (⊎-elim (λ w. inr (rw (w .2 .left) at (w .1 .ensures))) (λ w. inl (w .left)) (c .before .if6 .came)) (c .disjoint .ensures)))
+    (λ c κs. comparable term-sort (two-alike t (c .before .before) .at .pre .first .terms))
+    (λ c. let p = two-alike t (c .before .before .before) in outright (λ e f h k. Agree.numbers (read (p .at .first) (p .at .second) h k) (p .alike) (λ n. c .before .before .before .before .before .before .before .before .shared-slice-known .given n .fits) (c .before .if2 .taken) (c .same-tree .ensures)))
+    (λ c κs. let p = two-alike t (c .before .before .before .before .before .before .before) in let v = Agree.records (read-at (p .at .first) (p .at .second) (p .at .pre .first .terms)) (p .alike) (c .before .before .before .if3 .taken) (c .if4 .left) in (omega (arith, v .less, p .at .measure), v .part))
+    (λ c. let p = two-alike t (c .before .before .before .before .before .before .before) in flagged (ap not (ne-eqb _ _ (c .if4 .taken))) (λ e f h k. Agree.other-records (read (p .at .first) (p .at .second) h k) (p .alike) (c .before .before .before .if3 .taken) (c .if4 .taken)))
+    (λ c. let p = two-alike t (c .before .before .before .before .before .before .before .before) in passed (λ e f h k. Agree.records (read (p .at .first) (p .at .second) h k) (p .alike) (c .before .before .before .before .if3 .taken) (c .before .if4 .left)) (c .consistent-half .ensures))
+    (λ c κs. let other = c in let p = two-alike t (other .before .before .before .before) in comparable type-sort (Agree.functions (read-at (p .at .first) (p .at .second) (p .at .pre .first .terms)) (p .alike) (p .at .pre .first .plain) (other .before .before .if2 .left) (other .if3 .left) .inputs))
+    (λ c κs. let other = c .before .before in let p = two-alike t (other .before .before .before .before) in comparable term-sort (Agree.functions (read-at (p .at .first) (p .at .second) (p .at .pre .first .terms)) (p .alike) (p .at .pre .first .plain) (other .before .before .if2 .left) (other .if3 .left) .bodies))
+    (λ c. let other = c .before .before .before .before in let p = two-alike t (other .before .before .before .before) in Agree.agree-same (λ e f h k. Agree.functions (read (p .at .first) (p .at .second) h k) (p .alike) (p .at .pre .first .plain) (other .before .before .if2 .left) (other .if3 .left)) (λ n. c .before .before .before .before .before .before .before .before .before .before .before .before .before .shared-slice-known .given n .fits) (c .before .before .before .same-tree2 .ensures) (c .before .before .if5 .taken) (c .before .same-tree3 .ensures) (c .if6 .taken))
+    (λ c κs. let other = c .before .before in let p = two-alike t (other .before .before .before .before) in Agree.functions (read-at (p .at .first) (p .at .second) (p .at .pre .first .terms)) (p .alike) (p .at .pre .first .plain) (other .before .before .if2 .left) (other .if3 .left) .outputs)
+    (λ c. let other = c .before .before .before in let p = two-alike t (other .before .before .before .before) in Agree.agree-apart (λ e f h k. Agree.functions (read (p .at .first) (p .at .second) h k) (p .alike) (p .at .pre .first .plain) (other .before .before .if2 .left) (other .if3 .left)) (λ n. c .before .before .before .before .before .before .before .before .before .before .before .before .shared-slice-known .given n .fits) (c .before .before .same-tree2 .ensures)
+    (⊎-elim (λ w. inr (rw (w .2 .left) at (w .1 .ensures))) (λ w. inl (w .left)) (c .before .if5 .came)) (c .disjoint .ensures)))
     (λ t. each-half-lts.spec (each-half-calls t) (at 3 each-half.Pre t) each-half.Post
     (λ c κs. c .before .pre .1 .terms)
     (λ c. c .before .equal-numbers .ensures .says (c .if1 .taken))

@@ -1,4 +1,4 @@
--- `types::subtype`, `part_below`, `half_below` and `single_below` meet their contracts. The measure is four times the sum of the two cells, and
+-- `decisions::subtype`, `part_below`, `half_below` and `single_below` meet their contracts. The measure is four times the sum of the two cells, and
 -- one more from the single type to the whole question. The loop goes from half to half. Assumes nothing.
 use Prim.Native.Nat.{_+_, _*_}
 use mathlib.Core.Path.{refl, sym, ap, _∙_}

@@ -1,4 +1,4 @@
--- `types::kind_at` meets its contract. Assumes nothing.
+-- `decisions::kind_at` meets its contract. Assumes nothing.
 use mathlib.Core.Path.{ap}
 use borrow.Author.Needs.{needs}
 use Rattle.format.specs.Cell.{Cell}

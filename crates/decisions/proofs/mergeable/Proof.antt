@@ -1,4 +1,4 @@
--- `types::mergeable` meets its contract. Assumes nothing.
+-- `decisions::mergeable` meets its contract. Assumes nothing.
 use Rattle.decisions.proofs.Halves.{few, apart, not-first, not-second, agreeing}
 use Rattle.decisions.proofs.mergeable.Statement.{statement}
 use Rattle.decisions.proofs.mergeable.Tie as tie

@@ -1,0 +1,91 @@
+//! Functions that are the same: those "with the same body and input type, as trees". Whether a part of both is one cell or two, and what
+//! the outputs are, does not matter.
+
+use crate::faults::{current, Fault};
+use crate::kinds::{kind, Row, Sort};
+use crate::terms::{Node, Part, Term, Type};
+
+/// A function's body, input type and output type.
+pub type Function<'a> = (&'a Term, &'a Type, &'a Type);
+
+pub fn same_function(one: Function, other: Function) -> bool {
+    let ((e, i, o), (f, j, p)) = (one, other);
+    let first_cell = |t: &Type| (t.node().row.kind, t.node().label);
+    match current() {
+        None => i == j && e == f,
+        Some(Fault::InputsIgnored) => e == f,
+        Some(Fault::InputsByFirstCell) => first_cell(i) == first_cell(j) && e == f,
+        Some(Fault::OutputsCompared) => i == j && o == p && e == f,
+        Some(Fault::BodiesByCell) => i == j && e.is(f),
+        Some(fault) => i == j && walk(fault, 0, &e.node(), &f.node()).map_or_else(|answer| answer, |()| true),
+    }
+}
+
+/// The kinds that a fault does not tell apart.
+fn alike(fault: Fault) -> &'static [u8] {
+    match fault {
+        Fault::PairsAlike => &[kind::APPLICATION, kind::MERGE, kind::SUM],
+        Fault::RecordsAsReads => &[kind::RECORD, kind::PROJECTION],
+        Fault::AnnotationsAsFixpoints => &[kind::ANNOTATION, kind::FIXPOINT],
+        Fault::FunctionTypesAsIntersections => &[kind::FUNCTION_TYPE, kind::INTERSECTION],
+        Fault::IntAsTop => &[kind::INT, kind::TOP],
+        _ => &[],
+    }
+}
+
+/// A fault does not compare this field.
+fn ignored(fault: Fault, row: &Row, field: usize) -> bool {
+    let last = row.fields[field].sort().is_some() && row.fields[field + 1..].iter().all(|field| field.sort().is_none());
+    match fault {
+        Fault::EqualByTwoParts => (row.kind, field) == (kind::CHOICE, 2),
+        Fault::FunctionsByTwoParts => (row.kind, field) == (kind::FUNCTION, 2),
+        Fault::FirstIgnored => field == 0 && row.fields[0].sort().is_some() && !last,
+        Fault::SecondOfTwoIgnored => field == 1 && last,
+        Fault::TypesIgnored => row.sort == Sort::Term && row.fields[field].sort() == Some(Sort::Type),
+        Fault::VariablesAlike => row.kind == kind::VARIABLE,
+        Fault::LowHalfIgnored => (row.kind, field) == (kind::NUMBER, 1),
+        Fault::HighHalfIgnored => (row.kind, field) == (kind::NUMBER, 2),
+        _ => false,
+    }
+}
+
+/// Bodies are compared to this level, where a fault has that.
+const LEVELS: usize = 8;
+
+/// Both trees compared from here on, this level, as a fault has it. An error is the answer.
+fn walk(fault: Fault, level: usize, one: &Node, other: &Node) -> Result<(), bool> {
+    if fault == Fault::EightLevels && level == LEVELS {
+        return Ok(());
+    }
+    let [one_kind, other_kind] = [one, other].map(|node| node.row.kind);
+    let kinds = one_kind == other_kind || [one_kind, other_kind].iter().all(|kind| alike(fault).contains(kind));
+    if !kinds || one.label != other.label && fault != Fault::LabelsIgnored {
+        return Err(false);
+    }
+    for (field, parts) in one.fields.into_iter().zip(other.fields).enumerate() {
+        if ignored(fault, one.row, field) {
+            continue;
+        }
+        match (fault, one_cell(parts)) {
+            (Fault::BodiesByBytes, Some(false)) => return Err(false),
+            (Fault::SharedPartEnough, Some(true)) => return Err(true),
+            _ => {}
+        }
+        match parts {
+            (Part::Type(t), Part::Type(u)) => walk(fault, level + 1, &t.node(), &u.node())?,
+            (Part::Term(e), Part::Term(f)) => walk(fault, level + 1, &e.node(), &f.node())?,
+            (Part::Plain(m), Part::Plain(n)) if m != n => return Err(false),
+            _ => {}
+        }
+    }
+    Ok(())
+}
+
+/// Whether two parts are one cell; none if they are no parts.
+fn one_cell(parts: (Part, Part)) -> Option<bool> {
+    match parts {
+        (Part::Type(t), Part::Type(u)) => Some(t.is(u)),
+        (Part::Term(e), Part::Term(f)) => Some(e.is(f)),
+        _ => None,
+    }
+}
