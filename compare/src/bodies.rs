@@ -181,14 +181,16 @@ fn is_typed(term: &Term) -> bool {
 }
 
 /// Two functions merged: equal cells once, so that both refer to the same ones wherever they are equal; nothing shared; and the second function's
-/// cells first, what is equal in a function once, and nothing shared between the two.
-fn laid_down(left: &Term, right: &Term) -> [Cells; 3] {
+/// cells first, nothing shared between the two, and in one of them, by turns the second or the first, equal cells once.
+fn laid_down(left: &Term, right: &Term, turn: usize) -> [Cells; 3] {
     let mut random = Random::of(0, "", 0);
     let [shared, opened] = [Sharing::Always, Sharing::Never].map(|sharing| {
         let merge = Term::merge(left.clone(), right.clone());
         encode(&merge, sharing, &mut random)
     });
-    let [first, second] = [right, left].map(|function| encode(function, Sharing::Always, &mut random));
+    let mut sharings = [Sharing::Always, Sharing::Never];
+    sharings.rotate_left(turn % 2);
+    let [first, second] = [0, 1].map(|n| encode([right, left][n], sharings[n], &mut random));
     let raised = |n: u16| n + first.root + 1;
     let second_cells = second.cells.iter().map(|cell| cell.redirected(raised));
     let merge = Cell::new(kind::MERGE, 0, [raised(second.root), first.root, 0]);
@@ -208,7 +210,7 @@ fn apart(subjects: &[Subject]) -> Vec<Pair> {
         for (turn, (difference, expected, other)) in differing(subject).into_iter().enumerate() {
             let function = subject.function.clone();
             let [left, right] = if turn % 2 == 0 { [function, other] } else { [other, function] };
-            let mut books = laid_down(&left, &right).to_vec();
+            let mut books = laid_down(&left, &right, turn / 2).to_vec();
             if expected == Expected::Refused {
                 books = vec![books.swap_remove(turn % books.len())];
             }
@@ -221,8 +223,8 @@ fn apart(subjects: &[Subject]) -> Vec<Pair> {
 
 /// Each function merged with itself.
 fn equal(subjects: &[Subject]) -> Vec<Pair> {
-    let twice = |Subject { function, .. }: &Subject| laid_down(function, function);
-    subjects.iter().flat_map(twice).map(accepted).collect()
+    let twice = |(turn, Subject { function, .. }): (usize, &Subject)| laid_down(function, function, turn);
+    subjects.iter().enumerate().flat_map(twice).map(accepted).collect()
 }
 
 /// A number beside a field with the term in it: below Int.
@@ -398,13 +400,8 @@ fn outputs() -> Vec<Pair> {
     let outputs =
         [own.clone(), int(), field.clone(), Type::intersection(int(), int()), Type::intersection(field, own.clone()), top()];
     let function = |output: &Type| Term::function(Term::fixpoint(variable(), own.clone()), int(), output.clone());
-    let mut pairs = Vec::new();
-    for one in &outputs {
-        for other in &outputs {
-            pairs.extend(laid_down(&function(one), &function(other)).map(accepted));
-        }
-    }
-    pairs
+    let pairs = outputs.iter().flat_map(|one| outputs.iter().map(move |other| (one, other)));
+    pairs.enumerate().flat_map(|(turn, (one, other))| laid_down(&function(one), &function(other), turn)).map(accepted).collect()
 }
 
 /// The same cells, and a root that does not reach them.
@@ -425,8 +422,20 @@ pub fn one_cell_apart() -> Vec<Pair> {
     let mut at_every_depth = at_every_depth();
     at_every_depth.reverse();
     let not_reached = unreached(&by_turns(&[apart(&small), equal(&small)])[..UNREACHED]);
-    let same = equal(&[&small[..], &nested, &inputs, &at_every_depth].concat());
+    let same = by_turns(&[equal(&small), equal(&nested), equal(&inputs), equal(&at_every_depth)]);
     by_turns(&[apart(&at_every_depth), apart(&nested), apart(&small), apart(&inputs), same, outputs(), not_reached])
+}
+
+/// Two functions from Int to Int merged that differ where a high byte does: in what a variable skips, and in the number of the body's cell.
+fn high_bytes() -> [Cells; 2] {
+    let within = |body: Term| Term::function((0..256).fold(body, |e, _| Term::fixpoint(e, int())), int(), int());
+    let [one, other] = [0, 256].map(|skipped| within(Term::variable(skipped)));
+    let skipping = encode(&Term::merge(one, other), Sharing::Always, &mut Random::of(0, "", 0));
+    let of_body = |body: u16| Cell::new(kind::FUNCTION, 0, [body, 0, 0]);
+    let mut cells = vec![zeroed(kind::INT), Cell::number(5), of_body(1)];
+    cells.resize(257, zeroed(kind::TOP_VALUE));
+    cells.extend([Cell::number(6), of_body(257), Cell::new(kind::MERGE, 0, [2, 258, 0])]);
+    [skipping, Cells { cells, root: 259 }]
 }
 
 /// Books of which the documents' words give the answer of a check.
@@ -456,6 +465,9 @@ pub fn stated() -> Vec<Sample> {
     merge("the same, 1 and 65,537", [1, 65_537].map(|n| of_int(number(n))), None);
     let field = |label| Term::function(Term::record(label, variable()), int(), Type::record(label, int()));
     merge("bodies and outputs of other labels", [1, 2].map(field), Some(9));
+    let [skipping, cells] = high_bytes();
+    add("variables that skip 0 binders and 256", skipping.bytes(), refused(usize::from(skipping.root)));
+    add("bodies in cells 1 and 257", cells.bytes(), refused(usize::from(cells.root)));
     let mut chains = two_chains(18);
     chains.cells.push(zeroed(kind::TOP_VALUE));
     add("two doubling chains not reached", Cells { root: 38, ..chains }.bytes(), Answer::Accepted { size: 1 });

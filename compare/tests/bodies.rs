@@ -69,16 +69,21 @@ fn bodies_differ_in_every_item_of_every_kind_at_every_depth() {
     }
 }
 
-/// The faults in comparing functions, this one of sums and choices included.
-const FAULTS: [Fault; 21] = [
+/// The faults in comparing functions, and the one in comparing choices, which stand in bodies.
+const FAULTS: [Fault; 27] = [
     Fault::EqualByTwoParts,
     Fault::BodiesByCell,
     Fault::BodiesByBytes,
+    Fault::BodiesByLowByte,
     Fault::SharedPartEnough,
+    Fault::SharingCompared,
+    Fault::OneForSeveral,
+    Fault::SeveralForOne,
     Fault::EightLevels,
     Fault::LabelsIgnored,
     Fault::TypesIgnored,
     Fault::VariablesAlike,
+    Fault::VariablesByLowByte,
     Fault::LowHalfIgnored,
     Fault::HighHalfIgnored,
     Fault::FirstIgnored,
@@ -91,6 +96,7 @@ const FAULTS: [Fault; 21] = [
     Fault::IntAsTop,
     Fault::InputsIgnored,
     Fault::InputsByFirstCell,
+    Fault::InputSharingCompared,
     Fault::OutputsCompared,
 ];
 

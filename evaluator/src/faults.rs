@@ -142,8 +142,16 @@ pub enum Fault {
     BodiesByCell,
     /// Two bodies called the same only if their cells have the same bytes.
     BodiesByBytes,
+    /// Two bodies called the same where the numbers of their cells have the same low byte.
+    BodiesByLowByte,
     /// Two bodies called the same as soon as a part of both is one cell.
     SharedPartEnough,
+    /// Two bodies called the same only if their cells correspond one to one.
+    SharingCompared,
+    /// The same, but that a cell of the first may stand for several of the second.
+    OneForSeveral,
+    /// The same, but that a cell of the second may stand for several of the first.
+    SeveralForOne,
     /// Bodies compared to their eighth level.
     EightLevels,
     /// Labels in bodies not compared.
@@ -152,6 +160,8 @@ pub enum Fault {
     TypesIgnored,
     /// Variables in bodies called equal whatever they skip.
     VariablesAlike,
+    /// Variables in bodies compared by the low byte of what they skip.
+    VariablesByLowByte,
     /// The low 16 bits of numbers in bodies not compared.
     LowHalfIgnored,
     /// The high 16 bits of numbers in bodies not compared.
@@ -176,12 +186,14 @@ pub enum Fault {
     InputsIgnored,
     /// Input types compared by kind and label alone.
     InputsByFirstCell,
+    /// Two input types called the same only if their cells correspond one to one.
+    InputSharingCompared,
     /// Functions with the same body and input called consistent only if their outputs are equal.
     OutputsCompared,
 }
 
 impl Fault {
-    pub const ALL: [Fault; 87] = [
+    pub const ALL: [Fault; 93] = [
         Fault::CovariantInputs,
         Fault::ArgumentUncast,
         Fault::RoomOneEarly,
@@ -251,11 +263,16 @@ impl Fault {
         Fault::RoomWithoutBranches,
         Fault::BodiesByCell,
         Fault::BodiesByBytes,
+        Fault::BodiesByLowByte,
         Fault::SharedPartEnough,
+        Fault::SharingCompared,
+        Fault::OneForSeveral,
+        Fault::SeveralForOne,
         Fault::EightLevels,
         Fault::LabelsIgnored,
         Fault::TypesIgnored,
         Fault::VariablesAlike,
+        Fault::VariablesByLowByte,
         Fault::LowHalfIgnored,
         Fault::HighHalfIgnored,
         Fault::FirstIgnored,
@@ -268,6 +285,7 @@ impl Fault {
         Fault::IntAsTop,
         Fault::InputsIgnored,
         Fault::InputsByFirstCell,
+        Fault::InputSharingCompared,
         Fault::OutputsCompared,
     ];
 }

@@ -4,6 +4,7 @@
 use crate::faults::{current, Fault};
 use crate::kinds::{kind, Row, Sort};
 use crate::terms::{Node, Part, Term, Type};
+use std::collections::BTreeSet;
 
 /// A function's body, input type and output type.
 pub type Function<'a> = (&'a Term, &'a Type, &'a Type);
@@ -16,7 +17,13 @@ pub fn same_function(one: Function, other: Function) -> bool {
         Some(Fault::InputsIgnored) => e == f,
         Some(Fault::InputsByFirstCell) => first_cell(i) == first_cell(j) && e == f,
         Some(Fault::OutputsCompared) => i == j && o == p && e == f,
-        Some(Fault::BodiesByCell) => i == j && e.is(f),
+        Some(Fault::InputSharingCompared) => i == j && e == f && one_for_one(Part::Type(i), Part::Type(j)) == [true; 2],
+        Some(Fault::BodiesByCell) => i == j && e.address() == f.address(),
+        Some(Fault::BodiesByLowByte) => i == j && (e.cell() as u8 == f.cell() as u8 || e == f),
+        Some(fault @ (Fault::SharingCompared | Fault::OneForSeveral | Fault::SeveralForOne)) => {
+            let allowed = [Fault::OneForSeveral, Fault::SeveralForOne].map(|one_way| fault == one_way);
+            i == j && e == f && one_for_one(Part::Term(e), Part::Term(f)).into_iter().zip(allowed).all(|(one, or)| one || or)
+        }
         Some(fault) => i == j && walk(fault, 0, &e.node(), &f.node()).map_or_else(|answer| answer, |()| true),
     }
 }
@@ -49,6 +56,15 @@ fn ignored(fault: Fault, row: &Row, field: usize) -> bool {
     }
 }
 
+/// The bits of a plain field that a fault compares.
+fn compared(fault: Fault, row: &Row) -> u16 {
+    if fault == Fault::VariablesByLowByte && row.kind == kind::VARIABLE {
+        0xFF
+    } else {
+        u16::MAX
+    }
+}
+
 /// Bodies are compared to this level, where a fault has that.
 const LEVELS: usize = 8;
 
@@ -74,7 +90,7 @@ fn walk(fault: Fault, level: usize, one: &Node, other: &Node) -> Result<(), bool
         match parts {
             (Part::Type(t), Part::Type(u)) => walk(fault, level + 1, &t.node(), &u.node())?,
             (Part::Term(e), Part::Term(f)) => walk(fault, level + 1, &e.node(), &f.node())?,
-            (Part::Plain(m), Part::Plain(n)) if m != n => return Err(false),
+            (Part::Plain(m), Part::Plain(n)) if (m ^ n) & compared(fault, one.row) != 0 => return Err(false),
             _ => {}
         }
     }
@@ -83,9 +99,34 @@ fn walk(fault: Fault, level: usize, one: &Node, other: &Node) -> Result<(), bool
 
 /// Whether two parts are one cell; none if they are no parts.
 fn one_cell(parts: (Part, Part)) -> Option<bool> {
-    match parts {
-        (Part::Type(t), Part::Type(u)) => Some(t.is(u)),
-        (Part::Term(e), Part::Term(f)) => Some(e.is(f)),
+    let [(one, _), (other, _)] = [cell(parts.0)?, cell(parts.1)?];
+    Some(one == other)
+}
+
+/// The cell that a part is: its address and what is in it.
+fn cell(part: Part) -> Option<(*const (), Node)> {
+    match part {
+        Part::Type(t) => Some((t.address(), t.node())),
+        Part::Term(e) => Some((e.address(), e.node())),
         _ => None,
     }
+}
+
+/// The addresses of all cells of a tree, each as often as it stands there.
+fn addresses(part: Part, all: &mut Vec<*const ()>) {
+    if let Some((address, node)) = cell(part) {
+        all.push(address);
+        node.fields.into_iter().for_each(|part| addresses(part, all));
+    }
+}
+
+/// Of two equal trees: whether each cell of the one stands where only one of the other does, and the reverse.
+fn one_for_one(one: Part, other: Part) -> [bool; 2] {
+    let [ones, others] = [one, other].map(|part| {
+        let mut all = Vec::new();
+        addresses(part, &mut all);
+        all
+    });
+    let pairs: BTreeSet<_> = ones.iter().zip(&others).collect();
+    [ones.iter(), others.iter()].map(|all| all.collect::<BTreeSet<_>>().len() == pairs.len())
 }

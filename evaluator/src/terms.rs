@@ -176,9 +176,9 @@ impl Type {
         &self.0.shape
     }
 
-    /// Both were decoded from one cell, or one was cloned from the other.
-    pub(crate) fn is(&self, other: &Type) -> bool {
-        Rc::ptr_eq(&self.0, &other.0)
+    /// The same only of what was decoded from one cell, and of clones.
+    pub(crate) fn address(&self) -> *const () {
+        Rc::as_ptr(&self.0).cast()
     }
 
     pub fn node(&self) -> Node<'_> {
@@ -378,9 +378,9 @@ impl Term {
         self.0.cell
     }
 
-    /// Both were decoded from one cell, or one was cloned from the other.
-    pub(crate) fn is(&self, other: &Term) -> bool {
-        Rc::ptr_eq(&self.0, &other.0)
+    /// The same only of what was decoded from one cell, and of clones.
+    pub(crate) fn address(&self) -> *const () {
+        Rc::as_ptr(&self.0).cast()
     }
 
     pub fn size(&self) -> u64 {

@@ -29,7 +29,7 @@ use Rattle.answers.specs.Samples.{equalNumbers, unequalNumbers, mergedVa
 use Rattle.answers.specs.Samples.{appliedTop, appliedNumber, hiddenField, ownFixpoint, doubled, refusals}
 use Rattle.answers.specs.Samples.{mergedField, missingField, twoFields, topLikeBesideField, topLikeFields, topLikeContent, loneTopLike, topLikeFunction, nestedParts, hiddenUnannotated, laterMerge, twoFieldsBesideTop, topLikeOtherLabel, topPart, loneFunction, loneOtherLabel, fieldReads}
 use Rattle.answers.specs.Samples.{onePlusTwo, pastUpperEnd, pastLowerEnd, atUpperEnd, atLowerEnd, bothEnds, sumOfSums, mergedSide, mergedRightSide, topPlusVariable, onePlusTop, choiceByZero, choiceByOne, choiceByMinusOne, choiceByHigh, waitingLoop, annotatedBranch, choiceByTop, topForZero, topForOther, freeInOther, sumMerged, equalBodies, exchangedBodies, equalChoices, exchangedChoices, otherThirdPart, choiceInBody, sumInBody, triangle, sumNamesC, labelledSum, labelledChoice, choiceOfItself, choiceOfType, unknownKind, sumsAndChoices}
-use Rattle.answers.specs.Samples.{sameBody, otherBody, openedBodies, otherLabel, otherHighHalf, otherLowHalf, otherTypeInBody, otherLastField, otherInput, disjointBodies, unreachedChains, bodies}
+use Rattle.answers.specs.Samples.{sameBody, otherBody, openedBodies, unevenSharing, otherLabel, otherHighHalf, otherLowHalf, otherTypeInBody, otherLastField, otherInput, disjointBodies, unreachedChains, bodies}
 
 -- to name it on a line is to unfold every definition that a computation of an answer meets, but for the zero tail
 unfoldable pub computing : ℕ
@@ -84,7 +84,7 @@ pub sums-and-choices-hold : All (Meets definition) sumsAndChoices
 sums-and-choices-hold = each sumsAndChoices sums-and-choices-computed
 
 bodies-computed : map answered bodies ≡ map expected bodies
-unfolding computing answered bodies sameBody otherBody openedBodies otherLabel otherHighHalf otherLowHalf otherTypeInBody otherLastField otherInput disjointBodies unreachedChains
+unfolding computing answered bodies sameBody otherBody openedBodies unevenSharing otherLabel otherHighHalf otherLowHalf otherTypeInBody otherLastField otherInput disjointBodies unreachedChains
 bodies-computed = refl
 
 pub bodies-hold : All (Meets definition) bodies

@@ -882,6 +882,20 @@ openedBodies =
     ++ line 22 0 4 0 8 0 0 0
     ++ line 240 1 10 0 9 0 0 0
 
+-- and bodies in which one cell stands for two
+unfoldable pub unevenSharing : List ℕ
+unevenSharing =
+    line 1 0 0 0 0 0 0 0
+    ++ line 16 0 0 0 0 0 0 0
+    ++ line 26 0 1 0 1 0 0 0
+    ++ line 21 0 2 0 0 0 0 0
+    ++ line 16 0 0 0 0 0 0 0
+    ++ line 16 0 0 0 0 0 0 0
+    ++ line 26 0 4 0 5 0 0 0
+    ++ line 21 0 6 0 0 0 0 0
+    ++ line 22 0 3 0 7 0 0 0
+    ++ line 240 1 9 0 8 0 0 0
+
 -- bodies that differ in one label
 unfoldable pub otherLabel : List ℕ
 otherLabel =
@@ -1023,6 +1037,7 @@ bodies =
     sample "two functions with the body x, in two cells" sameBody check (accepted 9) (line 1 0 0 0 0 0 0 0 ++ line 1 0 0 0 0 0 0 0 ++ line 3 0 0 0 1 0 0 0 ++ line 1 0 0 0 0 0 0 0 ++ line 1 0 0 0 0 0 0 0 ++ line 2 0 0 0 0 0 0 0 ++ line 4 0 4 0 5 0 0 0 ++ line 3 0 3 0 6 0 0 0 ++ line 4 0 2 0 7 0 0 0 ++ line 240 1 9 0 8 0 0 0)
     ∷ sample "functions with the bodies x and 1" otherBody check (refused 14 7) []
     ∷ sample "two functions with the body {1 = x}.1, each in cells of its own" openedBodies check (accepted 7) (line 1 0 0 0 0 0 0 0 ++ line 1 0 0 0 0 0 0 0 ++ line 3 0 0 0 1 0 0 0 ++ line 1 0 0 0 0 0 0 0 ++ line 1 0 0 0 0 0 0 0 ++ line 3 0 3 0 4 0 0 0 ++ line 4 0 2 0 5 0 0 0 ++ line 240 1 7 0 6 0 0 0)
+    ∷ sample "two functions with the body x + x, over one cell for x and over two" unevenSharing check (accepted 7) (line 1 0 0 0 0 0 0 0 ++ line 1 0 0 0 0 0 0 0 ++ line 3 0 0 0 1 0 0 0 ++ line 1 0 0 0 0 0 0 0 ++ line 1 0 0 0 0 0 0 0 ++ line 3 0 3 0 4 0 0 0 ++ line 4 0 2 0 5 0 0 0 ++ line 240 1 7 0 6 0 0 0)
     ∷ sample "functions that read field 1 and field 2" otherLabel check (refused 14 9) []
     ∷ sample "functions with the bodies -1 and 65535" otherHighHalf check (refused 14 5) []
     ∷ sample "functions with the bodies 65536 and 65537" otherLowHalf check (refused 14 5) []

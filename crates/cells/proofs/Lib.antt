@@ -7,4 +7,4 @@ pub mod Inside
 pub mod Rows
 pub mod Table
 pub mod Written
-pub mod Opened
+pub mod Unshared

@@ -19,11 +19,11 @@ use Rattle.format.specs.Terms.{fromTerm}
 use Rattle.cells.specs.Held.{HoldsTerm}
 use Rattle.cells.proofs.Held.{lit-at, unit-at, lam-at, merge-at, rcd-at, kindOf, kind-of-held}
 use Rattle.cells.proofs.Forms.{NoValue, fold-else, parts-else}
-use Rattle.equality.specs.Same.{SameTree}
+use Rattle.equality.specs.Trees.{SameTree}
 use Rattle.decisions.specs.Questions.{TypesAt, TypesSay, TermsAt, TermsSay, Plain, PlainAt, PlainPair, Agreeing}
 use Rattle.decisions.proofs.Parts.{Passes, Splits, Whenever}
 use Rattle.decisions.proofs.Forms.{Terms, kind-first, kind-second}
-use Rattle.decisions.proofs.Trees.{same-held, same-test}
+use Rattle.decisions.proofs.Trees.{same-things, same-test}
 
 -- a number, a function or a record
 data PlainTerm : Term → Type 0 where
@@ -154,7 +154,7 @@ module _ {s : List ℕ} {i j : ℕ} {x y : Cell} {e f : Term} (t : Terms s i j x
     numbers b m w =
         let p = lit-at (t .holds-first) (kind-first t m) in
         let r = lit-at (t .holds-second) (kind-second t k m) in
-        T-same (same-held term-sort b w (t .holds-first) (t .holds-second)) (rw (p, r) (Iff·trans (rw two-numbers (decide-says (sameInteger _ _))) (ap lit, λ q. cc)))
+        T-same (same-things term-sort b w (t .holds-first) (t .holds-second)) (rw (p, r) (Iff·trans (rw two-numbers (decide-says (sameInteger _ _))) (ap lit, λ q. cc)))
 
     pub records : x .kind ≡ 24 → x .label ≡ y .label → Passes (HoldsTerm s) consistent? (i + j) (x .a) (y .a) e f
     records m l = rw (t .is-first, t .is-second)

@@ -1,4 +1,4 @@
--- Two held types or terms are the same where their cells open to the same tree. Assumes nothing.
+-- Two held types or terms are the same where their cells are the same tree, unshared. Assumes nothing.
 use Prim.Native.Nat.{ℕ}
 use mathlib.Core.Path.{_≡_, ap, sym, _∙_}
 use mathlib.Core.Logic.{_↔_, Iff·trans}
@@ -13,7 +13,7 @@ use Rattle.format.specs.Cell.{IsBytes}
 use Rattle.cells.specs.Held.{Thing, thing, Holds}
 use Rattle.cells.proofs.Held.{unmarked}
 use Rattle.cells.proofs.Back.{from, held-back}
-use Rattle.equality.specs.Same.{Comparable, in-cells, SameTree}
+use Rattle.equality.specs.Trees.{Comparable, in-cells, SameTree}
 use Rattle.decisions.specs.Questions.{PairAt, PairSays}
 
 abbrev same : (o : Sort) → Thing o → Thing o → Bool
@@ -29,9 +29,9 @@ module _ (o : Sort) {s : List ℕ} {i j : ℕ} where
   comparable p = in-cells (_, (o, unmarked (p .holds-first .held))) (_, (o, unmarked (p .holds-second .held)))
 
   module _ {r : Bool} (b : IsBytes s) (w : SameTree s i j r) where
-    pub same-held : {x y : Thing o} → Holds s o i x → Holds s o j y → T r ↔ (x ≡ y)
-    same-held h k = Iff·trans (w .cells _ _ (o, unmarked (h .held)) (o, unmarked (k .held)))
+    pub same-things : {x y : Thing o} → Holds s o i x → Holds s o j y → T r ↔ (x ≡ y)
+    same-things h k = Iff·trans (w .cells _ _ (o, unmarked (h .held)) (o, unmarked (k .held)))
         (λ e. h .is ∙ ap (thing o) e ∙ sym (k .is), λ e. sym (held-back b h) ∙ ap (from o) e ∙ held-back b k)
 
     pub same-test : PairSays (Holds s o) i j (same o) r
-    same-test = record { says = λ x y h k. T-same (same-held h k) (same-says o x y) }
+    same-test = record { says = λ x y h k. T-same (same-things h k) (same-says o x y) }

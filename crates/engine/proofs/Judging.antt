@@ -20,6 +20,7 @@ use Rattle.answers.specs.declared.Refusal.{Refusal}
 use Rattle.answers.specs.declared.Refusal.the-variants.{Buffer}
 use Rattle.answers.specs.declared.Outcome.{Outcome}
 use Rattle.book.specs.Form.{FormCheck, FormsAs}
+use Rattle.book.proofs.Formed.{formed}
 use Rattle.book.specs.declared.Form.{Form}
 use Rattle.book.specs.declared.Form.the-variants as Form
 use Rattle.engine.specs.Stages.{FirstRows, row-1, rows-2-to-10, RefusesBy, Formed, Gives, AfterTyping}
@@ -63,8 +64,4 @@ module _ (b w : List ℕ) (g : Ty → Result) where
 -- no row met
 pub started : {b w : List ℕ} {i : ℕ} {x : Form} → FirstRows b (length w) x → x ≡ Form.WellFormed i → Formed b w i
 started {x = x} (row-1 n s) e = let z : _≡_ {A = ℕ} 0 1 = cc in absurd (omega arith)
-started {b} {w} {i} {x} (rows-2-to-10 k f) e = go (formFinding b) refl (f .says)
-  where
-    go : (y : Option Finding) → formFinding b ≡ y → FormsAs b x y → Formed b w i
-    go none g h = record { book = record { form = formFinding-says b .0 g; root = cc }; work = k }
-    go (some y) g h = let z : _≡_ {A = ℕ} 0 1 = cc in absurd (omega arith)
+started (rows-2-to-10 k f) e = let z = formed f e in record { book = record { form = z .0; root = z .1 }; work = k }

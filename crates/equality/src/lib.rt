@@ -1,4 +1,4 @@
-// Whether two cells, sharing opened, are the same tree: one test for types and terms, by the table of kinds. It is lent the cells and two of their
+// Whether two cells, unshared, are the same tree: one test for types and terms, by the table of kinds. It is lent the cells and two of their
 // numbers; it writes nothing, copies nothing and keeps no array. What a row does not name is not looked at, so the test is right on a book's own
 // bytes as on loaded cells, where field c of a type carries a mark.
 use cells::entry_of;
@@ -6,16 +6,16 @@ use cells::label_by;
 use cells::read_cell;
 ghost use Prim.Native.Nat.{_≤_};
 ghost use Rattle.cells.specs.Coded.{useOf};
-ghost use Rattle.equality.specs.Same.{Comparable, SameTree, SameField};
+ghost use Rattle.equality.specs.Trees.{Comparable, SameTree, SameField};
 
 // Uses of a field: a number, a type; a lower number than a type's is no reference.
 const PLAIN: u8 = 1;
 
 const TYPE: u8 = 2;
 
-// A cell is the same tree as itself. Two are where they are of one kind, and by its row label and fields are the same. The walk takes at most as
-// many calls as the smaller tree has cells: at most 4,095 for cells that a well-formed book's root reaches, about which alone the public calls
-// ask. Of cells that nothing reaches no time is promised: two equal chains that double at every cell can take exponential time.
+// A cell is the same tree as itself. Two are where they are of one kind, and by its row label and fields are the same. At most as many pairs of cells
+// are visited as the smaller tree has cells: 4,095 for cells that a well-formed book's root reaches, about which alone the public calls ask. Of cells
+// that it does not reach no time is promised: two equal chains that double at every cell can take exponential time (specs/Trees).
 pub fn same_tree(s: &[u8], i: usize, j: usize) -> bool
     requires { ⌜ Comparable (now s) i j ⌝ }
     ensures { λ r. ⌜ SameTree (now (s .entry)) i j r ⌝ }

@@ -20,7 +20,7 @@ use Rattle.cells.specs.declared.Cell.{Cell as Struct}
 use Rattle.cells.specs.declared.Entry.{Entry}
 use Rattle.cells.specs.Held.{mark, MarkIs, HeldField, f-unused, f-refers, Same}
 use Rattle.cells.proofs.Held.{mark-one, same-cell, same-field, row-passes, Written, written}
-use Rattle.cells.proofs.Opened.{more, fields}
+use Rattle.cells.proofs.Unshared.{more, fields}
 use Rattle.loading.specs.Marks.{markBy, MarkReady}
 use Rattle.loading.specs.Loaded.{Loadable, Loaded, LoadsNext}
 use Rattle.loading.proofs.Marking.{Names, marked, mark-ready}

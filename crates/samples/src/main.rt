@@ -14,6 +14,7 @@ use libc::STDOUT_FILENO;
 ghost use Prim.Native.Nat.{_≤_};
 ghost use lib.ListN.{length};
 ghost use Rattle.samples.specs.Chain.{Leaf, Chain};
+ghost use Rattle.samples.specs.Comparison.{ComparesCells};
 
 fn print_refusal(r: Refusal) {
     io::write_all(STDOUT_FILENO, b"refused ");
@@ -111,21 +112,48 @@ fn run_ignored() {
     );
 }
 
-// Whether cells i and j of a book, sharing opened, are the same tree; its bytes are not loaded.
-fn print_same(book: &[u8], i: usize, j: usize) {
+// What comparing two cells of a book comes to: rows 2 to 10 refuse it, it has no such cell, or both are the same tree or not.
+pub enum Compared {
+    Malformed,
+    Missing,
+    Same,
+    Different,
+}
+
+// Cells i and j of a book, unshared, compared in its own bytes, which are not loaded.
+fn compare_cells(book: &[u8], i: usize, j: usize) -> Compared
+    ensures { λ r. ⌜ ComparesCells (now (book .entry)) i j r ⌝ }
+{
     let Form::WellFormed(_) = check_form(book) else {
-        io::write_all(STDOUT_FILENO, b"malformed\n");
-        return;
+        return Compared::Malformed;
     };
     let n = book.len() / 8 - 1;
-    if n <= i || n <= j {
-        io::write_all(STDOUT_FILENO, b"no such cell\n");
-        return;
+    if n <= i {
+        return Compared::Missing;
+    }
+    if n <= j {
+        return Compared::Missing;
     }
     if same_tree(book, i, j) {
-        io::write_all(STDOUT_FILENO, b"same\n");
-    } else {
-        io::write_all(STDOUT_FILENO, b"different\n");
+        return Compared::Same;
+    }
+    Compared::Different
+}
+
+fn print_same(book: &[u8], i: usize, j: usize) {
+    match compare_cells(book, i, j) {
+        Compared::Malformed => {
+            io::write_all(STDOUT_FILENO, b"malformed\n");
+        }
+        Compared::Missing => {
+            io::write_all(STDOUT_FILENO, b"no such cell\n");
+        }
+        Compared::Same => {
+            io::write_all(STDOUT_FILENO, b"same\n");
+        }
+        Compared::Different => {
+            io::write_all(STDOUT_FILENO, b"different\n");
+        }
     }
 }
 
@@ -133,6 +161,15 @@ fn print_same(book: &[u8], i: usize, j: usize) {
 fn compare_functions(i: usize, j: usize) {
     print_same(
         b"\x01\x00\x00\x00\x00\x00\x00\x00\x10\x00\x00\x00\x00\x00\x00\x00\x15\x00\x01\x00\x00\x00\x00\x00\x10\x00\x00\x00\x00\x00\x00\x00\x02\x00\x00\x00\x00\x00\x00\x00\x04\x00\x00\x00\x04\x00\x00\x00\x15\x00\x03\x00\x00\x00\x05\x00\x16\x00\x02\x00\x06\x00\x00\x00\xf0\x01\x08\x00\x07\x00\x00\x00",
+        i,
+        j,
+    );
+}
+
+// Functions with the body x + x, over one cell for the variable and over two, merged.
+fn compare_sums(i: usize, j: usize) {
+    print_same(
+        b"\x01\x00\x00\x00\x00\x00\x00\x00\x10\x00\x00\x00\x00\x00\x00\x00\x1a\x00\x01\x00\x01\x00\x00\x00\x15\x00\x02\x00\x00\x00\x00\x00\x10\x00\x00\x00\x00\x00\x00\x00\x10\x00\x00\x00\x00\x00\x00\x00\x1a\x00\x04\x00\x05\x00\x00\x00\x15\x00\x06\x00\x00\x00\x00\x00\x16\x00\x03\x00\x07\x00\x00\x00\xf0\x01\x09\x00\x08\x00\x00\x00",
         i,
         j,
     );
@@ -184,6 +221,8 @@ fn main() {
     compare_functions(2, 6);
     compare_functions(0, 5);
     compare_functions(7, 8);
+    compare_sums(2, 6);
+    compare_sums(3, 7);
     compare_numbers(1, 3);
     compare_numbers(2, 4);
     // the chains, and parts of them

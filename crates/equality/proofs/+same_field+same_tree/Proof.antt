@@ -10,7 +10,7 @@ use Rattle.cells.proofs.Rows.{fieldMeasure, cell-less}
 use Rattle.cells.proofs.entry_of.Reads as entry-of-reads
 use Rattle.cells.proofs.label_by.Reads as label-by-reads
 use Rattle.cells.proofs.read_cell.Reads as read-cell-reads
-use Rattle.equality.proofs.Same.{opened, within, one-cell, other-kinds, unused-same, plain-same, cells-same, Alike, parts, other-labels, no-first, no-second, by-third}
+use Rattle.equality.proofs.Trees.{unshared, within, one-cell, other-kinds, unused-same, plain-same, cells-same, Alike, parts, other-labels, no-first, no-second, by-third}
 use Rattle.equality.proofs.same_field.Reads as same-field
 use Rattle.equality.proofs.same_field.Kinds as same-field-kinds
 use Rattle.equality.proofs.+same_field+same_tree.Lts-same_field as field-lts
@@ -61,8 +61,8 @@ pub +same-field+same-tree-spec : {M : Type 1} → statement M
     (λ c. cells-same (c .before .before .before .before .args .u) (c .before .if2 .left) (c .same-tree .ensures)))
     λ t. tree-lts.spec (tree-calls t) (tree-at t) same-tree.Post
     (λ c. one-cell (c .if1 .taken))
-    (λ c κs. within (opened (c .before .before .pre .1) .0))
-    (λ c κs. within (opened (c .before .before .before .pre .1) .1))
+    (λ c κs. within (unshared (c .before .before .pre .1) .0))
+    (λ c κs. within (unshared (c .before .before .before .pre .1) .1))
     (λ c. let cells = c .before .before .before in other-kinds (cells .before .read-cell .ensures) (cells .read-cell2 .ensures) (c .if2 .taken))
     (λ c κs. tt)
     (λ c κs. tt)

@@ -1,5 +1,5 @@
--- A cell of a book that passes rows 5 to 8 holds what it opens to in the book, where the cells below it do: in a buffer that has the book's cells, and
--- in the book's own bytes. Over kind and field. Assumes nothing.
+-- A cell of a book that passes rows 5 to 8 holds its tree in the book, where the cells below it do: in a buffer that has the book's cells, and in the
+-- book's own bytes. Over kind and field. Assumes nothing.
 use Prim.Native.Nat.{ℕ, zero, suc, _+_, _*_, _≤_, _<_}
 use native.Mathlib.Decide.{decLt}
 use native.Mathlib.Omega.{arith}
@@ -17,7 +17,7 @@ use Rattle.format.proofs.Unsharing.{fieldTree-lower, treeAt-cell}
 use Rattle.cells.specs.Held.{labelBy, HeldField, f-unused, f-plain, f-refers, Fields}
 use Rattle.cells.proofs.Held.{below}
 
--- the cells below i hold in s what they open to in b
+-- the cells below i hold in s their trees in b
 abbrev pub Lower : Bool → List ℕ → List ℕ → ℕ → Type 0
 Lower q b s i = (j : ℕ) → j < i → (o : Sort) → hasSort b o j ≡ true → HeldField q s (suc j) (refers o) j (treeAt b j)
 
@@ -25,7 +25,7 @@ Lower q b s i = (j : ℕ) → j < i → (o : Sort) → hasSort b o j ≡ true �
 pub more : {P : ℕ → Type 0} {i : ℕ} → ((j : ℕ) → j < i → P j) → P i → (j : ℕ) → j < i + 1 → P j
 more {i = i} f p j h = elim (decLt j i) [ yes l ↦ f j l | no u ↦ let e : j ≡ i = omega (arith, u) in rw e p ]
 
--- a field, by its use: it holds what it opens to in the book
+-- a field, by its use: it holds what it is in the book, unshared
 held : {q : Bool} (b : List ℕ) {s : List ℕ} {i : ℕ} → Lower q b s i → (u : Use) (x : ℕ) → FieldOk b i u x → HeldField q s i u x (fieldTree (treeAt b) i u x)
 unfolding fieldTree
 held b l unused x h = rw h f-unused
@@ -65,5 +65,5 @@ module _ {b : List ℕ} {n : ℕ} (long : 8 * n ≤ length b) (sound : (i : ℕ)
   all-lower zero h = λ j l. absurd (omega arith)
   all-lower (suc i) h = λ j l. let z = all-lower i (omega arith) in more z (λ o e. whole (omega arith) z o) j (omega arith)
 
-  pub opens : {i : ℕ} → i < n → (o : Sort) → HeldField false b (suc i) (refers o) i (treeAt b i)
-  opens {i} h = whole h (all-lower i (omega arith))
+  pub unshares : {i : ℕ} → i < n → (o : Sort) → HeldField false b (suc i) (refers o) i (treeAt b i)
+  unshares {i} h = whole h (all-lower i (omega arith))

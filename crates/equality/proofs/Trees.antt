@@ -1,4 +1,4 @@
--- Whether two cells open to the same tree, by the row of their kind: over kind and field. Assumes nothing.
+-- Whether two cells, unshared, are the same tree, by the row of their kind: over kind and field. Assumes nothing.
 use Prim.Native.Nat.{ℕ, _+_, _*_, _≤_, _<_}
 use native.Mathlib.Omega.{arith}
 use mathlib.Core.Path.{_≡_, refl, sym, ap, _∙_, subst}
@@ -16,23 +16,23 @@ use Rattle.cells.specs.Held.{labelBy, HeldField}
 use Rattle.cells.specs.Coded.{useOf, rowFrom}
 use Rattle.cells.specs.declared.Entry.{Entry}
 use Rattle.cells.proofs.Held.{fields-of, row-at, below, any-sort, field-one}
-use Rattle.cells.proofs.Opened.{opens}
+use Rattle.cells.proofs.Unshared.{unshares}
 use Rattle.cells.proofs.Rows.{refers-at, FieldsOf, by-entry, unused-is, plain-is, fieldMeasure, field-less}
-use Rattle.equality.specs.Same.{Opens, Opened, Comparable, in-book, in-cells, SameTree, SameField, same-unused, same-plain, same-cells}
+use Rattle.equality.specs.Trees.{Unshares, Unshared, Comparable, in-book, in-cells, SameTree, SameField, same-unused, same-plain, same-cells}
 
--- ---- the cells of a book open, and what is said of cells that open is said of the book
+-- ---- every cell of a book is a tree, and what is said of cells that are trees is said of the book
 
-book-opens : {s : List ℕ} {i : ℕ} → WellFormed s → i < count s → Opens s i (treeAt s i)
-book-opens {s} w h = let long = w .formed .long in let n : 8 * count s ≤ length s = omega arith in (term-sort, opens n (w .formed .sound) h term-sort)
+book-unshares : {s : List ℕ} {i : ℕ} → WellFormed s → i < count s → Unshares s i (treeAt s i)
+book-unshares {s} w h = let long = w .formed .long in let n : 8 * count s ≤ length s = omega arith in (term-sort, unshares n (w .formed .sound) h term-sort)
 
-pub opened : {s : List ℕ} {i j : ℕ} → Comparable s i j → Opened s i × Opened s j
-opened (in-book w h k) = ((_, book-opens w h), (_, book-opens w k))
-opened (in-cells f g) = (f, g)
+pub unshared : {s : List ℕ} {i j : ℕ} → Comparable s i j → Unshared s i × Unshared s j
+unshared (in-book w h k) = ((_, book-unshares w h), (_, book-unshares w k))
+unshared (in-cells f g) = (f, g)
 
-pub answers : {s : List ℕ} {i j : ℕ} {r : Bool} → ((f g : Tree) → Opens s i f → Opens s j g → T r ↔ (f ≡ g)) → SameTree s i j r
-answers q = record { book = λ w h k. q _ _ (book-opens w h) (book-opens w k); cells = q }
+pub answers : {s : List ℕ} {i j : ℕ} {r : Bool} → ((f g : Tree) → Unshares s i f → Unshares s j g → T r ↔ (f ≡ g)) → SameTree s i j r
+answers q = record { book = λ w h k. q _ _ (book-unshares w h) (book-unshares w k); cells = q }
 
-pub within : {s : List ℕ} {i : ℕ} → Opened s i → 8 * i + 8 ≤ length s
+pub within : {s : List ℕ} {i : ℕ} → Unshared s i → 8 * i + 8 ≤ length s
 within h = row-at (h .1 .1) .within
 
 -- ---- one cell, and cells of two kinds
@@ -40,7 +40,7 @@ within h = row-at (h .1 .1) .within
 pub one-cell : {s : List ℕ} {i j : ℕ} → i ≡ j → SameTree s i j true
 one-cell e = answers λ f g h k. (λ t. field-one (rw e at (h .1)) (any-sort (k .1)), λ q. tt)
 
-tree-kind : {s : List ℕ} {i : ℕ} {x : Cell} {f : Tree} → x ≡ cellAt s i → Opens s i f → x .kind ≡ kindIn f
+tree-kind : {s : List ℕ} {i : ℕ} {x : Cell} {f : Tree} → x ≡ cellAt s i → Unshares s i f → x .kind ≡ kindIn f
 unfolding kindIn
 tree-kind p h = rw p (sym (ap kindIn (fields-of _ _ (h .1) refl (row-at (h .1) .found) .is)))
 
@@ -76,10 +76,10 @@ pub record Alike (s : List ℕ) (i j : ℕ) (x y : Cell) (e : Entry) : Type 0 wh
   pub row : rowFrom (x .kind) e ≡ rowOf (x .kind)
 
 module _ {s : List ℕ} {i j : ℕ} {x y : Cell} {e : Entry} (w : Alike s i j x y e) where
-  first : {f : Tree} → Opens s i f → FieldsOf false s i x e f
+  first : {f : Tree} → Unshares s i f → FieldsOf false s i x e f
   first h = by-entry (w .first) (w .row) (h .1)
 
-  second : {g : Tree} → Opens s j g → FieldsOf false s j y e g
+  second : {g : Tree} → Unshares s j g → FieldsOf false s j y e g
   second h = by-entry (w .second) (rw (← w .kinds) (w .row)) (h .1)
 
   -- a pair of fields, asked at less than t
@@ -88,8 +88,8 @@ module _ {s : List ℕ} {i j : ℕ} {x y : Cell} {e : Entry} (w : Alike s i j x 
 
   pub parts : {t : ℕ} → Comparable s i j → 2 * i + 1 ≡ t → Asked t (e .a) (x .a) (y .a) × (Asked t (e .b) (x .b) (y .b) × Asked t (e .c) (x .c) (y .c))
   parts {t} p m =
-      let v = first (opened p .0 .1) in
-      let z = second (opened p .1 .1) in
+      let v = first (unshared p .0 .1) in
+      let z = second (unshared p .1 .1) in
       (part (e .a) (v .holds-a) (z .holds-a), (part (e .b) (v .holds-b) (z .holds-b), part (e .c) (v .holds-c) (z .holds-c)))
     where
       part : {n k : ℕ} {f g : Tree} (u : ℕ) → HeldField false s i (useOf u) n f → HeldField false s j (useOf u) k g → Asked t u n k
