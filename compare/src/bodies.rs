@@ -4,6 +4,7 @@
 use crate::cells::{encode, zeroed, Cells, Sharing};
 use crate::contexts::within_many;
 use crate::engines::Call;
+use crate::extremes::{int, number, top};
 use crate::families::{merged, one_book};
 use crate::maker::{Maker, Weights, EVEN};
 use crate::random::Random;
@@ -11,18 +12,6 @@ use crate::refusals::by_turns;
 use crate::samples::{identity, two_chains, Sample};
 use evaluator::{decode, encode_term, infer, kind, row, top_like, Answer, Cell, Field, Term, TermShape, Type, TABLE};
 use std::collections::BTreeMap;
-
-fn int() -> Type {
-    Type::int()
-}
-
-fn top() -> Type {
-    Type::top()
-}
-
-fn number(n: i32) -> Term {
-    Term::number(n)
-}
 
 fn variable() -> Term {
     Term::variable(0)

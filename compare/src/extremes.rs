@@ -6,15 +6,15 @@ use crate::random::Random;
 use crate::samples::{doubled, own_fixpoint};
 use evaluator::{kind, Cell, Term, Type};
 
-fn int() -> Type {
+pub(crate) fn int() -> Type {
     Type::int()
 }
 
-fn top() -> Type {
+pub(crate) fn top() -> Type {
     Type::top()
 }
 
-fn number(n: i32) -> Term {
+pub(crate) fn number(n: i32) -> Term {
     Term::number(n)
 }
 
