@@ -1,4 +1,5 @@
-/* Checks and runs folder books. docs/FORMAT.md gives a book's format and what every answer means. */
+/* Checks and runs folder books: those of version 1, whose numbers have 32 bits, and those of version 2, whose numbers have 48. docs/FORMAT.md
+   gives a book's format and what every answer means. */
 
 #ifndef CEREALBANK_H
 #define CEREALBANK_H
@@ -35,8 +36,8 @@ extern "C" {
 /* Both calls read the book's bytes, and write the work buffer's and nothing else but their stack. The book and the work buffer must not
    overlap. */
 
-/* Checks a book: accepted with its type encoded as a book of its own at the start of the work buffer and zeros past it, or refused
-   with a zeroed work buffer. Refusal 1 touches nothing. */
+/* Checks a book: accepted with its type encoded as a book of its own, of the same version, at the start of the work buffer and zeros past it,
+   or refused with a zeroed work buffer. Refusal 1 touches nothing. */
 uint64_t cerealbank_check(const uint8_t *book, size_t book_len, uint8_t *work, size_t work_len);
 
 /* Runs a book for at most limit steps, and leaves the term reached as a check leaves the type. */

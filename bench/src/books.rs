@@ -1,6 +1,6 @@
 //! The books that are timed.
 
-use compare::cells::{encode, zeroed, Cells, Sharing};
+use compare::cells::{encode, number_cell, zeroed, Cells, Sharing};
 use compare::comparing::Execution;
 use compare::deepest::merges;
 use compare::extremes::{left, times};
@@ -8,7 +8,7 @@ use compare::families::families;
 use compare::loops::{accumulated, countdown, triangular};
 use compare::random::Random;
 use compare::samples::{doubled, own_fixpoint, two_chains};
-use evaluator::{decode, encode_term, kind, Answer, Cell, Term, Type};
+use evaluator::{decode, encode_term, kind, restamped, Answer, Cell, Term, Type, Version};
 
 pub type Named = (String, Vec<u8>);
 
@@ -27,6 +27,11 @@ fn number(n: i32) -> Term {
 /// The term as a book, equal cells shared.
 pub fn shared(term: &Term) -> Vec<u8> {
     encode(term, Sharing::Always, &mut Random::of(0, "", 0)).bytes()
+}
+
+/// The term as a book, nothing shared.
+fn unshared(term: &Term) -> Vec<u8> {
+    encode_term(term, Version::One)
 }
 
 fn named(name: &str, term: Term) -> Named {
@@ -48,7 +53,7 @@ pub fn small_typed(count: usize) -> Vec<Vec<u8>> {
     let mut books = Vec::new();
     for family in families().into_iter().filter(|family| names.contains(&family.name)) {
         let small = |book: &Vec<u8>| {
-            decode(book).is_ok_and(|root| root.size() <= 200)
+            decode(book).is_ok_and(|(root, _)| root.size() <= 200)
                 && Execution::of(book).is_some_and(|execution| matches!(execution.answer, Answer::Value { steps: 1..=50 }))
         };
         books.extend(family.books(1, 10 * count).filter(small).take(count / names.len()));
@@ -77,6 +82,26 @@ pub fn full() -> Vec<Named> {
     ];
     books.extend(merged);
     books
+}
+
+/// Books of 4,095 cells, or as near as their form comes, with as many numbers in cells of their own as there can be, each as version 1 and
+/// restamped; and a loop. The last is of version 2 alone.
+pub fn both_versions() -> Vec<Named> {
+    let [_, _, (_, equal)] = merges(&vec![number(-7); 2_048]);
+    let cells = Cells::new(vec![number_cell(-7); 4_095], 0);
+    let books = [
+        ("4,095 numbers, the first for a root", cells.bytes()),
+        ("2,048 equal numbers, balanced", unshared(&equal)),
+        ("2,047 nested sums, to the left", unshared(&times(2_047, number(1), |e| Term::sum(e, number(1))))),
+        ("1,364 nested choices, in a", unshared(&times(1_364, number(0), |e| Term::choice(e, number(0), number(1))))),
+        ("a loop down from 1,000", shared(&countdown(1_000, 1, 7))),
+    ];
+    let both = books.into_iter().flat_map(|(name, one)| {
+        let two = restamped(&one).expect("version 1");
+        [(format!("{name}, version 1"), one), (format!("{name}, version 2"), two)]
+    });
+    let wide = times(2_047, Term::number(1_i64 << 40), |e| Term::sum(e, Term::number(1_i64 << 37)));
+    both.chain([("2,047 nested sums past 32 bits, version 2".to_string(), encode_term(&wide, Version::Two))]).collect()
 }
 
 /// Books with field reads of merges: a record behind many that are top-like, and many reads of one wide type.
@@ -119,7 +144,7 @@ pub fn costly() -> Vec<Named> {
         named("2,048 equal numbers, to the right", right_nested),
         named("2,048 equal numbers, balanced", balanced),
         named("600 records of one label against 600", Term::merge(alike.clone(), alike)),
-        ("two equal bodies of 1,020 sums, unshared".to_string(), encode_term(&Term::merge(summing(1_020), summing(1_020)))),
+        ("two equal bodies of 1,020 sums, unshared".to_string(), unshared(&Term::merge(summing(1_020), summing(1_020)))),
         ("two equal doubling chains of 39 cells".to_string(), chains_merged()),
     ]
 }
@@ -133,7 +158,7 @@ fn summing(count: usize) -> Term {
 fn one_body(count: usize) -> [(&'static str, Vec<u8>); 3] {
     let function = Cell::new(kind::FUNCTION, 0, [1, 0, 0]);
     merges(&vec![number(0); count]).map(|(way, merge)| {
-        let mut book = Cells::of(&encode_term(&merge)).expect("a book");
+        let mut book = Cells::of(&unshared(&merge)).expect("a book");
         [kind::VARIABLE, kind::INT].map(zeroed).into_iter().for_each(|cell| book.insert(0, cell));
         book.cells.iter_mut().filter(|cell| cell.kind == kind::NUMBER).for_each(|cell| *cell = function);
         (way, book.bytes())
@@ -143,7 +168,7 @@ fn one_body(count: usize) -> [(&'static str, Vec<u8>); 3] {
 /// Merges of functions: with one body, with equal bodies in cells of their own, with types that are disjoint, and large ones that differ in
 /// the cell that is compared last.
 pub fn merged_functions() -> Vec<Named> {
-    let unshared = |name: String, term: &Term| (name, encode_term(term));
+    let unshared = |name: String, term: &Term| (name, unshared(term));
     let sum = |n: i32| Term::sum(Term::variable(0), number(n));
     let alike = Term::function(Term::choice(sum(1), sum(2), sum(3)), int(), int());
     let equal = merges(&vec![alike; 200]);

@@ -12,7 +12,7 @@ use books::Named;
 use compare::engines::Call;
 use compare::extremes::times;
 use compare::samples::sample_books;
-use evaluator::{decode, encode_term, on_large_stack, successors, Answer, Term, CELL};
+use evaluator::{decode, encode_term, on_large_stack, successors, Answer, Term, Version, CELL};
 use std::process::ExitCode;
 use std::sync::atomic::Ordering::Relaxed;
 use timing::{engine, evaluator, from_the_root, race, steps_alone, Side, Timed, QUICK};
@@ -159,7 +159,7 @@ fn growth_of_the_check(title: &str) {
         rows.push(("nested sums", times((n - 1) / 2, Term::number(1), |e| Term::sum(e, Term::number(1)))));
     }
     rows.sort_by_key(|(name, _)| *name);
-    let books: Vec<Vec<u8>> = rows.iter().map(|(_, term)| encode_term(term)).collect();
+    let books: Vec<Vec<u8>> = rows.iter().map(|(_, term)| encode_term(term, Version::One)).collect();
     let seconds = passes(rows.len(), |row| race(&TWO, Call::Check, &books[row..=row]).seconds);
     for ((name, term), seconds) in rows.iter().zip(seconds) {
         let [a, b] = [0, 1].map(|side| seconds[side] * 1e9 / term.size() as f64);
@@ -170,11 +170,11 @@ fn growth_of_the_check(title: &str) {
 /// The cells of a term on the way, on average over so many steps.
 fn average_cells(book: &[u8], steps: u32) -> f64 {
     on_large_stack(|| {
-        let mut term = decode(book).expect("a term");
+        let (mut term, version) = decode(book).expect("a term");
         let mut sum = 0;
         for _ in 0..steps {
             sum += term.size();
-            term = successors(&term).pop().expect("a successor");
+            term = successors(&term, version).pop().expect("a successor");
         }
         sum as f64 / f64::from(steps)
     })
@@ -225,7 +225,7 @@ fn casts(title: &str) {
 /// A table, from its title on.
 type Table = fn(&str);
 
-const TABLES: [(&str, Table); 14] = [
+const TABLES: [(&str, Table); 16] = [
     ("Small typed books together", small_books),
     ("Books of 4,095 cells: check", |title| table(title, &TWO, Call::Check, &books::full())),
     ("Books of 4,095 cells: run, limit 10,000", |title| table(title, &THREE, DESK, &books::full())),
@@ -235,6 +235,8 @@ const TABLES: [(&str, Table); 14] = [
     ("Counting loops: run, limit 10,000", counting_loops),
     ("Costly books: check", |title| table(title, &TWO, Call::Check, &books::costly())),
     ("Merges of functions: check", |title| table(title, &TWO, Call::Check, &books::merged_functions())),
+    ("Version 2 beside version 1: check", |title| table(title, &TWO, Call::Check, &books::both_versions())),
+    ("Version 2 beside version 1: run, limit 10,000", |title| table(title, &TWO, DESK, &books::both_versions())),
     ("The sample books: check, and run with limit 10,000", samples),
     ("Growth: the check", growth_of_the_check),
     ("Growth: a step of a function that calls itself within records", growth_of_a_step),

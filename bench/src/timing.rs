@@ -30,7 +30,7 @@ pub fn from_the_root(call: Call, book: &[u8], work: &mut [u8]) -> Answer {
 }
 
 fn stepped(book: &[u8], limit: u32) -> Result<(Answer, Vec<u8>), Refusal> {
-    let mut term = decode(book)?;
+    let (mut term, version) = decode(book)?;
     infer(&mut Vec::new(), &term)?;
     let mut steps = 0;
     let answer = loop {
@@ -40,13 +40,13 @@ fn stepped(book: &[u8], limit: u32) -> Result<(Answer, Vec<u8>), Refusal> {
         if steps == limit {
             break Answer::Spent { steps };
         }
-        let next = successors(&term).pop().expect("a successor");
+        let next = successors(&term, version).pop().expect("a successor");
         if next.size() > SIZE_LIMIT {
             break Answer::Room { steps };
         }
         (term, steps) = (next, steps + 1);
     };
-    Ok((answer, encode_term(&term)))
+    Ok((answer, encode_term(&term, version)))
 }
 
 /// The answer, the same of each side, and each side's least seconds.

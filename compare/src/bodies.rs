@@ -1,7 +1,7 @@
 //! Functions that are merged, with bodies that are the same tree or differ in one cell. Their types are not disjoint, so that nothing but
 //! body and input type decides whether they are consistent, however their cells are laid down.
 
-use crate::cells::{encode, zeroed, Cells, Sharing};
+use crate::cells::{encode, number_cell, zeroed, Cells, Sharing};
 use crate::contexts::within_many;
 use crate::engines::Call;
 use crate::extremes::{int, number, top};
@@ -10,7 +10,7 @@ use crate::maker::{Maker, Weights, EVEN};
 use crate::random::Random;
 use crate::refusals::by_turns;
 use crate::samples::{identity, two_chains, Sample};
-use evaluator::{decode, encode_term, infer, kind, row, top_like, Answer, Cell, Field, Term, TermShape, Type, TABLE};
+use evaluator::{decode, encode_term, infer, kind, row, top_like, Answer, Cell, Field, Term, TermShape, Type, Version, TABLE};
 use std::collections::BTreeMap;
 
 fn variable() -> Term {
@@ -136,7 +136,7 @@ fn others(tree: &Cells, at: usize, item: Item) -> Vec<Cell> {
 fn with_cell(tree: &Cells, at: usize, other: Cell) -> Term {
     let mut tree = tree.clone();
     tree.cells[at] = other;
-    decode(&tree.bytes()).expect("a term")
+    decode(&tree.bytes()).expect("a term").0
 }
 
 /// The functions that differ from this one in one item of one cell of its body or input type, where that cell is asked for. Of those that differ
@@ -184,7 +184,7 @@ fn laid_down(left: &Term, right: &Term, turn: usize) -> [Cells; 3] {
     let second_cells = second.cells.iter().map(|cell| cell.redirected(raised));
     let merge = Cell::new(kind::MERGE, 0, [raised(second.root), first.root, 0]);
     let cells: Vec<Cell> = first.cells.iter().copied().chain(second_cells).chain([merge]).collect();
-    [shared, opened, Cells { root: cells.len() as u16 - 1, cells }]
+    [shared, opened, Cells::to_last(cells)]
 }
 
 fn accepted(book: Cells) -> Pair {
@@ -395,8 +395,7 @@ fn outputs() -> Vec<Pair> {
 
 /// The same cells, and a root that does not reach them.
 fn unreached(pairs: &[Pair]) -> Vec<Pair> {
-    let rooted =
-        |pair: &Pair| Cells { cells: [&pair.book.cells[..], &[zeroed(kind::TOP_VALUE)]].concat(), root: pair.book.root + 1 };
+    let rooted = |pair: &Pair| Cells::new([&pair.book.cells[..], &[zeroed(kind::TOP_VALUE)]].concat(), pair.book.root + 1);
     pairs.iter().map(rooted).map(accepted).collect()
 }
 
@@ -421,10 +420,10 @@ fn high_bytes() -> [Cells; 2] {
     let [one, other] = [0, 256].map(|skipped| within(Term::variable(skipped)));
     let skipping = encode(&Term::merge(one, other), Sharing::Always, &mut Random::of(0, "", 0));
     let of_body = |body: u16| Cell::new(kind::FUNCTION, 0, [body, 0, 0]);
-    let mut cells = vec![zeroed(kind::INT), Cell::number(5), of_body(1)];
+    let mut cells = vec![zeroed(kind::INT), number_cell(5), of_body(1)];
     cells.resize(257, zeroed(kind::TOP_VALUE));
-    cells.extend([Cell::number(6), of_body(257), Cell::new(kind::MERGE, 0, [2, 258, 0])]);
-    [skipping, Cells { cells, root: 259 }]
+    cells.extend([number_cell(6), of_body(257), Cell::new(kind::MERGE, 0, [2, 258, 0])]);
+    [skipping, Cells::new(cells, 259)]
 }
 
 /// Books of which the documents' words give the answer of a check.
@@ -436,14 +435,14 @@ pub fn stated() -> Vec<Sample> {
         let [first, both] = [Cell::new(kind::FUNCTION, 0, [1, 0, 0]), Cell::new(kind::INTERSECTION, 0, [0, 4, 0])];
         let last = [Cell::new(kind::FUNCTION, 0, [3, 0, 5]), Cell::new(kind::MERGE, 0, [2, 6, 0])];
         let cells = [zeroed(kind::INT), zeroed(kind::VARIABLE), first, second, zeroed(kind::TOP), both];
-        Cells { cells: [&cells[..], &last].concat(), root: 7 }.bytes()
+        Cells::new([&cells[..], &last].concat(), 7).bytes()
     };
     add("equal bodies, outputs Int and Int with Top", outputs(zeroed(kind::VARIABLE)), Answer::Accepted { size: 9 });
-    add("a variable and a number for bodies", outputs(Cell::number(1)), refused(7));
+    add("a variable and a number for bodies", outputs(number_cell(1)), refused(7));
     let mut merge = |name, [one, other]: [Term; 2], size: Option<usize>| {
         let merge = Term::merge(one, other);
         let answer = size.map_or(refused(merge.size() as usize - 1), |size| Answer::Accepted { size });
-        add(name, encode_term(&merge), answer);
+        add(name, encode_term(&merge, Version::One), answer);
     };
     let of_int = |body: Term| Term::function(body, int(), int());
     let twice = || Type::intersection(int(), int());

@@ -1,7 +1,7 @@
 //! Books as lists of cells, to make, change and shrink them.
 
 use crate::random::Random;
-use evaluator::{encode_term, row, Cell, Sort, Term, CELL, TABLE, TRAILER};
+use evaluator::{encode_term, row, Cell, Sort, Term, Version, CELL, TABLE, TRAILER};
 use std::collections::HashMap;
 
 /// A cell of this kind with zeros in it.
@@ -31,13 +31,29 @@ pub fn unknown_kinds() -> Vec<u8> {
     (0..=u8::MAX).filter(|&kind| row(kind).is_none() && (beside(kind) || kind == TRAILER)).collect()
 }
 
+/// The cell of a number of version 1.
+pub fn number_cell(n: i32) -> Cell {
+    Cell::number(n, Version::One)
+}
+
 #[derive(Clone, PartialEq, Eq, Debug)]
 pub struct Cells {
     pub cells: Vec<Cell>,
     pub root: u16,
+    pub version: Version,
 }
 
 impl Cells {
+    /// Of version 1.
+    pub fn new(cells: Vec<Cell>, root: u16) -> Cells {
+        Cells { cells, root, version: Version::One }
+    }
+
+    /// With the last cell for a root.
+    pub fn to_last(cells: Vec<Cell>) -> Cells {
+        Cells { root: cells.len() as u16 - 1, cells, version: Version::One }
+    }
+
     /// Of bytes with a fitting trailer.
     pub fn of(book: &[u8]) -> Option<Cells> {
         if book.len() < 2 * CELL || !book.len().is_multiple_of(CELL) {
@@ -45,12 +61,13 @@ impl Cells {
         }
         let mut cells: Vec<Cell> = book.chunks(CELL).map(Cell::of).collect();
         let trailer = cells.pop()?;
-        let [count, root, _] = trailer.fields;
-        (usize::from(count) == cells.len() && trailer == Cell::trailer(count, root)).then_some(Cells { cells, root })
+        let ([count, root, _], version) = (trailer.fields, Version::of(trailer.label)?);
+        let fits = usize::from(count) == cells.len() && trailer == Cell::trailer(count, root, version);
+        fits.then_some(Cells { cells, root, version })
     }
 
     pub fn bytes(&self) -> Vec<u8> {
-        let trailer = Cell::trailer(self.cells.len() as u16, self.root);
+        let trailer = Cell::trailer(self.cells.len() as u16, self.root, self.version);
         self.cells.iter().chain([&trailer]).flat_map(|cell| cell.bytes()).collect()
     }
 
@@ -98,9 +115,14 @@ impl Sharing {
     }
 }
 
-/// The book of a term, equal cells shared so often.
+/// The version 1 book of a term, equal cells shared so often.
 pub fn encode(term: &Term, sharing: Sharing, random: &mut Random) -> Cells {
-    let unshared = Cells::of(&encode_term(term)).expect("a book");
+    encode_in(Version::One, term, sharing, random)
+}
+
+/// The book of a term in this version.
+pub fn encode_in(version: Version, term: &Term, sharing: Sharing, random: &mut Random) -> Cells {
+    let unshared = Cells::of(&encode_term(term, version)).expect("a book");
     let mut cells: Vec<Cell> = Vec::new();
     let mut known: HashMap<Cell, u16> = HashMap::new();
     // The new number of each cell.
@@ -119,5 +141,5 @@ pub fn encode(term: &Term, sharing: Sharing, random: &mut Random) -> Cells {
         }
         numbers.push(number);
     }
-    Cells { cells, root: numbers[usize::from(unshared.root)] }
+    Cells { cells, root: numbers[usize::from(unshared.root)], version }
 }

@@ -2,7 +2,7 @@
 
 use crate::engines::{Call, Engine, Evaluator, Reply};
 use crate::random::Random;
-use crate::theory;
+use crate::{restamping, theory};
 use evaluator::{decode, Answer, WORK};
 use std::cell::{Cell, RefCell};
 
@@ -19,6 +19,8 @@ pub enum Question {
     Call(Call, usize),
     /// What the calculus promises of the terms that the book reaches.
     Theory,
+    /// That the book is the same as the version 1 book that it is restamped from.
+    Restamping,
 }
 
 /// Why a book failed.
@@ -40,6 +42,8 @@ pub struct Comparison<'a> {
     pub theory: bool,
     /// How many calls have been compared.
     pub calls: Cell<usize>,
+    /// How many restamped books have been compared with their own.
+    pub pairs: Cell<usize>,
     noise: Vec<u8>,
     buffers: RefCell<[Vec<u8>; 2]>,
 }
@@ -48,7 +52,14 @@ impl<'a> Comparison<'a> {
     pub fn new(engine: &'a dyn Engine, theory: bool) -> Comparison<'a> {
         let mut random = Random::of(0, "noise", 0);
         let noise = (0..3 * WORK).map(|_| random.draw() as u8).collect();
-        Comparison { engine, theory, calls: Cell::new(0), noise, buffers: RefCell::new([Vec::new(), Vec::new()]) }
+        Comparison {
+            engine,
+            theory,
+            calls: Cell::new(0),
+            pairs: Cell::new(0),
+            noise,
+            buffers: RefCell::new([Vec::new(), Vec::new()]),
+        }
     }
 
     /// Asks both sides; none if they agree.
@@ -56,7 +67,15 @@ impl<'a> Comparison<'a> {
         match question {
             Question::Call(call, length) => self.answered(book, call, length).err(),
             Question::Theory => theory::holds(self.engine, book).err().map(Difference::Broken),
+            Question::Restamping => self.restamped(book).err().map(Difference::Broken),
         }
+    }
+
+    /// The book beside the one that it is restamped from.
+    fn restamped(&self, book: &[u8]) -> Result<(), String> {
+        let asked = restamping::holds(self.engine, book)?;
+        self.pairs.set(self.pairs.get() + usize::from(asked));
+        Ok(())
     }
 
     /// The answer that both sides give, over buffers filled with the same noise.
@@ -84,8 +103,24 @@ impl<'a> Comparison<'a> {
         self.answered(book, call, length).map_err(|difference| (Question::Call(call, length), difference))
     }
 
+    /// What is promised of a book, if that is tested.
+    fn promised(&self, book: &[u8], question: Question) -> Result<(), (Question, Difference)> {
+        let broken = if self.theory { self.ask(book, question) } else { None };
+        broken.map_or(Ok(()), |difference| Err((question, difference)))
+    }
+
     /// Everything that is asked about a book. The first difference with its question, or what was seen.
     pub fn book(&self, book: &[u8], random: &mut Random) -> Result<Seen, (Question, Difference)> {
+        let seen = self.calls_of(book, random)?;
+        if !matches!(seen.check, Answer::Refused { .. }) {
+            self.promised(book, Question::Theory)?;
+        }
+        self.promised(book, Question::Restamping)?;
+        Ok(seen)
+    }
+
+    /// All calls about a book.
+    fn calls_of(&self, book: &[u8], random: &mut Random) -> Result<Seen, (Question, Difference)> {
         if random.once_in(16) {
             let length = *random.pick(&[0, 1, 8, WORK - 1, WORK + 1, WORK * 2]);
             self.call(book, Call::Check, length)?;
@@ -103,9 +138,6 @@ impl<'a> Comparison<'a> {
         };
         for limit in execution.limits(random) {
             self.call(book, Call::Run { limit }, WORK)?;
-        }
-        if self.theory {
-            theory::holds(self.engine, book).map_err(|words| (Question::Theory, Difference::Broken(words)))?;
         }
         Ok(Seen { check, run: execution.answer })
     }
@@ -134,7 +166,7 @@ impl Execution {
             Answer::Spent { steps } => (steps, false),
             _ => return None,
         };
-        Some(Execution { answer, steps, ends, cells: decode(book).ok()?.size() })
+        Some(Execution { answer, steps, ends, cells: decode(book).ok()?.0.size() })
     }
 
     /// The limits that are asked, each once: the lowest, those about the end and half of it, one of those between, and one far past it. A

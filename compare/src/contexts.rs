@@ -5,7 +5,7 @@ use crate::deepest::merges;
 use crate::extremes::{left, times};
 use crate::maker::{Maker, Weights, EVEN, LABELS};
 use crate::random::Random;
-use evaluator::{kind, subtype, successors, Term, Type, TypeShape, SIZE_LIMIT};
+use evaluator::{kind, subtype, successors, Term, Type, TypeShape, Version, SIZE_LIMIT};
 
 /// A term and its type.
 pub type Typed = (Term, Type);
@@ -314,7 +314,7 @@ fn in_large_number(term: Term, cells: usize, random: &mut Random) -> Term {
 
 /// The sizes of the terms that it reaches in a few steps.
 fn sizes(term: &Term) -> Vec<u64> {
-    let next = |term: &Term| successors(term).pop();
+    let next = |term: &Term| successors(term, Version::One).pop();
     std::iter::successors(Some(term.clone()), next)
         .take(12)
         .map(|term| term.size())

@@ -1,6 +1,6 @@
 //! The deepest and the widest books.
 
-use crate::cells::{encode, zeroed, Cells, Sharing};
+use crate::cells::{encode, number_cell, zeroed, Cells, Sharing};
 use crate::deepest;
 use crate::random::Random;
 use crate::samples::{doubled, own_fixpoint};
@@ -277,12 +277,13 @@ fn little_room() -> Vec<Term> {
 fn sizes_by_sharing() -> Vec<Vec<u8>> {
     let mut books = Vec::new();
     for times in [6, 7, 8, 9, 10, 11, 12, 13, 31, 32, 63, 64, 65, 4_093, 4_094] {
-        books.push(doubled(Cell::number(1), times));
+        books.push(doubled(number_cell(1), times));
         books.push(doubled(zeroed(kind::TOP_VALUE), times));
-        books.extend([1, 1 << 20, -(1 << 20), 0].map(|first| doubled_numbers(Cell::number(first), times)).concat());
+        books.extend([1, 1 << 20, -(1 << 20), 0].map(|first| doubled_numbers(number_cell(first), times)).concat());
         let types = chain(zeroed(kind::TOP), usize::from(times), |n| Cell::new(kind::INTERSECTION, 0, [n, n, 0]));
-        let mut book = Cells { root: types.len() as u16 + 1, cells: types };
-        book.cells.push(Cell::number(1));
+        let root = types.len() as u16 + 1;
+        let mut book = Cells::new(types, root);
+        book.cells.push(number_cell(1));
         book.cells.push(Cell::new(kind::ANNOTATION, 0, [book.root - 1, book.root - 2, 0]));
         books.push(book.bytes());
         // The same cells, not reached.
@@ -293,7 +294,7 @@ fn sizes_by_sharing() -> Vec<Vec<u8>> {
 
 /// Sums of a cell with itself so many times over by sharing; and choices of a cell among itself.
 fn doubled_numbers(first: Cell, times: u16) -> [Vec<u8>; 2] {
-    let book = |next: fn(u16) -> Cell| Cells { cells: chain(first, usize::from(times) + 1, next), root: times }.bytes();
+    let book = |next: fn(u16) -> Cell| Cells::new(chain(first, usize::from(times) + 1, next), times).bytes();
     [book(|n| Cell::new(kind::SUM, 0, [n, n, 0])), book(|n| Cell::new(kind::CHOICE, 0, [n, n, n]))]
 }
 
@@ -302,10 +303,10 @@ fn full_books() -> Vec<Vec<u8>> {
     let mut books = Vec::new();
     for count in [4_094, 4_095, 4_096] {
         for root in [0, count as u16 - 1] {
-            let cells = chain(Cell::number(7), count, |n| Cell::new(kind::RECORD, 1, [n, 0, 0]));
-            books.push(Cells { cells, root }.bytes());
+            let cells = chain(number_cell(7), count, |n| Cell::new(kind::RECORD, 1, [n, 0, 0]));
+            books.push(Cells::new(cells, root).bytes());
             let cells = vec![zeroed(kind::TOP_VALUE); count];
-            books.push(Cells { cells, root }.bytes());
+            books.push(Cells::new(cells, root).bytes());
         }
     }
     books

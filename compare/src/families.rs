@@ -1,7 +1,7 @@
 //! The books that are compared, in families.
 
 use crate::bodies;
-use crate::cells::{alike, encode, is_labelled, unknown_kinds, zeroed, Cells, Sharing};
+use crate::cells::{alike, encode, encode_in, is_labelled, unknown_kinds, zeroed, Cells, Sharing};
 use crate::contexts;
 use crate::deepest::deepest;
 use crate::extremes::extremes;
@@ -12,13 +12,16 @@ use crate::random::Random;
 use crate::reads::reads_of_merges;
 use crate::refusals::refusals;
 use crate::samples::{desk_example, hidden_field, identity, sample_books, samples};
-use evaluator::{kind, Cell, Sort, Term, TermShape, Type, TABLE};
+use crate::versions::{self, another_number};
+use evaluator::{kind, restamped, Cell, Sort, Term, TermShape, Type, Version, TABLE};
 
 /// A family: its name, how many of the random books fall to it, and its books.
 pub struct Family {
     pub name: &'static str,
     /// 0 for a family that is always taken whole.
     pub share: u32,
+    /// So many of a hundred books are asked about restamped as version 2, too.
+    restamped: usize,
     make: Make,
 }
 
@@ -39,24 +42,35 @@ impl Family {
             }
         }
     }
+
+    /// The same, the books that are restamped behind their own: others for another seed.
+    pub fn in_both_versions(&self, seed: u64, count: usize) -> Box<dyn Iterator<Item = Vec<u8>>> {
+        let share = self.restamped;
+        let again = move |(place, book): (u64, Vec<u8>)| {
+            let asked = Random::of(seed, "restamped", place).lower(100) < share;
+            let two = if asked { restamped(&book) } else { None };
+            [Some(book), two].into_iter().flatten()
+        };
+        Box::new((0..).zip(self.books(seed, count)).flat_map(again))
+    }
 }
 
 pub fn families() -> Vec<Family> {
-    whole_families().into_iter().chain(random_families()).collect()
+    whole_families().into_iter().chain(random_families()).chain(version_families()).collect()
 }
 
 fn whole_families() -> Vec<Family> {
-    let whole = |name, make| Family { name, share: 0, make: Make::Whole(make) };
+    let whole = |name, restamped, make| Family { name, share: 0, restamped, make: Make::Whole(make) };
     vec![
-        whole("samples", || samples().into_iter().map(|sample| sample.book).chain(sample_books().into_values()).collect()),
-        whole("extremes", extremes),
-        whole("deepest", || deepest().into_iter().map(|deep| deep.book).collect()),
-        whole("every byte", every_byte),
-        whole("cut short", cut_short),
-        whole("refusals", refusals),
-        whole("ends of the range", numbers::ends),
-        whole("refused parts", || numbers::refused().into_iter().map(|refused| refused.book).collect()),
-        whole("one cell apart", || {
+        whole("samples", 100, || samples().into_iter().map(|sample| sample.book).chain(sample_books().into_values()).collect()),
+        whole("extremes", 10, extremes),
+        whole("deepest", 6, || deepest().into_iter().map(|deep| deep.book).collect()),
+        whole("every byte", 33, every_byte),
+        whole("cut short", 100, cut_short),
+        whole("refusals", 50, refusals),
+        whole("ends of the range", 100, numbers::ends),
+        whole("refused parts", 50, || numbers::refused().into_iter().map(|refused| refused.book).collect()),
+        whole("one cell apart", 50, || {
             let stated = bodies::stated().into_iter().map(|sample| sample.book);
             stated.chain(bodies::one_cell_apart().into_iter().map(|pair| pair.book.bytes())).collect()
         }),
@@ -64,15 +78,15 @@ fn whole_families() -> Vec<Family> {
 }
 
 fn random_families() -> Vec<Family> {
-    let random = |name, share, make| Family { name, share, make: Make::Random(make) };
+    let random = |name, share, make| Family { name, share, restamped: 33, make: Make::Random(make) };
     vec![
         random("nearly equal bodies", 10, bodies::nearly_equal_bodies),
         random("merges", 12, |r| typed(r, Weights { merge: 8, ..EVEN }.of_type(kind::INTERSECTION, 6), 30)),
         random("hidden fields", 6, hidden_fields),
         random("reads of merges", 12, reads_of_merges),
-        random("arithmetic", 10, numbers::arithmetic),
+        random("arithmetic", 10, |r| numbers::arithmetic(Version::One, r)),
         random("counting bodies", 10, numbers::bodies),
-        random("counting loops", 4, counting_loops),
+        random("counting loops", 4, |r| counting_loops(Version::One, r)),
         random("duplicates", 8, |r| typed(r, Weights { duplicate: 6, annotation: 4, ..EVEN }.of_type(kind::INTERSECTION, 5), 25)),
         random("several outputs", 6, several_outputs),
         random("top-like functions", 8, |r| {
@@ -96,48 +110,73 @@ fn random_families() -> Vec<Family> {
     ]
 }
 
+/// Those with books of version 2 of their own.
+fn version_families() -> Vec<Family> {
+    let whole = |name, make| Family { name, share: 0, restamped: 0, make: Make::Whole(make) };
+    let random = |name, share, make| Family { name, share, restamped: 0, make: Make::Random(make) };
+    vec![
+        whole("ends of both ranges", versions::ends),
+        whole("damaged versions", versions::damaged_versions),
+        whole("every byte of wide", versions::every_byte),
+        random("wide arithmetic", 6, versions::wide_arithmetic),
+        random("wide terms", 6, versions::wide_terms),
+        random("wide merges", 5, versions::wide_merges),
+        random("widened", 6, versions::widened_books),
+        random("scrambled", 4, versions::scrambled),
+    ]
+}
+
 /// Terms above this are not encoded.
 const ENCODED: u64 = 8_000;
 
 fn encoded(term: &Term, sharing: Sharing, random: &mut Random) -> Cells {
+    encoded_in(Version::One, term, sharing, random)
+}
+
+fn encoded_in(version: Version, term: &Term, sharing: Sharing, random: &mut Random) -> Cells {
     let term = if term.size() > ENCODED { Term::number(0) } else { term.clone() };
-    encode(&term, sharing, random)
+    encode_in(version, &term, sharing, random)
 }
 
-/// The term as a book, shared somehow.
+/// The term as a version 1 book, shared somehow.
 pub fn one_book(term: &Term, random: &mut Random) -> Vec<Vec<u8>> {
-    let sharing = Sharing::any(random);
-    vec![encoded(term, sharing, random).bytes()]
+    one_book_in(Version::One, term, random)
 }
 
-/// A term typed at random, of at most so many choices; seldom one of very few cells.
-fn typed_term(random: &mut Random, weights: Weights, fuel: usize) -> Term {
+/// The term as a book of this version, shared somehow.
+pub fn one_book_in(version: Version, term: &Term, random: &mut Random) -> Vec<Vec<u8>> {
+    let sharing = Sharing::any(random);
+    vec![encoded_in(version, term, sharing, random).bytes()]
+}
+
+/// A term typed at random for a book of this version, of at most so many choices; seldom one of very few cells.
+pub fn typed_term(version: Version, random: &mut Random, weights: Weights, fuel: usize) -> Term {
     for _ in 0..3 {
         let (fuel, depth) = (random.between(2, fuel), random.lower(4));
-        let mut maker = Maker::new(random, weights, fuel);
+        let mut maker = Maker::new(random, weights, fuel).in_version(version);
         let wanted = maker.a_type(depth);
         let term = maker.term(&wanted);
         if term.size() > 5 {
             return term;
         }
     }
-    Maker::new(random, weights, 2).term(&Type::int())
+    Maker::new(random, weights, 2).in_version(version).term(&Type::int())
 }
 
 fn typed(random: &mut Random, weights: Weights, fuel: usize) -> Vec<Vec<u8>> {
-    let term = typed_term(random, weights, fuel);
+    let term = typed_term(Version::One, random, weights, fuel);
     one_book(&term, random)
 }
 
-/// A typed book of any family that makes them one by one.
-fn typed_any(random: &mut Random) -> Cells {
+/// A typed version 1 book of any family that makes them one by one.
+pub fn typed_any(random: &mut Random) -> Cells {
     let term = match random.lower(6) {
         0 => hidden_fields_term(random, true),
         1 => several_outputs_term(random),
-        2 => typed_term(random, Weights { merge: 5, duplicate: 3, ..EVEN }, 20),
+        2 => typed_term(Version::One, random, Weights { merge: 5, duplicate: 3, ..EVEN }, 20),
         3 => numbers::bodies_term(random),
-        4 => typed_term(random, Weights { sum: 5, choice: 5, ..EVEN }.of_type(kind::INT, 12), 20),
-        _ => typed_term(random, EVEN, 20),
+        4 => typed_term(Version::One, random, Weights { sum: 5, choice: 5, ..EVEN }.of_type(kind::INT, 12), 20),
+        _ => typed_term(Version::One, random, EVEN, 20),
     };
     let sharing = Sharing::any(random);
     encoded(&term, sharing, random)
@@ -311,7 +350,7 @@ pub fn changed(book: &mut Cells, random: &mut Random) {
         }
         1 if is_labelled(cell.kind) => new.label = *random.pick(&LABELS),
         1 if cell.kind == kind::VARIABLE => new.fields[0] = random.lower(4) as u16,
-        1 if cell.kind == kind::NUMBER => new = Cell::number(random.lower(6) as i32 - 1),
+        1 if cell.kind == kind::NUMBER => new = another_number(cell, book.version, random),
         2 => {
             let sorts = cell.references();
             let alike = |&(a, b): &(usize, usize)| sorts[a].is_some() && sorts[a] == sorts[b];
@@ -355,9 +394,9 @@ fn near_misses(random: &mut Random) -> Vec<Vec<u8>> {
 fn shared_and_unshared(random: &mut Random) -> Vec<Vec<u8>> {
     let term = match random.lower(4) {
         0 => several_outputs_term(random),
-        3 => numbers::arithmetic_term(random),
-        1 => typed_term(random, Weights { duplicate: 5, merge: 5, ..EVEN }, 25),
-        _ => typed_term(random, EVEN, 40),
+        3 => numbers::arithmetic_term(Version::One, random),
+        1 => typed_term(Version::One, random, Weights { duplicate: 5, merge: 5, ..EVEN }, 25),
+        _ => typed_term(Version::One, random, EVEN, 40),
     };
     [Sharing::Never, Sharing::Sometimes, Sharing::Always].map(|sharing| encoded(&term, sharing, random).bytes()).to_vec()
 }
@@ -372,7 +411,7 @@ fn loose_cell(book: &Cells, at: usize, random: &mut Random) -> Cell {
         }
         match cell.kind {
             kind::VARIABLE => cell.fields[0] = random.lower(3) as u16,
-            kind::NUMBER => cell = Cell::number(random.lower(4) as i32),
+            kind::NUMBER => cell = Cell::number(random.lower(4) as i32, book.version),
             _ => {}
         }
         let mut possible = true;
@@ -430,7 +469,7 @@ fn bits_flipped(random: &mut Random) -> Vec<Vec<u8>> {
 
 /// Cells that pass the rows 5 to 8 and mean nothing.
 fn loose_cells(random: &mut Random) -> Vec<Vec<u8>> {
-    let mut book = Cells { cells: Vec::new(), root: 0 };
+    let mut book = Cells::new(Vec::new(), 0);
     let count = random.between(1, 30);
     for at in 0..count {
         let cell = loose_cell(&book, at, random);
@@ -485,7 +524,8 @@ fn cut_short() -> Vec<Vec<u8>> {
         for root in 0..=cells.cells.len() as u16 {
             books.push(Cells { root, ..cells.clone() }.bytes());
             // Cut after this cell, with a trailer that fits.
-            books.push(Cells { cells: cells.cells[..usize::from(root)].to_vec(), root: root.saturating_sub(1) }.bytes());
+            let before = cells.cells[..usize::from(root)].to_vec();
+            books.push(Cells { cells: before, root: root.saturating_sub(1), ..cells }.bytes());
         }
     }
     books

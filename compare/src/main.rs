@@ -1,8 +1,8 @@
 //! Compares the engine with the evaluator on many books.
 //!
-//! `compare [--seed N] [--count N] [--family NAME] [--self-test]`
+//! `compare [--seed N] [--count N] [--family NAME] [--version N] [--self-test]`
 //!
-//! Built with the feature `engine`, the engine of the static library is compared; without it, the evaluator with itself. With
+//! With `--version 2`, only the books whose trailer has version 2 are compared; with `--version 1`, only the others. Built with the feature `engine`, the engine of the static library is compared; without it, the evaluator with itself. With
 //! `--self-test`, the evaluator is compared with faulty copies of itself, and each fault must be found. The exit status is 0, and the
 //! last line starts with what passed - families, or faults found - only if nothing failed.
 
@@ -11,8 +11,9 @@ use compare::engines::{Engine, Evaluator};
 use compare::families::{families, Family};
 use compare::random::Random;
 use compare::reporting::{described, Figures};
+use compare::restamping::is_version_2;
 use compare::{samples, shrinking};
-use evaluator::{decode, encode_term, on_large_stack, Fault, WORK};
+use evaluator::{decode, on_large_stack, Fault, WORK};
 use std::fmt::Write;
 use std::process::ExitCode;
 use std::sync::atomic::{AtomicUsize, Ordering::Relaxed};
@@ -21,8 +22,8 @@ use std::thread;
 use std::time::Instant;
 
 /// The random books of a comparison, and of each fault's search, unless asked for otherwise.
-const COUNT: usize = 100_000;
-const SELF_TEST_COUNT: usize = 6_000;
+const COUNT: usize = 115_000;
+const SELF_TEST_COUNT: usize = 6_900;
 /// A fault is not searched in books of so many bytes, but for random ones.
 const LARGE: usize = 8_192;
 /// A fault that so many families have found is searched no further.
@@ -36,11 +37,14 @@ struct Options {
     seed: u64,
     count: Option<usize>,
     family: Option<String>,
+    version: Option<u8>,
     self_test: bool,
 }
 
+const USAGE: &str = "usage: compare [--seed N] [--count N] [--family NAME] [--version N] [--self-test]";
+
 fn options() -> Result<Options, String> {
-    let mut options = Options { seed: 1, count: None, family: None, self_test: false };
+    let mut options = Options { seed: 1, count: None, family: None, version: None, self_test: false };
     let mut words = std::env::args().skip(1);
     while let Some(word) = words.next() {
         let mut value = || words.next().ok_or(format!("{word} needs a value"));
@@ -48,8 +52,9 @@ fn options() -> Result<Options, String> {
             "--seed" => options.seed = value()?.parse().map_err(|_| "--seed needs a number")?,
             "--count" => options.count = Some(value()?.parse().map_err(|_| "--count needs a number")?),
             "--family" => options.family = Some(value()?),
+            "--version" => options.version = Some(value()?.parse().map_err(|_| "--version needs a number")?),
             "--self-test" => options.self_test = true,
-            _ => return Err(format!("{word} is unknown; usage: compare [--seed N] [--count N] [--family NAME] [--self-test]")),
+            _ => return Err(format!("{word} is unknown; {USAGE}")),
         }
     }
     if let Some(name) = &options.family {
@@ -104,7 +109,7 @@ fn compare(options: &Options) -> bool {
     let count = options.count.unwrap_or(COUNT);
     let name = engine().name();
     println!("evaluator against {name}, seed {}, {count} random books", options.seed);
-    let failed = AtomicUsize::new(on_large_stack(stated_samples));
+    let failed = AtomicUsize::new(on_large_stack(|| stated_samples(options.version)));
     let (passed, books) = (AtomicUsize::new(0), AtomicUsize::new(0));
     println!("{}", Figures::HEAD);
     let asked = |family: &Family| options.family.as_ref().is_none_or(|name| name == family.name);
@@ -112,7 +117,7 @@ fn compare(options: &Options) -> bool {
         if failed.load(Relaxed) >= FAILURES {
             return;
         }
-        let figures = one_family(&family, options.seed, count, &failed);
+        let figures = one_family(&family, options, count, &failed);
         passed.fetch_add(1, Relaxed);
         books.fetch_add(figures.books, Relaxed);
     });
@@ -124,19 +129,26 @@ fn compare(options: &Options) -> bool {
     failed == 0
 }
 
+/// The book has this version, for 1 whatever is not version 2; or none is asked for.
+fn of_version(book: &[u8], version: Option<u8>) -> bool {
+    version.is_none_or(|version| (version == 2) == is_version_2(book))
+}
+
 /// Compares a family's books, until too many have failed in all families.
-fn one_family(family: &Family, seed: u64, count: usize, failed: &AtomicUsize) -> Figures {
+fn one_family(family: &Family, options: &Options, count: usize, failed: &AtomicUsize) -> Figures {
+    let seed = options.seed;
     let engine = engine();
     let comparison = Comparison::new(engine.as_ref(), true);
     let start = Instant::now();
     let mut figures = Figures::default();
-    for (place, book) in family.books(seed, share(family.share, count)).enumerate() {
+    let books = family.in_both_versions(seed, share(family.share, count));
+    for (place, book) in books.enumerate().filter(|(_, book)| of_version(book, options.version)) {
         if failed.load(Relaxed) >= FAILURES {
             break;
         }
         let mut random = Random::of(seed, "limits", place as u64);
         match comparison.book(&book, &mut random) {
-            Ok(seen) => figures.enter(seen),
+            Ok(seen) => figures.enter(seen, is_version_2(&book)),
             Err((question, difference)) => {
                 failed.fetch_add(1, Relaxed);
                 let mut text = format!("FAILED: {}, book {place}\n", family.name);
@@ -145,7 +157,7 @@ fn one_family(family: &Family, seed: u64, count: usize, failed: &AtomicUsize) ->
             }
         }
     }
-    figures.calls = comparison.calls.get();
+    (figures.calls, figures.pairs) = (comparison.calls.get(), comparison.pairs.get());
     println!("{}", figures.line(family.name, start.elapsed().as_secs_f64()));
     figures
 }
@@ -158,14 +170,13 @@ fn smaller(comparison: &Comparison, book: Vec<u8>, question: Question) -> String
 }
 
 /// Both sides on the samples and the refused parts, against what the documents state of them. How many failed.
-fn stated_samples() -> usize {
+fn stated_samples(version: Option<u8>) -> usize {
     let mut failed = 0;
-    for sample in samples::stated() {
+    for sample in samples::stated().into_iter().filter(|sample| of_version(&sample.book, version)) {
         for side in [&Evaluator(None) as &dyn Engine, engine().as_ref()] {
             let mut work = vec![0xA5; WORK];
             let reply = side.call(sample.call, &sample.book, &mut work);
-            let value = sample.value.as_ref().map(encode_term);
-            if reply != Ok(sample.answer) || value.is_some_and(|value| work[..value.len()] != value) {
+            if reply != Ok(sample.answer) || sample.left().is_some_and(|left| !work.starts_with(&left)) {
                 failed += 1;
                 println!("FAILED: {}: {} says {reply:?}, the document says {:?}", sample.name, side.name(), sample.answer);
             }
@@ -184,7 +195,7 @@ fn searched(seed: u64, count: usize) -> Vec<Searched> {
         let asked = family.books(seed, count).filter(|book| family.share > 0 || book.len() < LARGE);
         (family.name, asked.take(count.max(500)).collect())
     };
-    let cells = |(_, books): &Searched| books.iter().map(|book| decode(book).map_or(0, |root| root.size())).sum::<u64>();
+    let cells = |(_, books): &Searched| books.iter().map(|book| decode(book).map_or(0, |(root, _)| root.size())).sum::<u64>();
     let mut all: Vec<Searched> = families().into_iter().map(of).collect();
     all.sort_by_cached_key(cells);
     all

@@ -1,7 +1,8 @@
 //! Types and typed terms made at random.
 
 use crate::random::Random;
-use evaluator::{casts, disjoint, infer, kind, subtype, top_like, Field, Node, Part, Sort, Term, Type, TypeShape, TABLE};
+use crate::versions::wide_number;
+use evaluator::{casts, disjoint, infer, kind, subtype, top_like, Field, Node, Part, Sort, Term, Type, TypeShape, Version, TABLE};
 
 /// How often each choice is taken.
 #[derive(Clone, Copy)]
@@ -74,11 +75,18 @@ pub struct Maker<'a> {
     binders: Vec<Type>,
     /// How many more choices may be taken; then the shortest form is.
     pub fuel: usize,
+    /// Of the book that its numbers are for.
+    version: Version,
 }
 
 impl<'a> Maker<'a> {
     pub fn new(random: &'a mut Random, weights: Weights, fuel: usize) -> Maker<'a> {
-        Maker { random, weights, binders: Vec::new(), fuel }
+        Maker { random, weights, binders: Vec::new(), fuel, version: Version::One }
+    }
+
+    /// For a book of this version.
+    pub fn in_version(self, version: Version) -> Maker<'a> {
+        Maker { version, ..self }
     }
 
     pub fn label(&mut self) -> u8 {
@@ -86,6 +94,9 @@ impl<'a> Maker<'a> {
     }
 
     pub fn number(&mut self) -> Term {
+        if self.version == Version::Two && self.random.once_in(3) {
+            return Term::number(wide_number(self.random));
+        }
         let far = [i32::MIN, i32::MAX, 65_535, 65_536, -65_536];
         Term::number(if self.random.once_in(20) { *self.random.pick(&far) } else { self.random.lower(6) as i32 - 1 })
     }

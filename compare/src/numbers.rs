@@ -1,12 +1,13 @@
 //! Sums and choices, which document 02 (ii) adds: at the ends of the range, within one another, in bodies, and with parts that are refused.
 
-use crate::cells::{encode, Cells, Sharing};
+use crate::cells::{encode, encode_in, Cells, Sharing};
 use crate::contexts::within_many;
-use crate::families::{changed, one_book};
+use crate::families::{changed, one_book_in};
 use crate::random::Random;
 use crate::refusals::{by_turns, reversed};
 use crate::samples::identity;
-use evaluator::{Answer, Term, TermShape, Type, SIZE_LIMIT};
+use crate::versions::wide_number;
+use evaluator::{Answer, Term, TermShape, Type, Version, SIZE_LIMIT};
 use std::cell::Cell;
 
 fn int() -> Type {
@@ -100,6 +101,8 @@ pub fn ends() -> Vec<Vec<u8>> {
 /// Terms of type Int, or below it, with as many sums and choices as there are of all else.
 pub struct Arithmetic<'a> {
     random: &'a mut Random,
+    /// Of the book that its numbers are for.
+    version: Version,
     /// How many more choices may be taken; then a number or a variable ends the term.
     fuel: usize,
     /// How many variables there are, each of type Int.
@@ -110,14 +113,19 @@ pub struct Arithmetic<'a> {
 
 impl<'a> Arithmetic<'a> {
     pub fn new(random: &'a mut Random, fuel: usize, variables: u16) -> Arithmetic<'a> {
-        Arithmetic { random, fuel, variables, label: 100 }
+        Arithmetic { random, version: Version::One, fuel, variables, label: 100 }
     }
 
-    fn number(&mut self) -> i32 {
-        if self.random.once_in(2) {
-            *self.random.pick(&NUMBERS)
-        } else {
-            self.random.lower(7) as i32 - 3
+    /// For a book of this version.
+    pub fn in_version(self, version: Version) -> Arithmetic<'a> {
+        Arithmetic { version, ..self }
+    }
+
+    fn number(&mut self) -> i64 {
+        match self.random.once_in(2) {
+            true if self.version == Version::Two => wide_number(self.random),
+            true => i64::from(*self.random.pick(&NUMBERS)),
+            false => self.random.lower(7) as i64 - 3,
         }
     }
 
@@ -125,18 +133,18 @@ impl<'a> Arithmetic<'a> {
         if self.variables > 0 && self.random.once_in(2) {
             return Term::variable(self.random.lower(usize::from(self.variables)) as u16);
         }
-        let n = self.number();
+        let number = Term::number(self.number());
         match self.random.lower(10) {
-            0 => Term::merge(number(n), number(n)),
-            1 => self.beside(number(n)),
-            _ => number(n),
+            0 => Term::merge(number.clone(), number),
+            1 => self.beside(number),
+            _ => number,
         }
     }
 
     /// A field beside the term, on either side.
     fn beside(&mut self, term: Term) -> Term {
         self.label = self.label.wrapping_add(1);
-        let content = if self.random.once_in(2) { number(self.number()) } else { self.term() };
+        let content = if self.random.once_in(2) { Term::number(self.number()) } else { self.term() };
         let field = Term::record(self.label, content);
         if self.random.once_in(2) {
             Term::merge(term, field)
@@ -148,9 +156,11 @@ impl<'a> Arithmetic<'a> {
     /// What a choice tests: often zero, at once or as a sum.
     fn test(&mut self) -> Term {
         let n = self.number();
+        // That of the least number is itself.
+        let negative = self.version.number(self.version.fields(-n));
         match self.random.lower(6) {
             0 => number(0),
-            1 => Term::sum(number(n), number(n.wrapping_neg())),
+            1 => Term::sum(Term::number(n), Term::number(negative)),
             _ => self.term(),
         }
     }
@@ -179,29 +189,29 @@ impl<'a> Arithmetic<'a> {
     }
 }
 
-pub fn arithmetic_term(random: &mut Random) -> Term {
+pub fn arithmetic_term(version: Version, random: &mut Random) -> Term {
     let most = if random.once_in(20) { 200 } else { 25 };
     let fuel = random.between(1, most);
-    Arithmetic::new(random, fuel, 0).term()
+    Arithmetic::new(random, fuel, 0).in_version(version).term()
 }
 
 /// Sums and choices in one another, at times within others, and books one change away from them.
-pub fn arithmetic(random: &mut Random) -> Vec<Vec<u8>> {
-    let mut term = arithmetic_term(random);
+pub fn arithmetic(version: Version, random: &mut Random) -> Vec<Vec<u8>> {
+    let mut term = arithmetic_term(version, random);
     if random.once_in(3) && term.size() < 200 {
         let count = random.between(1, 4);
         term = within_many((as_int(term), int()), count, random).0;
     }
-    or_changed(&term, random)
+    or_changed(version, &term, random)
 }
 
 /// The book of the term, or one change away from it.
-fn or_changed(term: &Term, random: &mut Random) -> Vec<Vec<u8>> {
+fn or_changed(version: Version, term: &Term, random: &mut Random) -> Vec<Vec<u8>> {
     if !random.once_in(8) || term.size() > SIZE_LIMIT {
-        return one_book(term, random);
+        return one_book_in(version, term, random);
     }
     let sharing = Sharing::any(random);
-    let mut miss: Cells = encode(term, sharing, random);
+    let mut miss: Cells = encode_in(version, term, sharing, random);
     changed(&mut miss, random);
     vec![miss.bytes()]
 }
@@ -230,7 +240,7 @@ fn replaced_at_random(term: &Term, random: &mut Random, to: &dyn Fn(&Term, u32) 
 /// One thing different: a number, the order of a sum, a choice or a merge, an annotation more.
 fn different(term: &Term) -> Term {
     match term.shape() {
-        TermShape::Number(n) => number(n.wrapping_add(1)),
+        TermShape::Number(n) => number((*n as i32).wrapping_add(1)),
         TermShape::Variable(_) => number(0),
         TermShape::Sum(a, b) => Term::sum(b.clone(), a.clone()),
         TermShape::Choice(a, b, c) => Term::choice(a.clone(), c.clone(), b.clone()),
@@ -304,7 +314,7 @@ pub fn bodies_term(random: &mut Random) -> Term {
 /// Sums and choices in bodies of functions that are applied and compared, and books one change away from them.
 pub fn bodies(random: &mut Random) -> Vec<Vec<u8>> {
     let term = bodies_term(random);
-    or_changed(&term, random)
+    or_changed(Version::One, &term, random)
 }
 
 /// A book with the refusal that it gets.

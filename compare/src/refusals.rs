@@ -1,6 +1,6 @@
 //! Books that meet one row of document 01's table of refusals, and books that meet two: the first finding decides the number and the cell.
 
-use crate::cells::{encode, unknown_kinds, zeroed, Cells, Sharing};
+use crate::cells::{encode, number_cell, unknown_kinds, zeroed, Cells, Sharing};
 use crate::random::Random;
 use crate::samples::{identity, refused_books};
 use evaluator::{kind, Cell, Field, Row, Sort, Term, Type, CELL, TABLE};
@@ -51,12 +51,12 @@ fn one_cell() -> Vec<Vec<u8>> {
     for kind in unknown_kinds().into_iter().chain([u8::MAX]) {
         cells.extend([0, 1, u16::MAX].map(|field| Cell::new(kind, field as u8, [field; 3])));
     }
-    let book = |cell| Cells { cells: [&FIRST[..], &[cell, TOP_VALUE]].concat(), root: at };
+    let book = |cell| Cells::new([&FIRST[..], &[cell, TOP_VALUE]].concat(), at);
     cells.into_iter().map(|cell| book(cell).bytes()).collect()
 }
 
 /// A cell of every kind with one thing wrong at most: the label or a field. The root is that cell, or does not reach it.
-fn damaged() -> Vec<Vec<u8>> {
+pub fn damaged() -> Vec<Vec<u8>> {
     let at = FIRST.len() as u16;
     let mut cells = Vec::new();
     for Row { kind, fields, .. } in TABLE {
@@ -74,7 +74,7 @@ fn damaged() -> Vec<Vec<u8>> {
             }
         }
     }
-    let book = |cell, root| Cells { cells: [&FIRST[..], &[cell, TOP_VALUE]].concat(), root }.bytes();
+    let book = |cell, root| Cells::new([&FIRST[..], &[cell, TOP_VALUE]].concat(), root).bytes();
     cells.into_iter().flat_map(|cell| [at, A_TERM].map(|root| book(cell, root))).collect()
 }
 
@@ -109,7 +109,7 @@ fn roots(at: u16) -> Vec<Vec<Cell>> {
         (TOP_VALUE, Cell::new(kind::VARIABLE, 0, [1, 0, 0])),
         (TOP_VALUE, Cell::new(kind::APPLICATION, 0, [A_TERM, at, 0])),
         (ONE, Cell::new(kind::PROJECTION, 1, [at, 0, 0])),
-        (Cell::number(2), Cell::new(kind::MERGE, 0, [A_TERM, at, 0])),
+        (number_cell(2), Cell::new(kind::MERGE, 0, [A_TERM, at, 0])),
         (TOP_VALUE, Cell::new(kind::FIXPOINT, 0, [at, A_TYPE, 0])),
     ];
     for (part, whole) in ill_typed {
@@ -125,7 +125,7 @@ fn roots(at: u16) -> Vec<Vec<Cell>> {
 /// The first cells, those in between, and those of a root; the last is the root.
 fn rooted(between: &[Cell], root: &[Cell]) -> Cells {
     let cells = [&FIRST, between, root].concat();
-    Cells { root: cells.len() as u16 - 1, cells }
+    Cells::to_last(cells)
 }
 
 /// Each root alone, and each ill-formed cell with a root that passes, behind so many more cells.
@@ -298,7 +298,7 @@ pub fn reversed(book: &Cells) -> Cells {
     }
     let mut cells = Vec::new();
     let root = part(book, book.root, &mut cells);
-    Cells { cells, root }
+    Cells { cells, root, version: book.version }
 }
 
 /// Any two terms in each pair of places, and each in every place: in order, reversed, and shared.

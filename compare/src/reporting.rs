@@ -9,6 +9,10 @@ use std::fmt::Write;
 #[derive(Default)]
 pub struct Figures {
     pub books: usize,
+    /// Of these, those of version 2.
+    second: usize,
+    /// Of these, those that are compared with the version 1 book that they are restamped from.
+    pub pairs: usize,
     pub calls: usize,
     values: usize,
     spent: usize,
@@ -17,10 +21,12 @@ pub struct Figures {
 }
 
 impl Figures {
-    pub const HEAD: &'static str = "family                 books    calls   value  spent   room seconds   refused, number:books";
+    pub const HEAD: &'static str =
+        "family                 books of version 2  pairs    calls   value  spent   room seconds   refused, number:books";
 
-    pub fn enter(&mut self, seen: Seen) {
+    pub fn enter(&mut self, seen: Seen, is_version_2: bool) {
         self.books += 1;
+        self.second += usize::from(is_version_2);
         match (seen.check, seen.run) {
             (Answer::Refused { number, .. }, _) => self.refused[usize::from(number)] += 1,
             (_, Answer::Value { .. }) => self.values += 1,
@@ -31,8 +37,9 @@ impl Figures {
     }
 
     pub fn line(&self, name: &str, seconds: f64) -> String {
-        let Figures { books, calls, values, spent, room, refused } = self;
-        let mut line = format!("{name:<20}{books:>8}{calls:>9}{values:>8}{spent:>7}{room:>7}{seconds:>8.1}  ");
+        let Figures { books, second, pairs, calls, values, spent, room, refused } = self;
+        let mut line =
+            format!("{name:<20}{books:>8}{second:>13}{pairs:>7}{calls:>9}{values:>8}{spent:>7}{room:>7}{seconds:>8.1}  ");
         for (number, count) in refused.iter().enumerate().filter(|(_, &count)| count > 0) {
             let _ = write!(line, " {number}:{count}");
         }
@@ -49,14 +56,15 @@ pub fn described(book: &[u8], question: Question, difference: &Difference, engin
     let mut text = String::new();
     let cells: Vec<String> = book.chunks(CELL).map(hex).collect();
     let _ = writeln!(text, "  book ({} bytes): {}", book.len(), cells.join(" "));
-    if let Ok(root) = evaluator::decode(book) {
-        let _ = writeln!(text, "  root: {root}");
+    if let Ok((root, version)) = evaluator::decode(book) {
+        let _ = writeln!(text, "  root, version {}: {root}", version.byte());
     }
     let asked = match question {
         Question::Call(Call::Check, WORK) => "check".to_string(),
         Question::Call(Call::Run { limit }, WORK) => format!("run, limit {limit}"),
         Question::Call(call, length) => format!("{call:?} with a work buffer of {length} bytes"),
         Question::Theory => "what the calculus promises".to_string(),
+        Question::Restamping => "the same as of the version 1 book that it is restamped from".to_string(),
     };
     let _ = writeln!(text, "  asked: {asked}");
     match difference {

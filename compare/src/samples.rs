@@ -1,13 +1,14 @@
 //! The sample books of document 01 with the answers that it states, and small books for what document 02 adds: field reads of merges (i), sums
-//! and choices (ii).
+//! and choices (ii), numbers of 48 bits (iv).
 
 use crate::bodies;
-use crate::cells::{encode, zeroed, Cells, Sharing};
+use crate::cells::{encode, number_cell, zeroed, Cells, Sharing};
 use crate::engines::Call;
 use crate::loops::{accumulated, countdown, triangular};
 use crate::numbers::{refused, Refused};
 use crate::random::Random;
-use evaluator::{kind, Answer, Cell, Term, Type};
+use crate::versions;
+use evaluator::{encode_term, kind, Answer, Cell, Term, Type};
 use std::collections::BTreeMap;
 use std::fs;
 use std::path::Path;
@@ -20,6 +21,14 @@ pub struct Sample {
     pub answer: Answer,
     /// The value it comes to, where the document names one.
     pub value: Option<Term>,
+}
+
+impl Sample {
+    /// The value's book, in the version of the sample's own.
+    pub fn left(&self) -> Option<Vec<u8>> {
+        let version = Cells::of(&self.book)?.version;
+        self.value.as_ref().map(|value| encode_term(value, version))
+    }
 }
 
 fn number(n: i32) -> Term {
@@ -52,27 +61,27 @@ pub fn own_fixpoint() -> Term {
 /// Something merged with itself so many times over by sharing.
 pub fn doubled(leaf: Cell, times: u16) -> Vec<u8> {
     let merges = (0..times).map(|n| Cell::new(kind::MERGE, 0, [n, n, 0]));
-    Cells { cells: [leaf].into_iter().chain(merges).collect(), root: times }.bytes()
+    Cells::new([leaf].into_iter().chain(merges).collect(), times).bytes()
 }
 
 /// The top value merged with itself so many times over, twice, in cells of their own; the second for a root.
 pub fn two_chains(times: u16) -> Cells {
-    let Cells { cells: one, root } = Cells::of(&doubled(zeroed(kind::TOP_VALUE), times)).expect("a book");
+    let Cells { cells: one, root, .. } = Cells::of(&doubled(zeroed(kind::TOP_VALUE), times)).expect("a book");
     let other = one.iter().map(|cell| cell.redirected(|to| to + root + 1));
-    Cells { cells: one.iter().copied().chain(other).collect(), root: 2 * root + 1 }
+    Cells::new(one.iter().copied().chain(other).collect(), 2 * root + 1)
 }
 
 /// The book of the desk program's example.
 pub fn desk_example() -> Vec<u8> {
     let cells = vec![
         zeroed(kind::INT),
-        Cell::number(1),
-        Cell::number(5),
+        number_cell(1),
+        number_cell(5),
         Cell::new(kind::RECORD, 7, [2, 0, 0]),
         Cell::new(kind::MERGE, 0, [1, 3, 0]),
         Cell::new(kind::ANNOTATION, 0, [4, 0, 0]),
     ];
-    Cells { cells, root: 5 }.bytes()
+    Cells::new(cells, 5).bytes()
 }
 
 /// The books of the repository's folder books/, by name.
@@ -200,11 +209,12 @@ fn reads_by_value() -> Vec<Sample> {
     list
 }
 
-/// The samples, the sums and choices with a part that is refused, and functions that are compared: all books of which the answer is stated.
+/// The samples, the sums and choices with a part that is refused, functions that are compared, and both versions: all books of which the answer
+/// is stated.
 pub fn stated() -> Vec<Sample> {
     let name = "a refused part of a sum or choice";
     let sample = |Refused { book, answer }| Sample { name, book, call: Call::Check, answer, value: None };
-    samples().into_iter().chain(refused().into_iter().map(sample)).chain(bodies::stated()).collect()
+    samples().into_iter().chain(refused().into_iter().map(sample)).chain(bodies::stated()).chain(versions::stated()).collect()
 }
 
 /// Sums and choices that run.

@@ -3,7 +3,7 @@
 use crate::cells::{is_labelled, sort_of, zeroed, Cells};
 use crate::comparing::{Comparison, Question};
 use crate::engines::Call;
-use evaluator::{kind, Cell, Sort, TABLE};
+use evaluator::{kind, Cell, Sort, Version, TABLE};
 
 /// How many smaller books are tried at most.
 const TRIES: usize = 20_000;
@@ -48,7 +48,7 @@ fn smaller(book: &[u8]) -> Vec<Vec<u8>> {
     // A lower root, and nothing past it.
     let root = usize::from(cells.root).min(count - 1);
     for lower in (0..root).filter(|&n| sort_of(cells.cells[n].kind) == Sort::Term) {
-        books.push(Cells { cells: cells.cells[..=lower].to_vec(), root: lower as u16 });
+        books.push(Cells { cells: cells.cells[..=lower].to_vec(), root: lower as u16, ..cells });
     }
     for at in (0..count).rev() {
         // Without a cell: each of its parts, or any lower one of its sort, takes its place.
@@ -65,7 +65,7 @@ fn smaller(book: &[u8]) -> Vec<Vec<u8>> {
                 books.push(less);
             }
         }
-        for simpler in simpler_cells(cell) {
+        for simpler in simpler_cells(cell, cells.version) {
             let mut less = cells.clone();
             less.cells[at] = simpler;
             books.push(less);
@@ -74,19 +74,19 @@ fn smaller(book: &[u8]) -> Vec<Vec<u8>> {
     books.into_iter().map(|less| less.bytes()).filter(|less| weight(less) < weight(book)).collect()
 }
 
-/// Cells to take its place: those of its sort that refer to nothing, and simpler ones of its own kind.
-fn simpler_cells(cell: Cell) -> Vec<Cell> {
+/// Cells to take its place in a book of this version: those of its sort that refer to nothing, and simpler ones of its own kind.
+fn simpler_cells(cell: Cell, version: Version) -> Vec<Cell> {
     let sort = sort_of(cell.kind);
     let leaves = TABLE.iter().filter(|row| row.sort == sort && row.is_leaf());
     let mut simpler: Vec<Cell> = leaves.map(|row| zeroed(row.kind)).collect();
     if sort == Sort::Term {
-        simpler.push(Cell::number(1));
+        simpler.push(Cell::number(1, version));
     }
     if is_labelled(cell.kind) {
         simpler.extend([0, 1].map(|label| Cell { label, ..cell }));
     }
     if cell.kind == kind::NUMBER {
-        simpler.extend([0, 1, 2].map(Cell::number));
+        simpler.extend([0, 1, 2].map(|n| Cell::number(n, version)));
     }
     simpler
 }

@@ -5,21 +5,22 @@
 use crate::engines::{Call, Engine};
 use crate::random::Random;
 use evaluator::{
-    decode, encode_term, encode_type, infer, subtype, successors, Answer, Term, Type, CELL, SIZE_LIMIT, TRAILER, WORK,
+    decode, encode_term, encode_type, infer, subtype, successors, Answer, Term, Type, Version, CELL, SIZE_LIMIT, TRAILER, WORK,
 };
 
 /// Terms above this size are not followed, nor more steps than this.
 const SMALL: u64 = 200;
 const STEPS: u32 = 25;
 
-fn call(side: &dyn Engine, call: Call, book: &[u8]) -> Result<(Answer, Vec<u8>), String> {
+/// What a side answers, and its work buffer after it.
+pub fn call(side: &dyn Engine, call: Call, book: &[u8]) -> Result<(Answer, Vec<u8>), String> {
     let mut work = vec![0; WORK];
     let answer = side.call(call, book, &mut work)?;
     Ok((answer, work))
 }
 
 /// The book at the start of the work buffer.
-fn encoded(work: &[u8]) -> &[u8] {
+pub fn encoded(work: &[u8]) -> &[u8] {
     let cells = work.chunks(CELL).take_while(|cell| cell[0] != TRAILER).count();
     &work[..work.len().min((cells + 1) * CELL)]
 }
@@ -36,7 +37,7 @@ fn expect(side: &dyn Engine, asked: Call, book: &[u8], answer: Answer, left: &[u
 
 /// Nothing to say of a book that is refused or not small.
 pub fn holds(side: &dyn Engine, book: &[u8]) -> Result<(), String> {
-    let Ok(root) = decode(book) else { return Ok(()) };
+    let Ok((root, version)) = decode(book) else { return Ok(()) };
     if root.size() > SMALL {
         return Ok(());
     }
@@ -46,20 +47,20 @@ pub fn holds(side: &dyn Engine, book: &[u8]) -> Result<(), String> {
     }
     let (mut term, mut steps) = (root, 0);
     while term.size() <= SMALL && steps < STEPS {
-        let next = follow(side, &term, &first).map_err(|words| format!("after {steps} steps, of {term}: {words}"))?;
+        let next = follow(side, &term, version, &first).map_err(|words| format!("after {steps} steps, of {term}: {words}"))?;
         let Some(next) = next else { break };
         (term, steps) = (next, steps + 1);
     }
     let reached = if term.is_value() { Answer::Value { steps } } else { Answer::Spent { steps } };
-    expect(side, Call::Run { limit: steps }, book, reached, &encode_term(&term))?;
+    expect(side, Call::Run { limit: steps }, book, reached, &encode_term(&term, version))?;
     let mut random = Random::of(u64::from(steps), "limits", book.len() as u64);
     let one = random.lower(steps as usize + 3) as u32;
     two_limits(side, book, one, one + random.lower(steps as usize + 3) as u32)
 }
 
 /// What holds of one term reached; its successor, if there is one with room.
-fn follow(side: &dyn Engine, term: &Term, first: &Type) -> Result<Option<Term>, String> {
-    let mut next = successors(term);
+fn follow(side: &dyn Engine, term: &Term, version: Version, first: &Type) -> Result<Option<Term>, String> {
+    let mut next = successors(term, version);
     if next.len() != if term.is_value() { 0 } else { 1 } {
         return Err(format!("{} successors", next.len()));
     }
@@ -67,8 +68,9 @@ fn follow(side: &dyn Engine, term: &Term, first: &Type) -> Result<Option<Term>, 
     if !subtype(&inferred, first) {
         return Err(format!("the type {inferred} is not below {first}"));
     }
-    let alone = encode_term(term);
-    expect(side, Call::Check, &alone, Answer::Accepted { size: inferred.size() as usize }, &encode_type(&inferred))?;
+    let alone = encode_term(term, version);
+    let size = inferred.size() as usize;
+    expect(side, Call::Check, &alone, Answer::Accepted { size }, &encode_type(&inferred, version))?;
     let one_step = Call::Run { limit: 1 };
     let Some(next) = next.pop() else {
         return expect(side, one_step, &alone, Answer::Value { steps: 0 }, &alone).map(|()| None);
@@ -77,7 +79,7 @@ fn follow(side: &dyn Engine, term: &Term, first: &Type) -> Result<Option<Term>, 
         return expect(side, one_step, &alone, Answer::Room { steps: 0 }, &alone).map(|()| None);
     }
     let after = if next.is_value() { Answer::Value { steps: 1 } } else { Answer::Spent { steps: 1 } };
-    expect(side, one_step, &alone, after, &encode_term(&next)).map(|()| Some(next))
+    expect(side, one_step, &alone, after, &encode_term(&next, version)).map(|()| Some(next))
 }
 
 /// The run with the lower limit either ended, and the other says the same; or it was spent, and its term, run for the steps

@@ -4,7 +4,7 @@ use compare::contexts::redex;
 use compare::families::families;
 use compare::numbers::{arithmetic_term, refused, Refused};
 use compare::random::Random;
-use evaluator::{check, decode, encode_term, on_large_stack, run, successors, Answer, Term, TermShape, Type, WORK};
+use evaluator::{check, decode, encode_term, on_large_stack, run, successors, Answer, Term, TermShape, Type, Version, WORK};
 use std::collections::BTreeSet;
 use std::iter;
 
@@ -27,26 +27,30 @@ fn the_refused_parts_are_refused_as_stated() {
     });
 }
 
-/// The number that a term stands for, with these arguments of the functions around it, outermost first; none for a field.
-fn number(term: &Term, arguments: &mut Vec<i64>) -> Option<i64> {
+/// The number that a term stands for in this version, with these arguments of the functions around it, outermost first; none for a field.
+fn number(term: &Term, version: Version, arguments: &mut Vec<i64>) -> Option<i64> {
+    let mut part = |part: &Term| number(part, version, arguments);
     match term.shape() {
-        TermShape::Number(n) => Some(i64::from(*n)),
+        TermShape::Number(n) => Some(*n),
         TermShape::Variable(skipped) => arguments.iter().rev().nth(usize::from(*skipped)).copied(),
-        TermShape::Annotation(e, _) => number(e, arguments),
-        TermShape::Merge(a, b) => number(a, arguments).or_else(|| number(b, arguments)),
+        TermShape::Annotation(e, _) => part(e),
+        TermShape::Merge(a, b) => part(a).or_else(|| part(b)),
         TermShape::Sum(a, b) => {
-            let sum = number(a, arguments)? + number(b, arguments)?;
-            Some(sum.clamp(-2_147_483_648, 2_147_483_647))
+            let sum = part(a)? + part(b)?;
+            Some(match version {
+                Version::One => sum.clamp(-2_147_483_648, 2_147_483_647),
+                Version::Two => sum.clamp(-140_737_488_355_328, 140_737_488_355_327),
+            })
         }
-        TermShape::Choice(a, b, c) => match number(a, arguments)? {
-            0 => number(b, arguments),
-            _ => number(c, arguments),
+        TermShape::Choice(a, b, c) => match part(a)? {
+            0 => part(b),
+            _ => part(c),
         },
         TermShape::Application(function, argument) => {
             let TermShape::Function(body, ..) = function.shape() else { return None };
-            let argument = number(argument, arguments)?;
+            let argument = part(argument)?;
             arguments.push(argument);
-            let result = number(body, arguments);
+            let result = number(body, version, arguments);
             arguments.pop();
             result
         }
@@ -54,16 +58,16 @@ fn number(term: &Term, arguments: &mut Vec<i64>) -> Option<i64> {
     }
 }
 
-/// Adding up without steps gives the same.
+/// Adding up without steps gives the same, in each version.
 #[test]
 fn arithmetic_comes_to_its_number() {
     on_large_stack(|| {
         let mut work = vec![0; WORK];
-        for place in 0..5_000 {
-            let term = Term::annotation(arithmetic_term(&mut Random::of(SEED, "numbers", place)), Type::int());
-            let answer = run(&encode_term(&term), &mut work, u32::MAX);
-            let value = number(&term, &mut Vec::new()).expect("a number");
-            let left = encode_term(&Term::number(i32::try_from(value).expect("32 bits")));
+        for (place, version) in (0..5_000).flat_map(|place| Version::ALL.map(|version| (place, version))) {
+            let term = Term::annotation(arithmetic_term(version, &mut Random::of(SEED, "numbers", place)), Type::int());
+            let answer = run(&encode_term(&term, version), &mut work, u32::MAX);
+            let value = number(&term, version, &mut Vec::new()).expect("a number");
+            let left = encode_term(&Term::number(value), version);
             assert!(matches!(answer, Answer::Value { .. }) && work[..left.len()] == left, "{term}: {answer:?}, not {value}");
         }
     });
@@ -79,7 +83,7 @@ struct Shares {
     merges: usize,
     least: usize,
     most: usize,
-    /// Choices that become b, and c; those of the others whose number has a field that is zero, or is negative.
+    /// Choices that become b, and c; those of the others whose number has zero in a field that holds it, or is negative.
     zeros: usize,
     others: usize,
     halves: usize,
@@ -111,21 +115,21 @@ impl Shares {
             other => panic!("{other:?}"),
         }
         self.accepted += 1;
-        let root = decode(book).expect("a term");
-        for term in iter::successors(Some(root), |term| successors(term).pop()).take(STEPS) {
-            self.enter_step(redex(&term));
+        let (root, version) = decode(book).expect("a term");
+        for term in iter::successors(Some(root), |term| successors(term, version).pop()).take(STEPS) {
+            self.enter_step(redex(&term), version);
         }
     }
 
-    fn enter_step(&mut self, step: &Term) {
+    fn enter_step(&mut self, step: &Term, version: Version) {
         let is_merge = |part: &Term| matches!(part.shape(), TermShape::Merge(..));
         match step.shape() {
             TermShape::Sum(a, b) => {
                 self.sums += 1;
                 self.merges += usize::from(is_merge(a) || is_merge(b));
-                let TermShape::Number(sum) = *successors(step)[0].shape() else { panic!("{step}") };
-                self.least += usize::from(sum == i32::MIN);
-                self.most += usize::from(sum == i32::MAX);
+                let TermShape::Number(sum) = *successors(step, version)[0].shape() else { panic!("{step}") };
+                self.least += usize::from(sum == version.least());
+                self.most += usize::from(sum == version.most());
             }
             TermShape::Choice(test, ..) => {
                 self.merges += usize::from(is_merge(test));
@@ -134,7 +138,8 @@ impl Shares {
                     TermShape::Number(n) => {
                         self.others += 1;
                         self.negative += usize::from(n < 0);
-                        self.halves += usize::from(n as u16 == 0 || (n as u32) >> 16 == 0);
+                        let fields = version.fields(n);
+                        self.halves += usize::from(fields[usize::from(version == Version::One)..].contains(&0));
                     }
                     _ => {}
                 }
@@ -176,10 +181,27 @@ fn loops_count_for_long() {
     assert!(least > 0 && most > 0 && percent(long) >= 15 && percent(thousands) >= 2);
 }
 
+/// The same at the range of version 2.
+#[test]
+fn wide_arithmetic_has_enough_of_each() {
+    let Shares { accepted, refused, sums, merges, least, most, zeros, others, halves, negative, .. } =
+        Shares::of("wide arithmetic");
+    assert!(percent(accepted) >= 85 && refused > 0 && percent(sums) >= 100 && percent(merges) >= 20);
+    assert!(percent(least) >= 5 && percent(most) >= 5);
+    assert!(percent(zeros) >= 30 && percent(others) >= 50 && percent(halves) >= 15 && percent(negative) >= 15);
+}
+
+#[test]
+fn the_ends_of_both_ranges_are_met() {
+    let Shares { accepted, refused, least, most, halves, negative, .. } = Shares::of("ends of both ranges");
+    assert!(percent(accepted) >= 60 && percent(refused) >= 10 && percent(least) >= 3 && percent(most) >= 3);
+    assert!(percent(halves) >= 5 && percent(negative) >= 5);
+}
+
 /// The makers of the other families make sums and choices too.
 #[test]
 fn the_makers_make_sums_and_choices() {
-    for name in ["merges", "duplicates", "fixpoints", "large", "contexts", "near misses"] {
+    for name in ["merges", "duplicates", "fixpoints", "large", "contexts", "near misses", "wide terms", "widened"] {
         let Shares { sums, zeros, others, .. } = Shares::of(name);
         assert!(percent(sums) >= 5 && zeros > 0 && others > 0, "{name}");
     }

@@ -2,7 +2,7 @@
 
 use compare::contexts::redex;
 use compare::families::families;
-use evaluator::{check, decode, on_large_stack, successors, Answer, Term, TermShape, WORK};
+use evaluator::{check, decode, on_large_stack, successors, Answer, Term, TermShape, Version, WORK};
 use std::iter;
 
 const SEED: u64 = 1;
@@ -37,7 +37,7 @@ fn parts(term: &Term) -> usize {
 impl Shares {
     /// A read of a merge that is taken.
     fn enter_read(&mut self, read: &Term, of: &Term) {
-        match successors(read)[0].shape() {
+        match successors(read, Version::One)[0].shape() {
             TermShape::Top => self.tops += 1,
             _ => self.contents += 1,
         }
@@ -48,7 +48,7 @@ impl Shares {
     /// A book's run.
     fn enter_run(&mut self, root: Term) {
         let mut reads = 0;
-        for term in iter::successors(Some(root), |term| successors(term).pop()).take(STEPS) {
+        for term in iter::successors(Some(root), |term| successors(term, Version::One).pop()).take(STEPS) {
             let step = redex(&term);
             let TermShape::Projection(_, of) = step.shape() else { continue };
             if let TermShape::Merge(..) = of.shape() {
@@ -62,7 +62,7 @@ impl Shares {
 
     fn enter(&mut self, book: &[u8]) {
         match check(book, &mut vec![0; WORK]) {
-            Answer::Accepted { .. } => self.enter_run(decode(book).expect("a term")),
+            Answer::Accepted { .. } => self.enter_run(decode(book).expect("a term").0),
             Answer::Refused { number: 13, .. } => self.refused += 1,
             _ => {}
         }

@@ -1,11 +1,12 @@
 //! The calls: check, run and the desk program's lines.
 
 use crate::book::{decode, encode_term, encode_type, Cell, Refusal, CELL, SIZE_LIMIT, TRAILER};
-use crate::faults::{planted, Fault};
+use crate::faults::{asked, planted, Fault};
 use crate::running::Machine;
 use crate::stack::on_large_stack;
 use crate::terms::{Term, Type};
 use crate::typing::infer;
+use crate::versions::Version;
 use std::fmt::Write;
 
 /// "Work buffer: not 65,536 bytes" is refusal 1.
@@ -28,22 +29,23 @@ pub enum Answer {
     Room { steps: u32 },
 }
 
-/// The root and its type, or the first refusal of 2 to 15.
-fn accept(book: &[u8]) -> Result<(Term, Type), Refusal> {
-    let root = decode(book)?;
+/// The root, its type and the book's version, or the first refusal of 2 to 15.
+fn accept(book: &[u8]) -> Result<(Term, Type, Version), Refusal> {
+    let (root, version) = decode(book)?;
+    asked(version);
     let inferred = infer(&mut Vec::new(), &root)?;
-    Ok((root, inferred))
+    Ok((root, inferred, version))
 }
 
 /// Where a run stops, and the term reached: "A run says value when the term is one; else spent when exactly the limit has been
 /// taken; else no room when the successor's size exceeds 4,095."
-fn evaluate(root: Term, limit: u32) -> (Answer, Term) {
+fn evaluate(root: Term, version: Version, limit: u32) -> (Answer, Term) {
     let room = match () {
         () if planted(Fault::RoomOneEarly) => SIZE_LIMIT - 1,
         () if planted(Fault::RoomOneLate) => SIZE_LIMIT + 1,
         () => SIZE_LIMIT,
     };
-    let mut machine = Machine::from(root);
+    let mut machine = Machine::from(root, version);
     let mut steps = 0;
     let stop = loop {
         if machine.is_value() && !(planted(Fault::SpentBeforeValue) && steps == limit) {
@@ -94,8 +96,8 @@ fn answer(work: &mut [u8], outcome: impl FnOnce() -> Result<(Answer, Vec<u8>), R
 /// "A library checks a book": its type encoded, with the type's size.
 pub fn check(book: &[u8], work: &mut [u8]) -> Answer {
     answer(work, || {
-        let (_, inferred) = accept(book)?;
-        Ok((Answer::Accepted { size: inferred.size() as usize }, encode_type(&inferred)))
+        let (_, inferred, version) = accept(book)?;
+        Ok((Answer::Accepted { size: inferred.size() as usize }, encode_type(&inferred, version)))
     })
 }
 
@@ -103,18 +105,18 @@ pub fn check(book: &[u8], work: &mut [u8]) -> Answer {
 /// 32-bit number."
 pub fn run(book: &[u8], work: &mut [u8], limit: u32) -> Answer {
     answer(work, || {
-        let (root, _) = accept(book)?;
-        let (stop, reached) = evaluate(root, limit);
-        Ok((stop, encode_reached(&reached)))
+        let (root, _, version) = accept(book)?;
+        let (stop, reached) = evaluate(root, version, limit);
+        Ok((stop, encode_reached(&reached, version)))
     })
 }
 
 /// The term reached as a book. Only a planted fault reaches one above the limit; then there is none.
-fn encode_reached(reached: &Term) -> Vec<u8> {
+fn encode_reached(reached: &Term, version: Version) -> Vec<u8> {
     if reached.size() > SIZE_LIMIT {
         return Vec::new();
     }
-    encode_term(reached)
+    encode_term(reached, version)
 }
 
 /// What the desk program prints. "Line 1: type size. Line 2: value, spent or room, and steps. Then a line a cell: number, kind,

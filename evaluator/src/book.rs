@@ -1,16 +1,16 @@
 //! Books to terms and back.
 
-use crate::faults::{planted, Fault};
+use crate::faults::{current, planted, Fault};
 use crate::kinds::{kind, row, Field, Row, Sort};
-use crate::terms::{halves, Node, Part, Term, Type};
+use crate::terms::{Node, Part, Term, Type};
+use crate::versions::Version;
 
 /// "A cell: byte 0 kind, byte 1 label, bytes 2-3, 4-5, 6-7 the fields a, b, c."
 pub const CELL: usize = 8;
 /// "The limit is 4,095."
 pub const SIZE_LIMIT: u64 = 4_095;
-/// "Trailer: byte 0 is F0 (hex); byte 1 the version, 1": no kind of a cell.
+/// "Trailer: byte 0 is F0 (hex); byte 1 the version": no kind of a cell.
 pub const TRAILER: u8 = 0xF0;
-const VERSION: u8 = 1;
 
 /// "Answer: number and cell (0 for 1 to 4)."
 #[derive(Clone, Copy, PartialEq, Eq, Debug)]
@@ -36,15 +36,14 @@ impl Cell {
         Cell { kind, label, fields }
     }
 
-    /// The cell of a number.
-    pub fn number(n: i32) -> Cell {
-        let [b, c] = halves(n);
-        Cell::new(kind::NUMBER, 0, [0, b, c])
+    /// The cell of a number in this version.
+    pub fn number(n: impl Into<i64>, version: Version) -> Cell {
+        Cell::new(kind::NUMBER, 0, version.fields(n.into()))
     }
 
     /// "Bytes 2–3 the cell count; bytes 4–5 the root cell; bytes 6–7 zero."
-    pub fn trailer(count: u16, root: u16) -> Cell {
-        Cell::new(TRAILER, VERSION, [count, root, 0])
+    pub fn trailer(count: u16, root: u16, version: Version) -> Cell {
+        Cell::new(TRAILER, version.byte(), [count, root, 0])
     }
 
     /// "Fields of two bytes and stored numbers are little-endian."
@@ -96,17 +95,34 @@ impl Tree {
     }
 }
 
+/// What the fields of a cell are tested for: what they hold in this version, unless a fault is planted.
+fn tested_fields(row: &Row, version: Version) -> [Field; 3] {
+    let fields @ [_, b, c] = row.fields_in(version);
+    match (current(), version, row.kind) {
+        (Some(Fault::NarrowFieldUntested), Version::One, kind::NUMBER) => row.fields_in(Version::Two),
+        (Some(Fault::WideFieldRefused), Version::Two, kind::NUMBER) => row.fields_in(Version::One),
+        (Some(Fault::FirstFieldUntested), Version::Two, _) if row.is_leaf() => [Field::Plain, b, c],
+        _ => fields,
+    }
+}
+
+/// "An unnamed field is not zero": the label, or one of the three.
+fn filled(cell: Cell, row: &Row, version: Version) -> bool {
+    let mut fields = tested_fields(row, version).into_iter().zip(cell.fields);
+    let label = cell.label != 0 && !(planted(Fault::WideLabelUntested) && (version, row.kind) == (Version::Two, kind::NUMBER));
+    !row.labelled && label || fields.any(|(field, value)| field == Field::Unnamed && value != 0)
+}
+
 /// One cell's rows: "unknown kind", "an unnamed field is not zero", "a reference not lower than its cell", "a type where a term
 /// belongs, or the reverse". The trees are those of the cells below. The cell's row of the table, if it passes.
-fn test_cell(cell: Cell, n: usize, trees: &[Tree]) -> Result<&'static Row, Refusal> {
+fn test_cell(cell: Cell, n: usize, version: Version, trees: &[Tree]) -> Result<&'static Row, Refusal> {
     let Some(row) = row(cell.kind).filter(|row| row.kind < kind::SUM || !planted(Fault::OlderKinds)) else {
         return refuse(5, n);
     };
     let fields = row.fields.into_iter().zip(cell.fields);
-    let filled = !row.labelled && cell.label != 0 || fields.clone().any(|(field, value)| field == Field::Unnamed && value != 0);
     let references = fields.filter_map(|(field, to)| Some((field.sort()?, usize::from(to))));
     let not_lower = references.clone().any(|(_, to)| to >= n);
-    if filled && !(not_lower && planted(Fault::ReferencesFirst)) {
+    if filled(cell, row, version) && !(not_lower && planted(Fault::ReferencesFirst)) {
         return refuse(6, n);
     }
     if not_lower {
@@ -119,31 +135,35 @@ fn test_cell(cell: Cell, n: usize, trees: &[Tree]) -> Result<&'static Row, Refus
 }
 
 /// "The table of kinds gives each cell's fields, once for all readers." The cell has passed its rows.
-fn tree_of(cell: Cell, n: usize, row: &'static Row, trees: &[Tree]) -> Tree {
+fn tree_of(cell: Cell, n: usize, row: &'static Row, version: Version, trees: &[Tree]) -> Tree {
     let part = |field: usize| match row.fields[field] {
         Field::Unnamed => Part::None,
         Field::Plain => Part::Plain(cell.fields[field]),
         Field::Reference(_) => trees[usize::from(cell.fields[field])].part(),
     };
-    let node = Node { row, label: cell.label, fields: [part(0), part(1), part(2)] };
+    let fields = match row.kind {
+        kind::NUMBER => [Part::Number(version.number(cell.fields)), Part::None, Part::None],
+        _ => [part(0), part(1), part(2)],
+    };
+    let node = Node { row, label: cell.label, fields };
     match row.sort {
         Sort::Type => Tree::Type(Type::of(node)),
         Sort::Term => Tree::Term(Term::at(n, node)),
     }
 }
 
-/// The root of a book as a tree, or the first of the refusals 2 to 10: "Rows are tested downward, cells ascending, each cell
-/// completely."
-pub fn decode(book: &[u8]) -> Result<Term, Refusal> {
+/// The root of a book as a tree, with the book's version, or the first of the refusals 2 to 10: "Rows are tested downward, cells
+/// ascending, each cell completely."
+pub fn decode(book: &[u8]) -> Result<(Term, Version), Refusal> {
     let length = book.len();
     if !(16..=32_768).contains(&length) || !length.is_multiple_of(CELL) {
         return refuse(2, 0);
     }
     let (cells, trailer) = book.split_at(length - CELL);
     let Cell { kind, label, fields: [count, root, zero] } = Cell::of(trailer);
-    if (kind, label, zero) != (TRAILER, VERSION, 0) {
+    let Some(version) = Version::of(label).filter(|_| (kind, zero) == (TRAILER, 0)) else {
         return refuse(3, 0);
-    }
+    };
     if usize::from(count) != length / CELL - 1 || root >= count {
         return refuse(4, 0);
     }
@@ -155,8 +175,8 @@ pub fn decode(book: &[u8]) -> Result<Term, Refusal> {
     }
     let mut trees: Vec<Tree> = Vec::with_capacity(usize::from(count));
     for (n, cell) in cells.enumerate() {
-        let row = test_cell(cell, n, &trees)?;
-        trees.push(tree_of(cell, n, row, &trees));
+        let row = test_cell(cell, n, version, &trees)?;
+        trees.push(tree_of(cell, n, row, version, &trees));
     }
     let root = usize::from(root);
     let [a_type, too_large] = if planted(Fault::RootNumbersSwapped) { [10, 9] } else { [9, 10] };
@@ -164,13 +184,13 @@ pub fn decode(book: &[u8]) -> Result<Term, Refusal> {
         Tree::Type(t) if planted(Fault::RootSizeFirst) && t.size() > SIZE_LIMIT => refuse(too_large, root),
         Tree::Type(_) => refuse(a_type, root),
         Tree::Term(e) if e.size() > SIZE_LIMIT => refuse(too_large, root),
-        Tree::Term(e) => Ok(e.clone()),
+        Tree::Term(e) => Ok((e.clone(), version)),
     }
 }
 
 /// A book being encoded.
-#[derive(Default)]
 struct Encoder {
+    version: Version,
     bytes: Vec<u8>,
 }
 
@@ -184,8 +204,11 @@ impl Encoder {
 
     /// "Children first in field order, shared ones repeated, root last." The root's number.
     fn tree(&mut self, node: Node) -> u16 {
+        if let [Part::Number(n), ..] = node.fields {
+            return self.cell(Cell::number(n, self.version));
+        }
         let fields = node.fields.map(|part| match part {
-            Part::None => 0,
+            Part::None | Part::Number(_) => 0,
             Part::Plain(value) => value,
             Part::Type(t) => self.tree(t.node()),
             Part::Term(e) => self.tree(e.node()),
@@ -197,21 +220,42 @@ impl Encoder {
 /// Beyond it a reference does not fit its two bytes. Books between the two limits are encoded to be refused.
 const NUMBERED: u64 = 1 << 16;
 
-/// "A version 1 book of its own, trailer included." Only for sizes that two bytes can number.
-fn encode(node: Node, size: u64) -> Vec<u8> {
+/// A "book of its own, trailer included"; "a laid-down book has the version it came from". Only for sizes that two bytes can number. The
+/// trailer's version is another only where a fault is planted.
+fn encode(node: Node, size: u64, [cells, trailer]: [Version; 2]) -> Vec<u8> {
     assert!(size < NUMBERED);
-    let mut encoder = Encoder::default();
+    let mut encoder = Encoder { version: cells, bytes: Vec::new() };
     let root = encoder.tree(node);
-    encoder.cell(Cell::trailer(size as u16, root));
+    encoder.cell(Cell::trailer(size as u16, root, trailer));
     encoder.bytes
 }
 
-/// The book of a term.
-pub fn encode_term(e: &Term) -> Vec<u8> {
-    encode(e.node(), e.size())
+/// The book of a term in this version, of which its numbers are.
+pub fn encode_term(e: &Term, version: Version) -> Vec<u8> {
+    let trailer = if planted(Fault::TermOfVersion1) { Version::One } else { version };
+    encode(e.node(), e.size(), [version, trailer])
 }
 
-/// The book of a type.
-pub fn encode_type(t: &Type) -> Vec<u8> {
-    encode(t.node(), t.size())
+/// The book of a type in this version.
+pub fn encode_type(t: &Type, version: Version) -> Vec<u8> {
+    let trailer = if planted(Fault::TypeOfVersion1) { Version::One } else { version };
+    encode(t.node(), t.size(), [version, trailer])
+}
+
+/// Document 02, (iv): "restamped as version 2 with each number extended by its sign", whether the root reaches it or not. Nothing else
+/// changes, nor does what stands in a number's cell that version 1 refuses. None of bytes that do not end in a trailer of version 1.
+pub fn restamped(book: &[u8]) -> Option<Vec<u8>> {
+    let (rows, []) = book.as_chunks::<CELL>() else { return None };
+    let [cells @ .., last] = rows else { return None };
+    let last = Cell::of(last);
+    if (last.kind, last.label) != (TRAILER, Version::One.byte()) {
+        return None;
+    }
+    let extended = |cell: Cell| match (cell.kind, cell.fields[0]) {
+        (kind::NUMBER, 0) => Cell { fields: Version::Two.fields(Version::One.number(cell.fields)), ..cell },
+        _ => cell,
+    };
+    let cells = cells.iter().map(|row| extended(Cell::of(row)));
+    let trailer = Cell { label: Version::Two.byte(), ..last };
+    Some(cells.chain([trailer]).flat_map(Cell::bytes).collect())
 }

@@ -84,17 +84,17 @@ pub enum Fault {
     ValuePartsOneLevel,
     /// A run that takes the first record of that label although it is top-like and another is not.
     FirstFieldTaken,
-    /// A sum wraps round at the ends of the 32-bit range.
+    /// A sum of version 1 wraps round at the ends of the 32-bit range.
     SumWraps,
-    /// A sum held one short of the upper end.
+    /// A sum of version 1 held one short of the upper end.
     SumShortAbove,
-    /// A sum held one short of the lower end.
+    /// A sum of version 1 held one short of the lower end.
     SumShortBelow,
     /// A choice becomes c for zero and b for anything else.
     BranchesExchanged,
     /// A number called zero on its low 16 bits alone.
     ZeroByLowHalf,
-    /// A number called zero on its high 16 bits alone.
+    /// A number called zero on its bits 16 to 31 alone.
     ZeroByHighHalf,
     /// A choice that takes a negative number for zero.
     NegativeAsZero,
@@ -164,7 +164,7 @@ pub enum Fault {
     VariablesByLowByte,
     /// The low 16 bits of numbers in bodies not compared.
     LowHalfIgnored,
-    /// The high 16 bits of numbers in bodies not compared.
+    /// All but the low 16 bits of numbers in bodies not compared.
     HighHalfIgnored,
     /// The first of two parts or three not compared in bodies.
     FirstIgnored,
@@ -190,10 +190,74 @@ pub enum Fault {
     InputSharingCompared,
     /// Functions with the same body and input called consistent only if their outputs are equal.
     OutputsCompared,
+    /// Version 2 unknown.
+    OlderVersions,
+    /// Version 3 taken for version 2.
+    ThirdVersion,
+    /// Version 0 taken for version 1.
+    VersionZero,
+    /// A type of version 2 laid down with version 1 in its trailer.
+    TypeOfVersion1,
+    /// A term of version 2 laid down with version 1 in its trailer.
+    TermOfVersion1,
+    /// Field a of a number of version 1 not tested.
+    NarrowFieldUntested,
+    /// Field a of a number of version 2 refused if it is not zero.
+    WideFieldRefused,
+    /// The label of a number of version 2 not tested.
+    WideLabelUntested,
+    /// Field a not tested in version 2 where a kind refers to nothing.
+    FirstFieldUntested,
+    /// A number of version 1 extended by zeros.
+    ZeroExtended,
+    /// A number of version 1 read from bytes 2 to 7.
+    NarrowFromAllBytes,
+    /// A number of version 2 read without its sign.
+    WideUnsigned,
+    /// A number of version 2 read from bytes 4 to 7.
+    WideFromLastBytes,
+    /// A number of version 2 read from bytes 2 to 5.
+    WideFromFirstBytes,
+    /// A number of version 1 laid down in bytes 2 to 7.
+    NarrowingLeftOut,
+    /// A number of version 2 laid down in bytes 4 to 7.
+    NarrowingInVersion2,
+    /// A number of version 1 laid down by its bits 16 to 47.
+    NarrowingKeepsHighFields,
+    /// A sum of version 1 held to the ends of 48 bits.
+    SumOf48Bits,
+    /// A sum of version 2 held to the ends of 32 bits.
+    WideSumOf32Bits,
+    /// The low 32 bits added in version 2.
+    WideSumOfLowBits,
+    /// A sum of version 2 wraps round at the ends of the 48-bit range.
+    WideSumWraps,
+    /// A sum of version 2 held one short of the upper end.
+    WideSumShortAbove,
+    /// A sum of version 2 held one short of the lower end.
+    WideSumShortBelow,
+    /// Numbers of version 2 called consistent whatever is in field a.
+    ConsistentWithoutA,
+    /// Whatever is in field b.
+    ConsistentWithoutB,
+    /// Whatever is in field c.
+    ConsistentWithoutC,
+    /// Numbers of version 2 in bodies called equal whatever is in field a.
+    BodiesWithoutA,
+    /// Whatever is in field b.
+    BodiesWithoutB,
+    /// Whatever is in field c.
+    BodiesWithoutC,
+    /// A number of version 2 called zero whatever is in field a.
+    ZeroWithoutA,
+    /// Whatever is in field b.
+    ZeroWithoutB,
+    /// Whatever is in field c.
+    ZeroWithoutC,
 }
 
 impl Fault {
-    pub const ALL: [Fault; 93] = [
+    pub const ALL: [Fault; 125] = [
         Fault::CovariantInputs,
         Fault::ArgumentUncast,
         Fault::RoomOneEarly,
@@ -287,16 +351,50 @@ impl Fault {
         Fault::InputsByFirstCell,
         Fault::InputSharingCompared,
         Fault::OutputsCompared,
+        Fault::OlderVersions,
+        Fault::ThirdVersion,
+        Fault::VersionZero,
+        Fault::TypeOfVersion1,
+        Fault::TermOfVersion1,
+        Fault::NarrowFieldUntested,
+        Fault::WideFieldRefused,
+        Fault::WideLabelUntested,
+        Fault::FirstFieldUntested,
+        Fault::ZeroExtended,
+        Fault::NarrowFromAllBytes,
+        Fault::WideUnsigned,
+        Fault::WideFromLastBytes,
+        Fault::WideFromFirstBytes,
+        Fault::NarrowingLeftOut,
+        Fault::NarrowingInVersion2,
+        Fault::NarrowingKeepsHighFields,
+        Fault::SumOf48Bits,
+        Fault::WideSumOf32Bits,
+        Fault::WideSumOfLowBits,
+        Fault::WideSumWraps,
+        Fault::WideSumShortAbove,
+        Fault::WideSumShortBelow,
+        Fault::ConsistentWithoutA,
+        Fault::ConsistentWithoutB,
+        Fault::ConsistentWithoutC,
+        Fault::BodiesWithoutA,
+        Fault::BodiesWithoutB,
+        Fault::BodiesWithoutC,
+        Fault::ZeroWithoutA,
+        Fault::ZeroWithoutB,
+        Fault::ZeroWithoutC,
     ];
 }
 
 #[cfg(feature = "faults")]
 mod planted {
     use super::Fault;
+    use crate::versions::Version;
     use std::cell::Cell;
 
     thread_local! {
         static PLANTED: Cell<Option<Fault>> = const { Cell::new(None) };
+        static ASKED: Cell<Version> = const { Cell::new(Version::One) };
     }
 
     pub fn get() -> Option<Fault> {
@@ -314,11 +412,21 @@ mod planted {
         let _restore = Restore(PLANTED.replace(fault));
         work()
     }
+
+    /// The book that a call is asked about has this version: typing, which is the same in both, can then have a fault in one.
+    pub fn asked(version: Version) {
+        ASKED.set(version);
+    }
+
+    pub fn planted_in(version: Version, fault: Fault) -> bool {
+        get() == Some(fault) && ASKED.get() == version
+    }
 }
 
 #[cfg(not(feature = "faults"))]
 mod planted {
     use super::Fault;
+    use crate::versions::Version;
 
     pub fn get() -> Option<Fault> {
         None
@@ -328,10 +436,17 @@ mod planted {
     pub fn with_fault<R>(_: Option<Fault>, work: impl FnOnce() -> R) -> R {
         work()
     }
+
+    pub fn asked(_: Version) {}
+
+    pub fn planted_in(_: Version, _: Fault) -> bool {
+        false
+    }
 }
 
 pub(crate) use planted::get as current;
 pub use planted::with_fault;
+pub(crate) use planted::{asked, planted_in};
 
 pub(crate) fn planted(fault: Fault) -> bool {
     current() == Some(fault)

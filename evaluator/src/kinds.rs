@@ -1,6 +1,8 @@
 //! Document 01's table of kinds, with the two kinds that document 02 (ii) adds: what is known of a kind of cell stands in its row. Decoding,
 //! sizes, binders, the parts that run, encoding and printing go by the rows, and so does the comparison, which has no list of kinds of its own.
 
+use crate::versions::Version;
+
 /// What a cell is, and what a reference asks for.
 #[derive(Clone, Copy, PartialEq, Eq, Debug)]
 pub enum Sort {
@@ -13,7 +15,7 @@ pub enum Sort {
 pub enum Field {
     /// "Fields not named are zero."
     Unnamed,
-    /// Any number: a count of binders, half of a number.
+    /// Any value: a count of binders, 16 bits of a number.
     Plain,
     /// The number of a lower cell of this sort.
     Reference(Sort),
@@ -39,17 +41,25 @@ pub struct Row {
     pub sort: Sort,
     /// Byte 1 of a cell is named.
     pub labelled: bool,
-    /// What a, b and c hold.
+    /// What a, b and c hold in version 1.
     pub fields: [Field; 3],
     /// How many variables it binds in a.
     pub binders: u32,
     /// How many of its parts run, from a on, left first; the others wait.
     pub running: usize,
-    /// How it is printed: `$l` is the label, `$a`, `$b` and `$c` are the fields, `$n` is the number that b and c hold.
+    /// How it is printed: `$l` is the label, `$a`, `$b` and `$c` are the fields, `$n` is the number that they hold.
     pub notation: &'static str,
 }
 
 impl Row {
+    /// What a, b and c hold: in version 2 all of them hold a number's bits.
+    pub fn fields_in(&self, version: Version) -> [Field; 3] {
+        match (version, self.kind) {
+            (Version::Two, kind::NUMBER) => [PLAIN; 3],
+            _ => self.fields,
+        }
+    }
+
     /// The binders between the cell and what this field refers to.
     pub fn binders_over(&self, field: usize) -> u32 {
         if field == 0 {

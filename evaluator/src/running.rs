@@ -5,6 +5,7 @@ use crate::fields::read_value;
 use crate::numbers::{choices, read_apart, sums};
 use crate::terms::{Term, TermShape, Type, TypeShape};
 use crate::typing::{subtype, top_like};
+use crate::versions::Version;
 
 /// All these terms, each once.
 fn each_once(terms: Vec<Term>) -> Vec<Term> {
@@ -124,8 +125,8 @@ fn decompose(e: &Term) -> Option<(usize, &Term)> {
     }
 }
 
-/// What a term becomes whose active parts are values already. Each result once.
-fn contract(e: &Term) -> Vec<Term> {
+/// What a term of a book of this version becomes whose active parts are values already. Each result once.
+fn contract(e: &Term, version: Version) -> Vec<Term> {
     if let Some(read) = read_apart(e) {
         return vec![read];
     }
@@ -146,18 +147,19 @@ fn contract(e: &Term) -> Vec<Term> {
         // "A fixpoint becomes its body with itself put in, annotated with its type."
         TermShape::Fixpoint(body, _) if planted(Fault::FixpointBare) => vec![substitute(body, 0, e)],
         TermShape::Fixpoint(body, t) => vec![Term::annotation(substitute(body, 0, e), t.clone())],
-        TermShape::Sum(a, b) => each_once(sums(a, b)),
-        TermShape::Choice(a, b, c) => each_once(choices(a, b, c)),
+        TermShape::Sum(a, b) => each_once(sums(a, b, version)),
+        TermShape::Choice(a, b, c) => each_once(choices(a, b, c, version)),
         TermShape::Variable(_) | TermShape::Number(_) | TermShape::Top | TermShape::Function(..) => vec![],
         TermShape::Merge(..) | TermShape::Record(..) => vec![],
     }
 }
 
-/// "A term's successors are all the terms that one such step can give, a merge read from either half that can be." Each once.
-pub fn successors(e: &Term) -> Vec<Term> {
+/// "A term's successors are all the terms that one such step can give, a merge read from either half that can be." Each once; sums are
+/// held to the range of this version.
+pub fn successors(e: &Term, version: Version) -> Vec<Term> {
     match decompose(e) {
-        Some((field, part)) => successors(part).iter().map(|part| e.with_part(field, part)).collect(),
-        None => contract(e),
+        Some((field, part)) => successors(part, version).iter().map(|part| e.with_part(field, part)).collect(),
+        None => contract(e, version),
     }
 }
 
@@ -177,11 +179,13 @@ pub struct Machine {
     focus: Term,
     /// The size of the whole.
     size: u64,
+    /// The book's.
+    version: Version,
 }
 
 impl Machine {
-    pub fn from(root: Term) -> Machine {
-        let mut machine = Machine { frames: Vec::new(), size: root.size(), focus: root };
+    pub fn from(root: Term, version: Version) -> Machine {
+        let mut machine = Machine { frames: Vec::new(), size: root.size(), focus: root, version };
         machine.refocus();
         machine
     }
@@ -209,7 +213,7 @@ impl Machine {
     /// What the part in focus can become, and the size that the whole would have with each.
     pub fn next(&self) -> Vec<(Term, u64)> {
         let around = self.size - self.focus.size();
-        contract(&self.focus).into_iter().map(|part| (part.clone(), around + part.size())).collect()
+        contract(&self.focus, self.version).into_iter().map(|part| (part.clone(), around + part.size())).collect()
     }
 
     /// The size that is held against the limit with one of those: that of the whole, unless a fault is planted.

@@ -1,10 +1,25 @@
 //! Functions that are the same: those "with the same body and input type, as trees". Whether a part of both is one cell or two, and what
-//! the outputs are, does not matter.
+//! the outputs are, does not matter. And numbers that are.
 
-use crate::faults::{current, Fault};
+use crate::faults::{current, planted_in, Fault};
 use crate::kinds::{kind, Row, Sort};
 use crate::terms::{Node, Part, Term, Type};
+use crate::versions::Version;
 use std::collections::BTreeSet;
+
+/// The bits of a number that stand in the fields a, b and c of a cell of version 2, the sign's with c.
+const FIELDS: [i64; 3] = [0xFFFF, 0xFFFF_0000, !0xFFFF_FFFF];
+
+/// The bits that are not compared, of numbers of version 2: those of a field that one of these faults ignores.
+fn ignored_bits(faults: [Fault; 3]) -> i64 {
+    let planted = faults.into_iter().zip(FIELDS).find(|(fault, _)| planted_in(Version::Two, *fault));
+    planted.map_or(0, |(_, bits)| bits)
+}
+
+/// "Equal numbers."
+pub fn same_number(m: i64, n: i64) -> bool {
+    (m ^ n) & !ignored_bits([Fault::ConsistentWithoutA, Fault::ConsistentWithoutB, Fault::ConsistentWithoutC]) == 0
+}
 
 /// A function's body, input type and output type.
 pub type Function<'a> = (&'a Term, &'a Type, &'a Type);
@@ -50,9 +65,16 @@ fn ignored(fault: Fault, row: &Row, field: usize) -> bool {
         Fault::SecondOfTwoIgnored => field == 1 && last,
         Fault::TypesIgnored => row.sort == Sort::Term && row.fields[field].sort() == Some(Sort::Type),
         Fault::VariablesAlike => row.kind == kind::VARIABLE,
-        Fault::LowHalfIgnored => (row.kind, field) == (kind::NUMBER, 1),
-        Fault::HighHalfIgnored => (row.kind, field) == (kind::NUMBER, 2),
         _ => false,
+    }
+}
+
+/// The bits of numbers in bodies that a fault does not compare.
+fn ignored_in_bodies(fault: Fault) -> i64 {
+    match fault {
+        Fault::LowHalfIgnored => 0xFFFF,
+        Fault::HighHalfIgnored => !0xFFFF,
+        _ => ignored_bits([Fault::BodiesWithoutA, Fault::BodiesWithoutB, Fault::BodiesWithoutC]),
     }
 }
 
@@ -91,6 +113,7 @@ fn walk(fault: Fault, level: usize, one: &Node, other: &Node) -> Result<(), bool
             (Part::Type(t), Part::Type(u)) => walk(fault, level + 1, &t.node(), &u.node())?,
             (Part::Term(e), Part::Term(f)) => walk(fault, level + 1, &e.node(), &f.node())?,
             (Part::Plain(m), Part::Plain(n)) if (m ^ n) & compared(fault, one.row) != 0 => return Err(false),
+            (Part::Number(m), Part::Number(n)) if (m ^ n) & !ignored_in_bodies(fault) != 0 => return Err(false),
             _ => {}
         }
     }

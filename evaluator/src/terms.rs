@@ -6,11 +6,12 @@ use crate::kinds::{kind, rows, Row};
 use std::fmt::{self, Write};
 use std::rc::Rc;
 
-/// What a field of a node holds: nothing, a plain number, or a part.
+/// What a field of a node holds: nothing, a plain field, a number, which stands in the first, or a part.
 #[derive(Clone, Copy)]
 pub enum Part<'a> {
     None,
     Plain(u16),
+    Number(i64),
     Type(&'a Type),
     Term(&'a Term),
 }
@@ -18,7 +19,7 @@ pub enum Part<'a> {
 impl Part<'_> {
     fn size(&self) -> u64 {
         match self {
-            Part::None | Part::Plain(_) => 0,
+            Part::None | Part::Plain(_) | Part::Number(_) => 0,
             Part::Type(t) => t.size(),
             Part::Term(e) => e.size(),
         }
@@ -28,6 +29,13 @@ impl Part<'_> {
         match self {
             Part::Plain(value) => value,
             _ => unreachable!("its row names a plain field"),
+        }
+    }
+
+    fn number(self) -> i64 {
+        match self {
+            Part::Number(n) => n,
+            _ => unreachable!("its row is that of a number"),
         }
     }
 
@@ -86,16 +94,6 @@ impl<'a> Node<'a> {
         };
         fields.into_iter().enumerate().filter_map(term)
     }
-}
-
-/// "Bytes 4–7, signed 32 bits": a number as the fields b and c, little-endian.
-pub(crate) fn halves(n: i32) -> [u16; 2] {
-    let bits = n as u32;
-    [bits as u16, (bits >> 16) as u16]
-}
-
-fn number_of([low, high]: [u16; 2]) -> i32 {
-    (u32::from(high) << 16 | u32::from(low)) as i32
 }
 
 /// A type of the calculus.
@@ -217,7 +215,8 @@ impl Eq for TermNode {}
 #[derive(PartialEq, Eq)]
 pub enum TermShape {
     Variable(u16),
-    Number(i32),
+    /// Of the range of its book's version.
+    Number(i64),
     Top,
     Annotation(Term, Type),
     Application(Term, Term),
@@ -236,10 +235,7 @@ impl TermShape {
     fn node(&self) -> Node<'_> {
         match self {
             TermShape::Variable(skipped) => Node::new(rows::VARIABLE, [Part::Plain(*skipped), Part::None, Part::None]),
-            TermShape::Number(n) => {
-                let [b, c] = halves(*n);
-                Node::new(rows::NUMBER, [Part::None, Part::Plain(b), Part::Plain(c)])
-            }
+            TermShape::Number(n) => Node::new(rows::NUMBER, [Part::Number(*n), Part::None, Part::None]),
             TermShape::Top => Node::leaf(rows::TOP_VALUE),
             TermShape::Annotation(e, t) => Node::new(rows::ANNOTATION, [Part::Term(e), Part::Type(t), Part::None]),
             TermShape::Application(l, r) => Node::new(rows::APPLICATION, [Part::Term(l), Part::Term(r), Part::None]),
@@ -256,7 +252,7 @@ impl TermShape {
     fn of(Node { row, label, fields: [a, b, c] }: Node) -> TermShape {
         match row.kind {
             kind::VARIABLE => TermShape::Variable(a.plain()),
-            kind::NUMBER => TermShape::Number(number_of([b.plain(), c.plain()])),
+            kind::NUMBER => TermShape::Number(a.number()),
             kind::TOP_VALUE => TermShape::Top,
             kind::ANNOTATION => TermShape::Annotation(a.to_term(), b.to_type()),
             kind::APPLICATION => TermShape::Application(a.to_term(), b.to_term()),
@@ -304,8 +300,8 @@ impl Term {
         Term::new(TermShape::Variable(skipped))
     }
 
-    pub fn number(n: i32) -> Term {
-        Term::new(TermShape::Number(n))
+    pub fn number(n: impl Into<i64>) -> Term {
+        Term::new(TermShape::Number(n.into()))
     }
 
     pub fn top() -> Term {
@@ -419,6 +415,7 @@ impl fmt::Display for Part<'_> {
         match self {
             Part::None => Ok(()),
             Part::Plain(value) => write!(f, "{value}"),
+            Part::Number(n) => write!(f, "{n}"),
             Part::Type(t) => write!(f, "{t}"),
             Part::Term(e) => write!(f, "{e}"),
         }
@@ -434,8 +431,7 @@ impl fmt::Display for Node<'_> {
             match if letter == '$' { notation.next() } else { None } {
                 None => f.write_char(letter)?,
                 Some('l') => write!(f, "{}", self.label)?,
-                Some('n') => write!(f, "{}", number_of([b.plain(), c.plain()]))?,
-                Some('a') => write!(f, "{a}")?,
+                Some('a' | 'n') => write!(f, "{a}")?,
                 Some('b') => write!(f, "{b}")?,
                 Some(_) => write!(f, "{c}")?,
             }

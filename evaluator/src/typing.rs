@@ -3,7 +3,7 @@
 use crate::book::Refusal;
 use crate::faults::{current, planted, Fault};
 use crate::fields::read_type;
-use crate::sameness::same_function;
+use crate::sameness::{same_function, same_number};
 use crate::terms::{Term, TermShape, Type, TypeShape};
 use std::ops::Range;
 
@@ -80,7 +80,7 @@ pub fn consistent(v: &Term, w: &Term) -> bool {
     match (v.shape(), w.shape()) {
         (TermShape::Merge(a, b), _) => consistent(a, w) && (planted(Fault::MergeByLeftHalf) || consistent(b, w)),
         (_, TermShape::Merge(a, b)) => consistent(v, a) && (planted(Fault::MergeByLeftHalf) || consistent(v, b)),
-        (TermShape::Number(m), TermShape::Number(n)) if m == n => true,
+        (TermShape::Number(m), TermShape::Number(n)) if same_number(*m, *n) => true,
         (TermShape::Function(e, i, o), TermShape::Function(f, j, p)) if same_function((e, i, o), (f, j, p)) => true,
         (TermShape::Record(l, c), TermShape::Record(m, d)) if l == m && consistent(c, d) => true,
         _ => disjoint(&type_of_value(v), &type_of_value(w)),

@@ -1,6 +1,21 @@
 //! Field reads, with document 02's rule for merges: "look at its parts that aren't themselves intersections."
 
-use evaluator::{check, decode, encode_term, encode_type, infer, on_large_stack, run, successors, Answer, Term, Type, WORK};
+use evaluator::{check, decode, infer, on_large_stack, run, Answer, Term, Type, Version, WORK};
+
+/// The version 1 book of a term.
+fn encode_term(term: &Term) -> Vec<u8> {
+    evaluator::encode_term(term, Version::One)
+}
+
+/// The version 1 book of a type.
+fn encode_type(t: &Type) -> Vec<u8> {
+    evaluator::encode_type(t, Version::One)
+}
+
+/// Sums held to the range of version 1.
+fn successors(term: &Term) -> Vec<Term> {
+    evaluator::successors(term, Version::One)
+}
 
 fn number(n: i32) -> Term {
     Term::number(n)

@@ -1,6 +1,16 @@
 //! Every sample book of document 01, the desk example, and a book for each refusal and each reading that has one.
 
-use evaluator::{check, desk, encode_term, on_large_stack, run, successors, Answer, Sort, Term, Type, TABLE, WORK};
+use evaluator::{check, desk, on_large_stack, run, Answer, Sort, Term, Type, Version, TABLE, WORK};
+
+/// The version 1 book of a term.
+fn encode_term(term: &Term) -> Vec<u8> {
+    evaluator::encode_term(term, Version::One)
+}
+
+/// Sums held to the range of version 1.
+fn successors(term: &Term) -> Vec<Term> {
+    evaluator::successors(term, Version::One)
+}
 
 /// Cells as in document 01's table: kind, label, a, b, c; the root is given.
 fn book(cells: &[[u16; 5]], root: u16) -> Vec<u8> {

@@ -1,8 +1,23 @@
 //! Sums and choices, which document 02 adds: "the sum is held to the ends of the 32-bit range"; "the choice becomes b for zero and c for
 //! anything else".
 
-use evaluator::{check, decode, encode_term, encode_type, infer, on_large_stack, run, successors, Answer, Cell, Term, Type, WORK};
+use evaluator::{check, decode, infer, on_large_stack, run, Answer, Cell, Term, Type, Version, WORK};
 use std::iter;
+
+/// The version 1 book of a term.
+fn encode_term(term: &Term) -> Vec<u8> {
+    evaluator::encode_term(term, Version::One)
+}
+
+/// The version 1 book of a type.
+fn encode_type(t: &Type) -> Vec<u8> {
+    evaluator::encode_type(t, Version::One)
+}
+
+/// Sums held to the range of version 1.
+fn successors(term: &Term) -> Vec<Term> {
+    evaluator::successors(term, Version::One)
+}
 
 fn number(n: i32) -> Term {
     Term::number(n)
@@ -187,7 +202,7 @@ fn zero_alone_chooses_b() {
     }
     // Those with a zero in one of the two fields that hold a number, b and c.
     for half in [65_536, -65_536, 131_072, -131_072, 1 << 30, 256 << 16, 0x7FFF_0000, 65_535, 1, 32_768, 256] {
-        assert!(Cell::number(half).fields[1..].contains(&0));
+        assert!(Cell::number(half, Version::One).fields[1..].contains(&0));
         comes_to(&choice(number(half), b.clone(), c.clone()), 20, 2);
     }
     comes_to(&choice(sum(number(65_536), number(-65_536)), b.clone(), c.clone()), 10, 3);
@@ -324,9 +339,12 @@ fn refusals_within_each_part() {
 #[test]
 fn cells_of_both_kinds() {
     let checked = |cell: [u16; 5]| {
-        let cells =
-            [Cell::new(1, 0, [0; 3]), Cell::number(1), Cell::new(cell[0] as u8, cell[1] as u8, [cell[2], cell[3], cell[4]])];
-        let book: Vec<u8> = cells.into_iter().chain([Cell::trailer(3, 2)]).flat_map(Cell::bytes).collect();
+        let cells = [
+            Cell::new(1, 0, [0; 3]),
+            Cell::number(1, Version::One),
+            Cell::new(cell[0] as u8, cell[1] as u8, [cell[2], cell[3], cell[4]]),
+        ];
+        let book: Vec<u8> = cells.into_iter().chain([Cell::trailer(3, 2, Version::One)]).flat_map(Cell::bytes).collect();
         check(&book, &mut vec![0; WORK])
     };
     let refused = |number| Answer::Refused { number, cell: 2 };
@@ -473,11 +491,11 @@ fn the_deepest_sums_and_choices() {
 fn sums_doubled_by_sharing() {
     let doubled = |first: Cell, times: u16| -> Vec<u8> {
         let sums = (0..times).map(|n| Cell::new(26, 0, [n, n, 0]));
-        [first].into_iter().chain(sums).chain([Cell::trailer(times + 1, times)]).flat_map(Cell::bytes).collect()
+        [first].into_iter().chain(sums).chain([Cell::trailer(times + 1, times, Version::One)]).flat_map(Cell::bytes).collect()
     };
     for (first, value) in [(1, 2_048), (1 << 20, MOST), ((1 << 20) - 1, MOST - 2_047), (-(1 << 20), LEAST), (-(1 << 21), LEAST)] {
-        let book = doubled(Cell::number(first), 11);
+        let book = doubled(Cell::number(first, Version::One), 11);
         assert_eq!(leaves(|work| run(&book, work, u32::MAX), &encode_term(&number(value))), Answer::Value { steps: 2_047 });
     }
-    assert_eq!(check(&doubled(Cell::number(1), 12), &mut vec![0; WORK]), Answer::Refused { number: 10, cell: 12 });
+    assert_eq!(check(&doubled(Cell::number(1, Version::One), 12), &mut vec![0; WORK]), Answer::Refused { number: 10, cell: 12 });
 }

@@ -1,9 +1,9 @@
 //! Checks and runs folder books.
 //!
-//! A book is a small typed program in bytes; docs/FORMAT.md gives its format and what every answer means. Both calls are lent the
-//! book to read and a work buffer of [`WORK`] bytes to write, and write nothing else but their thread's stack, of which [`STACK`]
-//! bytes suffice. Their answer, and every byte that they leave in the work buffer, depend on the book and the limit alone. They
-//! never panic.
+//! A book is a small typed program in bytes; docs/FORMAT.md gives its format and what every answer means. There are two versions: the
+//! numbers of a version 1 book have 32 bits, those of a version 2 book 48. Both calls are lent the book to read and a work buffer of
+//! [`WORK`] bytes to write, and write nothing else but their thread's stack, of which [`STACK`] bytes suffice. Their answer, and every
+//! byte that they leave in the work buffer, depend on the book and the limit alone. They never panic.
 //!
 //! # Example
 //!
@@ -115,16 +115,16 @@ extern "C" {
     fn cerealbank_run(book: *const u8, book_len: usize, work: *mut u8, work_len: usize, limit: u32) -> u64;
 }
 
-/// Checks a book: [`Answer::Accepted`] with its type encoded as a book of its own at the start of the work buffer and zeros past
-/// it, or [`Answer::Refused`] with a zeroed work buffer. Refusal 1, of a work buffer that is not [`WORK`] bytes long, touches
-/// nothing.
+/// Checks a book: [`Answer::Accepted`] with its type encoded as a book of its own, of the same version, at the start of the work
+/// buffer and zeros past it, or [`Answer::Refused`] with a zeroed work buffer. Refusal 1, of a work buffer that is not [`WORK`] bytes
+/// long, touches nothing.
 pub fn check(book: &[u8], work: &mut [u8]) -> Answer {
     // SAFETY: both slices are valid for their lengths, the second is lent to be written, and the two do not overlap.
     Answer::unpacked(unsafe { cerealbank_check(book.as_ptr(), book.len(), work.as_mut_ptr(), work.len()) })
 }
 
 /// Runs a book for at most `limit` steps: [`Answer::Value`], [`Answer::Spent`] or [`Answer::Room`] with the term reached encoded
-/// as a book of its own at the start of the work buffer and zeros past it, or refused as a check refuses it.
+/// as a book of its own, of the same version, at the start of the work buffer and zeros past it, or refused as a check refuses it.
 pub fn run(book: &[u8], work: &mut [u8], limit: u32) -> Answer {
     // SAFETY: as in `check`.
     Answer::unpacked(unsafe { cerealbank_run(book.as_ptr(), book.len(), work.as_mut_ptr(), work.len(), limit) })

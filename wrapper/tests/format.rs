@@ -4,7 +4,7 @@
 #![cfg(not(library_missing))]
 
 use cerealbank::{check, run, Answer, WORK};
-use evaluator::{Cell, Field, Row, Sort, CELL, TABLE, TRAILER};
+use evaluator::{Cell, Field, Row, Sort, Version, CELL, TABLE, TRAILER};
 use std::collections::BTreeSet;
 use std::fs;
 use std::path::{Path, PathBuf};
@@ -177,7 +177,7 @@ fn sample(line: &str, definitions: &str) -> (Vec<u8>, Option<u32>, Answer, Vec<u
 #[test]
 fn the_samples_of_the_definitions_are_answered_as_they_say() {
     let definitions = text("crates/answers/specs/Samples.antt");
-    for list in ["samples", "fieldReads", "sumsAndChoices", "bodies"] {
+    for list in ["samples", "fieldReads", "sumsAndChoices", "bodies", "wideNumbers"] {
         let (_, lines) = definitions.split_once(&format!("\n{list} =\n")).expect("the list");
         let lines: Vec<&str> =
             lines.lines().map_while(|line| line.trim().trim_start_matches("∷ ").strip_prefix("sample ")).collect();
@@ -254,8 +254,8 @@ fn numbered_rows(text: &str) -> Vec<Vec<String>> {
     rows.filter(|row| row[0].parse::<u8>().is_ok()).collect()
 }
 
-/// FORMAT.md's table of kinds: of each row the meaning, and the rest in the words of the definitions.
-fn kinds() -> Vec<(String, String)> {
+/// FORMAT.md's table of kinds for a version: of each row the meaning, and the rest in the words of the definitions. A row of another version is left out.
+fn kinds(version: Version) -> Vec<(String, String)> {
     let (before, _) = format();
     let (_, table) = before.split_once("\n### Kinds\n").expect("the kinds");
     let (table, _) = table.split_once("\n### ").expect("their end");
@@ -269,33 +269,56 @@ fn kinds() -> Vec<(String, String)> {
         };
         (meaning.clone(), format!("{kind} {sort}-sort {}", fields.iter().map(used).collect::<Vec<_>>().join(" ")))
     };
-    numbered_rows(table).into_iter().map(kind).collect()
+    let (own, other) = match version {
+        Version::One => ("version 1", "version 2"),
+        Version::Two => ("version 2", "version 1"),
+    };
+    let rows = numbered_rows(table).into_iter().map(kind).filter(|(meaning, _)| !meaning.contains(other));
+    let rows: Vec<_> = rows.collect();
+    assert_eq!(rows.iter().filter(|(meaning, _)| meaning.contains(own)).count(), 1, "the number's row alone is by the version");
+    rows
+}
+
+/// The definitions' table of kinds for a version: what `lowest` says of the version stands in its place.
+fn defined(version: Version) -> Vec<String> {
+    let table = text("crates/format/specs/Table.antt");
+    let lowest = format!("lowest {version:?} = ");
+    let lowest = table.lines().find_map(|line| line.strip_prefix(&lowest)).expect("the number's field a").to_string();
+    let rows = table.lines().filter_map(|line| line.trim().trim_start_matches("∷ ").strip_prefix("row "));
+    let rows = rows.filter(|row| row.starts_with(|c: char| c.is_ascii_digit()));
+    rows.map(|row| row.replace("(lowest v)", &lowest)).collect()
 }
 
 #[test]
 fn the_table_of_kinds_is_that_of_the_definitions() {
-    let defined = text("crates/format/specs/Table.antt");
-    let defined = defined.lines().filter_map(|line| line.trim().trim_start_matches("∷ ").strip_prefix("row "));
-    let defined: Vec<&str> = defined.filter(|row| row.starts_with(|c: char| c.is_ascii_digit())).collect();
-    assert_eq!(kinds().into_iter().map(|(_, row)| row).collect::<Vec<_>>(), defined);
+    for version in [Version::One, Version::Two] {
+        assert_eq!(kinds(version).into_iter().map(|(_, row)| row).collect::<Vec<_>>(), defined(version));
+    }
 }
 
-#[test]
-fn the_table_of_kinds_is_that_of_the_evaluator() {
+/// One version's table is the evaluator's.
+fn same_as_the_evaluators(version: Version) {
     let used = |field: Field| match field {
         Field::Unnamed => "unused",
         Field::Plain => "plain",
         Field::Reference(Sort::Type) => "types",
         Field::Reference(Sort::Term) => "terms",
     };
-    let shown = kinds();
+    let shown = kinds(version);
     assert_eq!(shown.len(), TABLE.len());
-    for ((meaning, shown), Row { kind, meaning: word, sort, labelled, fields, .. }) in shown.iter().zip(TABLE) {
+    for ((meaning, shown), row) in shown.iter().zip(TABLE) {
+        let Row { kind, meaning: word, sort, labelled, .. } = row;
         let sort = if *sort == Sort::Type { "type" } else { "term" };
         let label = if *labelled { "plain" } else { "unused" };
-        assert_eq!(shown, &format!("{kind} {sort}-sort {label} {}", fields.map(used).join(" ")));
+        assert_eq!(shown, &format!("{kind} {sort}-sort {label} {}", row.fields_in(version).map(used).join(" ")));
         assert!(meaning.contains(word), "{kind}: {meaning}");
     }
+}
+
+#[test]
+fn the_table_of_kinds_is_that_of_the_evaluator() {
+    same_as_the_evaluators(Version::One);
+    same_as_the_evaluators(Version::Two);
 }
 
 /// The parts of a line that stand in backquotes.
@@ -303,11 +326,11 @@ fn quoted(line: &str) -> Vec<&str> {
     line.split('`').skip(1).step_by(2).collect()
 }
 
-/// The term left is "the number N", or has "N cells"; or, for "-", there is none.
-fn is_reached(shown: &str, work: &[u8]) -> bool {
-    let trailer = |cells: u16| Cell::trailer(cells, cells - 1).bytes();
+/// The term left is "the number N", or has "N cells", in the version of its book; or, for "-", there is none.
+fn is_reached(shown: &str, version: Version, work: &[u8]) -> bool {
+    let trailer = |cells: u16| Cell::trailer(cells, cells - 1, version).bytes();
     if let Some(value) = shown.strip_prefix("the number ") {
-        let cell = Cell::number(number(value)).bytes();
+        let cell = Cell::number(number::<i64>(value), version).bytes();
         return work == padded(&[cell, trailer(1)].concat());
     }
     if let Some(cells) = shown.strip_suffix(" cells") {
@@ -327,7 +350,8 @@ fn every_sample_book_is_answered_as_its_table_says() {
         let book = fs::read(at("books").join(name)).expect("the book's file");
         let (got, work) = asked(|work| run(&book, work, DESK_LIMIT));
         assert_eq!(Some(got), answer(shown), "{name}");
-        assert!(is_reached(reached, &work), "{name} does not reach {reached}");
+        let version = Version::of(book[book.len() - CELL + 1]).expect("a version");
+        assert!(is_reached(reached, version, &work), "{name} does not reach {reached}");
         named.insert(name.to_string());
     }
     let files = fs::read_dir(at("books")).expect("the folder").map(|entry| entry.expect("its files").file_name());

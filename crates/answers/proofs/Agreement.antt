@@ -7,28 +7,30 @@ use native.Mathlib.Decide.{decLe, decLt}
 use native.Mathlib.Omega.{arith}
 use Rattle.calculus.specs.Syntax.{Term, size, IsValue}
 use Rattle.calculus.specs.Step.{Step, Reaches, r-suc}
+use Rattle.format.specs.declared.Version.{Version}
+use Rattle.format.specs.Version.{halfOf}
 use Rattle.format.specs.Book.{sizeLimit, termBook}
 use Rattle.answers.specs.Answer.{Stop, value, spent, room, Result, result, stopped}
 use Rattle.answers.specs.Engine.{padded}
 use Rattle.answers.specs.Demands.{StopsBy, TakesSteps}
 use Rattle.answers.proofs.Reaching.{onward}
 
-pub end-result-alike : {s t : Stop} {n m : ℕ} {f g : Term} → s ≡ t → n ≡ m → f ≡ g →
-    result (stopped s n) (padded (termBook f)) ≡ result (stopped t m) (padded (termBook g))
-end-result-alike p q o = rw (p, q, o)
+pub end-result-alike : (v : Version) {s t : Stop} {n m : ℕ} {f g : Term} → s ≡ t → n ≡ m → f ≡ g →
+    result (stopped s n) (padded (termBook v f)) ≡ result (stopped t m) (padded (termBook v g))
+end-result-alike v p q o = rw (p, q, o)
 
 module _
-    {h : ℕ}
+    (v : Version)
     {e : Term}
-    (only : (n : ℕ) (f g : Term) → Reaches h n e f → Reaches h n e g → f ≡ g)
-    (final : (f g : Term) → IsValue f → ¬ Step h f g)
+    (only : (n : ℕ) (f g : Term) → Reaches (halfOf v) n e f → Reaches (halfOf v) n e g → f ≡ g)
+    (final : (f g : Term) → IsValue f → ¬ Step (halfOf v) f g)
   where
     -- a run stopped at f before step m of the chain, all of it within the limit, was stopped for steps
-    stopped-early : (s : Stop) {l n m : ℕ} {f g : Term} → StopsBy h s l n f → Reaches h n e f → n < m → Reaches h m e g →
-        ((k : ℕ) (d : Term) → k ≤ m → Reaches h k e d → size d ≤ sizeLimit) → (s ≡ spent) × (n ≡ l)
+    stopped-early : (s : Stop) {l n m : ℕ} {f g : Term} → StopsBy (halfOf v) s l n f → Reaches (halfOf v) n e f → n < m → Reaches (halfOf v) m e g →
+        ((k : ℕ) (d : Term) → k ≤ m → Reaches (halfOf v) k e d → size d ≤ sizeLimit) → (s ≡ spent) × (n ≡ l)
     stopped-early value {n = n} {f = f} w r l q small =
         let o = onward q n l in
-        absurd (final f (o .1) w (subst (λ (x : Term). Step h x (o .1)) (only n (o .0) f (o .2) r) (o .3)))
+        absurd (final f (o .1) w (subst (λ (x : Term). Step (halfOf v) x (o .1)) (only n (o .0) f (o .2) r) (o .3)))
     stopped-early spent w r l q small = (refl, w .1)
     stopped-early room {n = n} w r l q small =
         let z : size (w .2 .0) ≤ sizeLimit = small (suc n) (w .2 .0) l (r-suc r (w .2 .1)) in
@@ -36,16 +38,16 @@ module _
         absurd (omega arith)
 
     -- two runs that stopped after the same steps, at one term
-    same-stop : (s t : Stop) {l k : ℕ} (n : ℕ) (f : Term) → l ≤ k → StopsBy h s l n f → StopsBy h t k n f → s ≢ spent → s ≡ t
-    same-stop value value n f i v w d = refl
-    same-stop value spent n f i v w d = absurd (w .0 v)
-    same-stop value room n f i v w d = absurd (w .0 v)
-    same-stop spent t n f i v w d = absurd (d refl)
-    same-stop room value n f i v w d = absurd (v .0 w)
-    same-stop room spent n f i v w d = absurd (omega (arith, v .1, w .1))
-    same-stop room room n f i v w d = refl
+    same-stop : (s t : Stop) {l k : ℕ} (n : ℕ) (f : Term) → l ≤ k → StopsBy (halfOf v) s l n f → StopsBy (halfOf v) t k n f → s ≢ spent → s ≡ t
+    same-stop value value n f i u w d = refl
+    same-stop value spent n f i u w d = absurd (w .0 u)
+    same-stop value room n f i u w d = absurd (w .0 u)
+    same-stop spent t n f i u w d = absurd (d refl)
+    same-stop room value n f i u w d = absurd (u .0 w)
+    same-stop room spent n f i u w d = absurd (omega (arith, u .1, w .1))
+    same-stop room room n f i u w d = refl
 
-    module _ {l k : ℕ} {r q : Result} (x : TakesSteps h e l r) (y : TakesSteps h e k q) (i : l ≤ k) where
+    module _ {l k : ℕ} {r q : Result} (x : TakesSteps v e l r) (y : TakesSteps v e k q) (i : l ≤ k) where
       -- the one whose limit is no higher stopped no later
       no-later : x .steps ≤ y .steps
       no-later =
@@ -72,7 +74,7 @@ module _
           let n : x .steps ≡ y .steps =
           elim (decLt (x .steps) (y .steps)) [ yes a ↦ absurd (d (earlier a .0)) | no u ↦ omega (arith, no-later) ] in
           let f : x .term ≡ y .term =
-          only (y .steps) (x .term) (y .term) (subst (λ (j : ℕ). Reaches h j e (x .term)) n (x .reached)) (y .reached) in
-          let w : StopsBy h (y .stop) k (x .steps) (x .term) = subst₂ (λ (j : ℕ) (g : Term). StopsBy h (y .stop) k j g) (sym n) (sym f) (y .why) in
+          only (y .steps) (x .term) (y .term) (subst (λ (j : ℕ). Reaches (halfOf v) j e (x .term)) n (x .reached)) (y .reached) in
+          let w : StopsBy (halfOf v) (y .stop) k (x .steps) (x .term) = subst₂ (λ (j : ℕ) (g : Term). StopsBy (halfOf v) (y .stop) k j g) (sym n) (sym f) (y .why) in
           let s : x .stop ≡ y .stop = same-stop (x .stop) (y .stop) (x .steps) (x .term) i (x .why) w d in
-          x .says ∙ end-result-alike s n f ∙ sym (y .says)
+          x .says ∙ end-result-alike v s n f ∙ sym (y .says)

@@ -1,5 +1,5 @@
--- All samples marked M hold of the definitions, by one computation, and so do the books of the field reads, of sums and choices and of the
--- refusals; closed facts beside them.
+-- All samples marked M hold of the definitions, by one computation, and so do the books of the field reads, of sums and choices, of bodies, of numbers of
+-- 48 bits and of the refusals; closed facts beside them.
 -- Assumes nothing.
 use Prim.Native.Nat.{ℕ}
 use mathlib.Core.Path.{_≡_, refl, _∙_}
@@ -14,11 +14,14 @@ use Rattle.calculus.specs.Decide.{topLike?, bothParts, fieldPart, typeOf, below
 use Rattle.calculus.specs.Decide.{sameUnder, sameInteger, sameType, sameTerm, eachPart, consistentLit, consistentLam, consistentRcd, consistent?}
 use Rattle.calculus.specs.Infer.{lookup, checked, applied, picked, projected, labelled, mergeable?, merged, infer}
 use Rattle.calculus.specs.Evaluate.{mergeBoth, firstPart, castInt, castArrow, castField, cast, apply, content, topValue, readParts, project, numberOf, choose, add, next}
-use Rattle.format.specs.Table.{All, table, rowIn, rowOf}
-use Rattle.format.specs.Cell.{half, cellAt, cellBytes, signed, unsigned}
+use Rattle.format.specs.declared.Version.the-variants.{One}
+use Rattle.format.specs.Version.{halfOf}
+use Rattle.format.specs.Table.{All, table, rowIn, rowFor}
+use Rattle.format.specs.Cell.{cellAt, cellBytes, signed, unsigned}
 use Rattle.format.specs.Tree.{cells, fieldTree, cellTree, unshareWithin, treeAt, refer, encode}
-use Rattle.format.specs.Terms.{fromType, fromTerm, plainOf, toType, toTerm}
-use Rattle.format.specs.Book.{firstBad, rowFault, cellFault, cellsFinding, rootFinding, cellsForm, formFinding, follow, rootTerm, trailer, book}
+use Rattle.format.specs.Terms.{fromType, fromTermIn, plainOf, toType, toTermIn}
+use Rattle.format.specs.Book.{firstBad, rowFault, cellFault, cellsFinding, rootFinding, cellsForm, formFinding, versionOf, follow, rootTerm, trailer, book}
+use Rattle.format.specs.Widths.{extendedCells, restamp}
 use Rattle.answers.specs.Answer.{spent, room, refused, Result, result}
 use Rattle.answers.specs.Engine.{IsWork, zeros, padded}
 use Rattle.answers.specs.Definition.{definition, refusalResult, afterTyping, afterForm, shown, full?, firstStop, ended, evaluate, endResult, reported}
@@ -30,10 +33,11 @@ use Rattle.answers.specs.Samples.{appliedTop, appliedNumber, hiddenField
 use Rattle.answers.specs.Samples.{mergedField, missingField, twoFields, topLikeBesideField, topLikeFields, topLikeContent, loneTopLike, topLikeFunction, nestedParts, hiddenUnannotated, laterMerge, twoFieldsBesideTop, topLikeOtherLabel, topPart, loneFunction, loneOtherLabel, fieldReads}
 use Rattle.answers.specs.Samples.{onePlusTwo, pastUpperEnd, pastLowerEnd, atUpperEnd, atLowerEnd, bothEnds, sumOfSums, mergedSide, mergedRightSide, topPlusVariable, onePlusTop, choiceByZero, choiceByOne, choiceByMinusOne, choiceByHigh, waitingLoop, annotatedBranch, choiceByTop, topForZero, topForOther, freeInOther, sumMerged, equalBodies, exchangedBodies, equalChoices, exchangedChoices, otherThirdPart, choiceInBody, sumInBody, triangle, sumNamesC, labelledSum, labelledChoice, choiceOfItself, choiceOfType, unknownKind, sumsAndChoices}
 use Rattle.answers.specs.Samples.{sameBody, otherBody, openedBodies, unevenSharing, otherLabel, otherHighHalf, otherLowHalf, otherTypeInBody, otherLastField, otherInput, disjointBodies, unreachedChains, bodies}
+use Rattle.answers.specs.Samples.{wideNumber, wideMinusOne, pastWideUpperEnd, pastWideLowerEnd, above32, below32, lowestInOne, lowestInTwo, labelledNumber, unequalInTwo, unequalAbove32, equalAbove32, otherAbove32, choiceAbove32, choiceAbove16, choiceLow, choiceNone, versionThree, versionZero, identityInTwo, restampedHiddenField, minusFive, restampedMinusFive, wideNumbers}
 
 -- to name it on a line is to unfold every definition that a computation of an answer meets, but for the zero tail
 unfoldable pub computing : ℕ
-unfolding size size-type substitute topLike? bothParts fieldPart typeOf belowWithin below? disjointInt disjointArrow disjointField disjoint? value? closed? decide sameUnder sameInteger ℕ-discrete sameType sameTerm eachPart consistentLit consistentLam consistentRcd consistent? lookup checked applied picked projected labelled mergeable? merged infer orElse mergeBoth firstPart castInt castArrow castField cast apply content topValue readParts project hold chosen numberOf choose add next table rowIn rowOf cellAt cellBytes signed unsigned cells fieldTree cellTree unshareWithin treeAt refer encode fromType fromTerm plainOf toType toTerm firstBad rowFault cellFault cellsFinding rootFinding cellsForm formFinding follow rootTerm trailer book refusalResult afterTyping afterForm shown full? firstStop evaluate endResult padded
+unfolding size size-type substitute topLike? bothParts fieldPart typeOf belowWithin below? disjointInt disjointArrow disjointField disjoint? value? closed? decide sameUnder sameInteger ℕ-discrete sameType sameTerm eachPart consistentLit consistentLam consistentRcd consistent? lookup checked applied picked projected labelled mergeable? merged infer orElse mergeBoth firstPart castInt castArrow castField cast apply content topValue readParts project hold chosen numberOf choose add next table rowIn rowFor cellAt cellBytes signed unsigned cells fieldTree cellTree unshareWithin treeAt refer encode fromType fromTermIn plainOf toType toTermIn firstBad rowFault cellFault cellsFinding rootFinding cellsForm formFinding follow rootTerm trailer book refusalResult afterTyping afterForm shown full? firstStop evaluate endResult padded
 computing = 0
 
 -- with a work buffer of 65,536 bytes the rows from 2 on decide
@@ -46,7 +50,7 @@ answered : Sample → Result
 answered s = by (s .call)
   where
     by : Call → Result
-    by Samples.check = afterForm (s .book) shown (formFinding (s .book))
+    by Samples.check = afterForm (s .book) (shown (versionOf (s .book))) (formFinding (s .book))
     by (Samples.run l) = afterForm (s .book) (reported (s .book) l) (formFinding (s .book))
 
 -- the one computation
@@ -59,7 +63,7 @@ unfolding answered check run
 as-answered s w k = by (s .call) refl
   where
     by : (c : Call) → s .call ≡ c → called definition (s .call) (s .book) w ≡ answered s
-    by Samples.check e = rw (e, called, answered) (in-work (s .book) w shown k)
+    by Samples.check e = rw (e, called, answered) (in-work (s .book) w (shown (versionOf (s .book))) k)
     by (Samples.run l) e = rw (e, called, answered) (in-work (s .book) w (reported (s .book) l) k)
 
 each : (ss : List Sample) → map answered ss ≡ map expected ss → All (Meets definition) ss
@@ -90,6 +94,13 @@ bodies-computed = refl
 pub bodies-hold : All (Meets definition) bodies
 bodies-hold = each bodies bodies-computed
 
+wide-numbers-computed : map answered wideNumbers ≡ map expected wideNumbers
+unfolding computing answered wideNumbers pastUpperEnd pastLowerEnd wideNumber wideMinusOne pastWideUpperEnd pastWideLowerEnd above32 below32 lowestInOne lowestInTwo labelledNumber unequalInTwo unequalAbove32 equalAbove32 otherAbove32 choiceAbove32 choiceAbove16 choiceLow choiceNone versionThree versionZero identityInTwo restampedHiddenField minusFive restampedMinusFive
+wide-numbers-computed = refl
+
+pub wide-numbers-hold : All (Meets definition) wideNumbers
+wide-numbers-hold = each wideNumbers wide-numbers-computed
+
 refusals-computed : map answered refusals ≡ map expected refusals
 unfolding computing answered refusals unequalNumbers appliedNumber doubled
 refusals-computed = refl
@@ -99,27 +110,33 @@ refusals-hold = each refusals refusals-computed
 
 -- ---- closed facts beside the samples
 
+-- With a sum, a restamped book may run to another number: the last two.
+restamped-books :
+    map restamp (hiddenField ∷ minusFive ∷ pastUpperEnd ∷ pastLowerEnd ∷ []) ≡ (restampedHiddenField ∷ restampedMinusFive ∷ above32 ∷ below32 ∷ [])
+unfolding cellAt cellBytes extendedCells restamp trailer hiddenField minusFive pastUpperEnd pastLowerEnd restampedHiddenField restampedMinusFive above32 below32
+restamped-books = refl
+
 -- The fixpoint at Int whose body is its own variable: sizes 3, 5, 7, .. With room for 5 the third term is too large.
 abbrev growing : Term
 growing = fix (var 0) int
 
 -- limit 0: spent, 0
-growing-0 : evaluate half 5 0 0 growing ≡ ended spent 0 growing
+growing-0 : evaluate (halfOf One) 5 0 0 growing ≡ ended spent 0 growing
 unfolding computing
 growing-0 = refl
 
 -- limit 1: spent after 1, "else no room": the third term is not asked for
-growing-1 : evaluate half 5 1 0 growing ≡ ended spent 1 (anno growing int)
+growing-1 : evaluate (halfOf One) 5 1 0 growing ≡ ended spent 1 (anno growing int)
 unfolding computing
 growing-1 = refl
 
 -- limit 2: no room, 1 step
-growing-2 : evaluate half 5 2 0 growing ≡ ended room 1 (anno growing int)
+growing-2 : evaluate (halfOf One) 5 2 0 growing ≡ ended room 1 (anno growing int)
 unfolding computing
 growing-2 = refl
 
 -- A choice's other branch counts until it goes: with room for 7 the tested part, of 3 cells, cannot become one of 5.
-waiting-branch-counts : evaluate half 7 1 0 (choice growing (lit (pos 1)) (lit (pos 2))) ≡ ended room 0 (choice growing (lit (pos 1)) (lit (pos 2)))
+waiting-branch-counts : evaluate (halfOf One) 7 1 0 (choice growing (lit (pos 1)) (lit (pos 2))) ≡ ended room 0 (choice growing (lit (pos 1)) (lit (pos 2)))
 unfolding computing
 waiting-branch-counts = refl
 

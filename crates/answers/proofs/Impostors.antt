@@ -5,7 +5,6 @@ use mathlib.Core.Bool.{Bool, true, false, _&&_, and-eq-true-iff}
 use mathlib.Core.Logic.{_≢_}
 use mathlib.Core.Option.{none}
 use mathlib.Core.List.{List, [], _∷_, _++_}
-use native.Mathlib.Nat.{le-refl}
 use native.Mathlib.Decide.{decLe}
 use native.Mathlib.Omega.{arith}
 use lib.Dec.{T, ltb, ltb→lt, lit<}
@@ -19,25 +18,21 @@ use Rattle.calculus.specs.Decide.{value?}
 use Rattle.calculus.proofs.Chain.{reaches-unique}
 use Rattle.calculus.proofs.Soundness.{value-no-step}
 use Rattle.calculus.proofs.Inference.{infer-says}
-use Rattle.format.specs.Cell.{IsBytes, half}
-use Rattle.format.specs.Book.{sizeLimit, formFinding, WellFormed, rootTerm, termBook}
+use Rattle.format.specs.Version.{halfOf}
+use Rattle.format.specs.Cell.{IsBytes}
+use Rattle.format.specs.Book.{sizeLimit, formFinding, WellFormed, versionOf, rootTerm, termBook}
 use Rattle.format.proofs.Tests.{formFinding-says}
-use Rattle.answers.specs.Answer.{Stop, value, spent, room, accepted, stopped, stepsOf, Result, result}
+use Rattle.answers.specs.Answer.{Stop, value, spent, accepted, stopped, stepsOf, Result, result}
 use Rattle.answers.specs.Engine.{Engine, workLength, IsWork, IsLimit, zeros, padded}
 use Rattle.answers.specs.Definition.{definition, run, refusalResult, endResult, Ended, ending}
-use Rattle.answers.specs.Demands.{Accepts, TakesSteps, Demand2, Demand3For, Demand3}
+use Rattle.answers.specs.Demands.{Accepts, Demand2, Demand3For, Demand3}
 use Rattle.answers.specs.Impostors.{posing, atMostOne, hurried, early, figured, inventedSteps, repeating, repeatsFirst, returnsBook, fixedReply}
 use Rattle.answers.specs.Impostors.{RefusesAll, oneRefusal, Impostors}
 use Rattle.answers.specs.Samples.{line, equalNumbers, unequalNumbers, twiceRead}
 use Rattle.answers.proofs.Reaching.{onward}
 use Rattle.answers.proofs.Running.{Ran, evaluate-value, evaluate-spent}
-use Rattle.answers.proofs.Agreement.{end-result-alike, lesser-steps, same-result}
-use Rattle.answers.proofs.Demands.{outcome, work-at-hand, refused-accepted, typed-accepts, root-ran, demand2, demand3}
+use Rattle.answers.proofs.Demands.{clash, runs-unique, outcome, work-at-hand, refused-accepted, typed-accepts, root-ran, demand2, demand3}
 use Rattle.answers.proofs.AllSamples.{computing}
-
--- what `cc` finds in an equation of two constructors
-clash : ¬ (_≡_ {A = ℕ} 0 1)
-clash z = omega arith
 
 -- ---- the witnesses
 
@@ -98,34 +93,6 @@ unequal-untyped A t = let p : Infer.refused conflict [] ≡ found A = infer-says
 
 -- ---- what the demands leave to an engine
 
-spent? : (s : Stop) → Dec (s ≡ spent)
-spent? value = no (λ h. clash cc)
-spent? spent = yes refl
-spent? room = no (λ h. clash cc)
-
--- a run of a typed term has one answer
-runs-unique : {h : ℕ} {e : Term} {A : Ty} {l : ℕ} {r q : Result} → Typed [] e A → TakesSteps h e l r → TakesSteps h e l q → r ≡ q
-runs-unique {h} {e} {l = l} t x y =
-    elim (spent? (x .stop)) [
-      | no n ↦ same-result only final x y (le-refl l) n
-      | yes p ↦ elim (spent? (y .stop)) [
-        | no n ↦ sym (same-result only final y x (le-refl l) n)
-        | yes k ↦ x .says ∙ end-result-alike (p ∙ sym k) steps term ∙ sym (y .says)
-      ]
-    ]
-  where
-    only : (n : ℕ) (f g : Term) → Reaches h n e f → Reaches h n e g → f ≡ g
-    only n f g u v = reaches-unique t v u
-
-    final : (f g : Term) → IsValue f → ¬ Step h f g
-    final f g v = value-no-step (v .1)
-
-    steps : x .steps ≡ y .steps
-    steps = omega (arith, lesser-steps only final x y (le-refl l), y .taken)
-
-    term : x .term ≡ y .term
-    term = only (x .steps) (x .term) (y .term) (x .reached) (subst⁻¹ (λ (n : ℕ). Reaches h n e (y .term)) steps (y .reached))
-
 module _ {b : List ℕ} {A : Ty} (a : Accepted b A) where
   true-accepts : Accepts definition b
   true-accepts = typed-accepts b (a .formed, (A, a .typed))
@@ -136,26 +103,26 @@ module _ {b : List ℕ} {A : Ty} (a : Accepted b A) where
       let e : Accepts E b = d b (a .bytes) .accepts .1 (a .formed, (A, a .typed)) in
       runs-unique (a .typed) (d b (a .bytes) .runs e w l k h) (demand2 b (a .bytes) .runs true-accepts w l k h)
 
-  true-ran : (l : ℕ) → Ran half (rootTerm b) l (ending b l)
+  true-ran : (l : ℕ) → Ran (halfOf (versionOf b)) (rootTerm b) l (ending b l)
   true-ran l = root-ran b l (a .bytes) (a .formed) (a .typed)
 
   -- the only term after the steps of a true run is its last
-  true-term : (l : ℕ) {f : Term} → Reaches half (ending b l .steps) (rootTerm b) f → f ≡ ending b l .term
+  true-term : (l : ℕ) {f : Term} → Reaches (halfOf (versionOf b)) (ending b l .steps) (rootTerm b) f → f ≡ ending b l .term
   true-term l r = reaches-unique (a .typed) (true-ran l .reached) r
 
   -- and past a value there is none
-  no-further : (l : ℕ) {n : ℕ} {f : Term} → IsValue (ending b l .term) → Reaches half n (rootTerm b) f → n ≤ ending b l .steps
+  no-further : (l : ℕ) {n : ℕ} {f : Term} → IsValue (ending b l .term) → Reaches (halfOf (versionOf b)) n (rootTerm b) f → n ≤ ending b l .steps
   no-further l {n} v r =
       elim (decLe n (ending b l .steps)) [
         | yes h ↦ h
         | no u ↦
             let o = onward r (ending b l .steps) (omega arith) in
-            absurd (value-no-step (v .1) (subst (λ (e : Term). Step half e (o .1)) (true-term l (o .2)) (o .3)))
+            absurd (value-no-step (v .1) (subst (λ (e : Term). Step (halfOf (versionOf b)) e (o .1)) (true-term l (o .2)) (o .3)))
       ]
 
 -- ---- engines that check and refuse truly; the definitions are such an engine
 
-posing-true : posing (λ b l. endResult (ending b l)) ≡ definition
+posing-true : posing (λ b l. endResult (versionOf b) (ending b l)) ≡ definition
 unfolding posing run
 posing-true = refl
 
@@ -171,16 +138,16 @@ module _ (g : List ℕ → ℕ → Result) {b : List ℕ} {A : Ty} (a : Accepted
   posing-runs w l k = outcome b w (λ A. g b l) A k (a .formed) (a .typed)
 
   -- demand 2: g gives the true run's answer
-  posing-2 : Demand2 (posing g) → (l : ℕ) → IsLimit l → g b l .answer ≡ endResult (ending b l) .answer
+  posing-2 : Demand2 (posing g) → (l : ℕ) → IsLimit l → g b l .answer ≡ endResult (versionOf b) (ending b l) .answer
   unfolding run
   posing-2 d l h =
       let w = zeros workLength in
-      let true-run = outcome b w (λ A. endResult (ending b l)) A work-at-hand (a .formed) (a .typed) in
+      let true-run = outcome b w (λ A. endResult (versionOf b) (ending b l)) A work-at-hand (a .formed) (a .typed) in
       ap (λ (r : Result). r .answer) (sym (posing-runs w l work-at-hand) ∙ demand2-determines a (posing g) d w l work-at-hand h ∙ true-run)
 
   -- demand 3: g encodes the term reached after the steps that it reports;
   posing-3 : Demand3 (posing g) → (l : ℕ) → IsLimit l →
-      (s : Stop) × (n : ℕ) × (f : Term) × Reaches half n (rootTerm b) f × (g b l ≡ result (stopped s n) (padded (termBook f)))
+      (s : Stop) × (n : ℕ) × (f : Term) × Reaches (halfOf (versionOf b)) n (rootTerm b) f × (g b l ≡ result (stopped s n) (padded (termBook (versionOf b) f)))
   posing-3 d l h =
       let w = zeros workLength in
       let x = d b (a .bytes) posing-accepts .encodes w l work-at-hand h in
@@ -188,12 +155,12 @@ module _ (g : List ℕ → ℕ → Result) {b : List ℕ} {A : Ty} (a : Accepted
 
   -- which is the last term of the true run of as many
   posing-encodes : Demand3 (posing g) → (l m : ℕ) → IsLimit l → stepsOf (g b l .answer) ≡ ending b m .steps →
-      g b l .left ≡ padded (termBook (ending b m .term))
+      g b l .left ≡ padded (termBook (versionOf b) (ending b m .term))
   posing-encodes d l m h q =
       let x = posing-3 d l h in
       let n : x .1 ≡ ending b m .steps = sym (ap (λ (r : Result). stepsOf (r .answer)) (x .4)) ∙ q in
-      let r : Reaches half (ending b m .steps) (rootTerm b) (x .2) = rw n at (x .3) in
-      ap (λ (r : Result). r .left) (x .4) ∙ ap (λ (f : Term). padded (termBook f)) (true-term a m r)
+      let r : Reaches (halfOf (versionOf b)) (ending b m .steps) (rootTerm b) (x .2) = rw n at (x .3) in
+      ap (λ (r : Result). r .left) (x .4) ∙ ap (λ (f : Term). padded (termBook (versionOf b) f)) (true-term a m r)
 
 -- ---- `room` or `spent` early
 
@@ -207,7 +174,7 @@ module _ (s : Stop) {b : List ℕ} {A : Ty} (a : Accepted b A) where
   abbrev behind : ℕ → Ended
   behind l = ending b (atMostOne l)
 
-  early-runs : (w : List ℕ) (l : ℕ) → IsWork w → early s .run b w l ≡ endResult (hurried s (behind l))
+  early-runs : (w : List ℕ) (l : ℕ) → IsWork w → early s .run b w l ≡ endResult (versionOf b) (hurried s (behind l))
   unfolding early
   early-runs w l k = posing-runs _ a w l k
 
@@ -217,14 +184,14 @@ module _ (s : Stop) {b : List ℕ} {A : Ty} (a : Accepted b A) where
   early-lesser (suc l) zero h = absurd (omega arith)
   early-lesser (suc l) (suc m) h = omega (arith, true-ran a 1 .taken)
 
-  early-same : (l m : ℕ) → l ≤ m → ((n : ℕ) → endResult (hurried s (behind l)) .answer ≢ stopped spent n) →
-      endResult (hurried s (behind l)) ≡ endResult (hurried s (behind m))
+  early-same : (l m : ℕ) → l ≤ m → ((n : ℕ) → endResult (versionOf b) (hurried s (behind l)) .answer ≢ stopped spent n) →
+      endResult (versionOf b) (hurried s (behind l)) ≡ endResult (versionOf b) (hurried s (behind m))
   unfolding atMostOne endResult hurried
   early-same zero m h n = go (value? (rootTerm b)) refl
     where
-      go : (v : Bool) → value? (rootTerm b) ≡ v → endResult (hurried s (behind 0)) ≡ endResult (hurried s (behind m))
-      go true p = rw (evaluate-value half sizeLimit 0 0 (rootTerm b) p, evaluate-value half sizeLimit (atMostOne m) 0 (rootTerm b) p)
-      go false p = absurd (n 0 (rw (evaluate-spent half sizeLimit 0 (rootTerm b) p)))
+      go : (v : Bool) → value? (rootTerm b) ≡ v → endResult (versionOf b) (hurried s (behind 0)) ≡ endResult (versionOf b) (hurried s (behind m))
+      go true p = rw (evaluate-value (halfOf (versionOf b)) sizeLimit 0 0 (rootTerm b) p, evaluate-value (halfOf (versionOf b)) sizeLimit (atMostOne m) 0 (rootTerm b) p)
+      go false p = absurd (n 0 (rw (evaluate-spent (halfOf (versionOf b)) sizeLimit 0 (rootTerm b) p)))
   early-same (suc l) zero h n = absurd (omega arith)
   early-same (suc l) (suc m) h n = refl
 

@@ -6,3 +6,4 @@ pub mod Agreement
 pub mod Demands
 pub mod Impostors
 pub mod Cases
+pub mod Restamping

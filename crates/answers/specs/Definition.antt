@@ -11,8 +11,9 @@ use Rattle.calculus.specs.Infer.{Found, found, infer}
 use Rattle.calculus.specs.Infer as Infer
 use Rattle.calculus.specs.Decide.{value?}
 use Rattle.calculus.specs.Evaluate.{next}
-use Rattle.format.specs.Cell.{half}
-use Rattle.format.specs.Book.{Finding, sizeLimit, formFinding, rootOf, follow, rootTerm, typeBook, termBook}
+use Rattle.format.specs.declared.Version.{Version}
+use Rattle.format.specs.Version.{halfOf}
+use Rattle.format.specs.Book.{Finding, sizeLimit, formFinding, versionOf, rootOf, follow, rootTerm, typeBook, termBook}
 use Rattle.answers.specs.Answer.{faultNumber, reasonNumber, Stop, value, spent, room, refused, accepted, stopped, Result, result}
 use Rattle.answers.specs.Engine.{Engine, workLength, zeros, padded}
 
@@ -34,9 +35,9 @@ afterForm b g (some f) = refusalResult (faultNumber (f .fault)) (f .cell)
 unfoldable pub judge : List ℕ → List ℕ → (Ty → Result) → Result
 judge b w g = elim (eqb (length w) workLength) [ true ↦ afterForm b g (formFinding b) | false ↦ result (refused 1 0) w ]
 
--- "A check lays down the type and gives its size"
-unfoldable pub shown : Ty → Result
-shown A = result (accepted (size-type A)) (padded (typeBook A))
+-- "A check lays down the type and gives its size"; "A laid-down book has the version it came from."
+unfoldable pub shown : Version → Ty → Result
+shown v A = result (accepted (size-type A)) (padded (typeBook v A))
 
 -- How a run ended: why, after how many steps, at which term.
 pub record Ended : Type 0 where
@@ -66,21 +67,21 @@ evaluate h l (suc m) n e =
       | some s ↦ ended s n e
     ]
 
--- "Each carries the steps taken and lays down the term reached."
-unfoldable pub endResult : Ended → Result
-endResult r = result (stopped (r .stop) (r .steps)) (padded (termBook (r .term)))
+-- "Each carries the steps taken and lays down the term reached", in the version that it came from.
+unfoldable pub endResult : Version → Ended → Result
+endResult v r = result (stopped (r .stop) (r .steps)) (padded (termBook v (r .term)))
 
--- How the run of a book with the limit l ends: sums are "held to the ends of the 32-bit range".
+-- How the run of a book with the limit l ends: "Sums in version 2 are held to the ends of 48 bits, in version 1 to those of 32."
 abbrev pub ending : List ℕ → ℕ → Ended
-ending b l = evaluate half sizeLimit l 0 (rootTerm b)
+ending b l = evaluate (halfOf (versionOf b)) sizeLimit l 0 (rootTerm b)
 
 -- A run answers the same whatever type is found.
 abbrev pub reported : List ℕ → ℕ → Ty → Result
-reported b l A = endResult (ending b l)
+reported b l A = endResult (versionOf b) (ending b l)
 
 -- "A library checks a book .. and shows its type."
 unfoldable pub check : List ℕ → List ℕ → Result
-check b w = judge b w shown
+check b w = judge b w (shown (versionOf b))
 
 -- It "runs it for at most a given number of steps".
 unfoldable pub run : List ℕ → List ℕ → ℕ → Result

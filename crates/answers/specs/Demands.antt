@@ -1,5 +1,5 @@
--- Demands 2 and 3, of any engine E: written with the relations of the calculus and the format of a book. A book's sums are "held to the ends of the
--- 32-bit range": what a run is stands over half of the range, h, and the demands take it at 2 ^ 31. Assumes nothing.
+-- Demands 2 and 3, of any engine E: written with the relations of the calculus and the format of a book. "Comparison with the calculus is made for each
+-- version at its own range": what a run is stands over the version, and a book's own is taken. Assumes nothing.
 use Prim.Native.Nat.{ℕ, _≤_, _<_, min}
 use mathlib.Core.Path.{_≡_}
 use mathlib.Core.Logic.{_↔_, _≢_}
@@ -8,8 +8,10 @@ use Rattle.calculus.specs.Syntax.{Ty, size-type, Term, size, IsValue}
 use Rattle.calculus.specs.Subtyping.{Below}
 use Rattle.calculus.specs.Typing.{Typed}
 use Rattle.calculus.specs.Step.{Step, Reaches, Ends}
-use Rattle.format.specs.Cell.{IsBytes, half}
-use Rattle.format.specs.Book.{sizeLimit, WellFormed, rootTerm, typeBook, termBook}
+use Rattle.format.specs.declared.Version.{Version}
+use Rattle.format.specs.Version.{halfOf}
+use Rattle.format.specs.Cell.{IsBytes}
+use Rattle.format.specs.Book.{sizeLimit, WellFormed, versionOf, rootTerm, typeBook, termBook}
 use Rattle.answers.specs.Answer.{Stop, value, spent, room, accepted, stopped, stepsOf, Result, result}
 use Rattle.answers.specs.Engine.{Engine, IsWork, IsLimit, padded}
 
@@ -27,16 +29,17 @@ StopsBy h value limit n f = IsValue f
 StopsBy h spent limit n f = (¬ IsValue f) × (n ≡ limit)
 StopsBy h room limit n f = (¬ IsValue f) × (n < limit) × ((g : Term) × Step h f g × (sizeLimit < size g))
 
--- What a run of e answers, sums held to -h .. h - 1: it takes the calculus's steps, one by one, through terms of at most 4,095 cells, and encodes the last.
-pub record TakesSteps (h : ℕ) (e : Term) (limit : ℕ) (r : Result) : Type 0 where
+-- What a run of e answers, in a version and at its range: it takes the calculus's steps, one by one, through terms of at most 4,095 cells, and encodes
+-- the last.
+pub record TakesSteps (v : Version) (e : Term) (limit : ℕ) (r : Result) : Type 0 where
   pub stop : Stop
   pub steps : ℕ
   pub term : Term
-  pub says : r ≡ result (stopped stop steps) (padded (termBook term))
+  pub says : r ≡ result (stopped stop steps) (padded (termBook v term))
   pub taken : steps ≤ limit
-  pub reached : Reaches h steps e term
-  pub small : (n : ℕ) (f : Term) → n ≤ steps → Reaches h n e f → size f ≤ sizeLimit
-  pub why : StopsBy h stop limit steps term
+  pub reached : Reaches (halfOf v) steps e term
+  pub small : (n : ℕ) (f : Term) → n ≤ steps → Reaches (halfOf v) n e f → size f ≤ sizeLimit
+  pub why : StopsBy (halfOf v) stop limit steps term
 
 -- Demand 2, of one book: "A well-formed book of at most 4,095 cells, sharing opened,
 pub record Demand2For (E : Engine) (b : List ℕ) : Type 0 where
@@ -44,9 +47,9 @@ pub record Demand2For (E : Engine) (b : List ℕ) : Type 0 where
   pub accepts : Accepts E b ↔ (WellFormed b × ((A : Ty) × Typed [] (rootTerm b) A))
   -- that type is the one shown,
   pub shows : (A : Ty) → WellFormed b → Typed [] (rootTerm b) A → (w : List ℕ) → IsWork w →
-      E .check b w ≡ result (accepted (size-type A)) (padded (typeBook A))
+      E .check b w ≡ result (accepted (size-type A)) (padded (typeBook (versionOf b) A))
   -- and a run takes that calculus's steps, one by one, up to its value or to the limit that stopped it."
-  pub runs : Accepts E b → (w : List ℕ) (limit : ℕ) → IsWork w → IsLimit limit → TakesSteps half (rootTerm b) limit (E .run b w limit)
+  pub runs : Accepts E b → (w : List ℕ) (limit : ℕ) → IsWork w → IsLimit limit → TakesSteps (versionOf b) (rootTerm b) limit (E .run b w limit)
   -- A book that is not accepted is not run: it is refused as the check refuses it.
   pub refuses : ¬ Accepts E b → (w : List ℕ) (limit : ℕ) → IsLimit limit → E .run b w limit ≡ E .check b w
 
@@ -64,17 +67,17 @@ pub record Agree (limit other : ℕ) (x y : Result) : Type 0 where
 -- Demand 3, of one accepted book, whole: "whichever half each merge on the way is read from,
 pub record Demand3For (E : Engine) (b : List ℕ) : Type 0 where
   -- every term it reaches after any number of steps, with room for it or without, is the only one reached after that many;
-  pub only : (n : ℕ) (f g : Term) → Reaches half n (rootTerm b) f → Reaches half n (rootTerm b) g → f ≡ g
+  pub only : (n : ℕ) (f g : Term) → Reaches (halfOf (versionOf b)) n (rootTerm b) f → Reaches (halfOf (versionOf b)) n (rootTerm b) g → f ≡ g
   -- it is a value and has no successor under the calculus, or is no value and has exactly one;
-  pub ends : (n : ℕ) (f : Term) → Reaches half n (rootTerm b) f → Ends half f
+  pub ends : (n : ℕ) (f : Term) → Reaches (halfOf (versionOf b)) n (rootTerm b) f → Ends (halfOf (versionOf b)) f
   -- it has a type below the first;
-  pub typed : (n : ℕ) (f : Term) → Reaches half n (rootTerm b) f → (A : Ty) × (B : Ty) × Typed [] (rootTerm b) A × Typed [] f B × Below B A
+  pub typed : (n : ℕ) (f : Term) → Reaches (halfOf (versionOf b)) n (rootTerm b) f → (A : Ty) × (B : Ty) × Typed [] (rootTerm b) A × Typed [] f B × Below B A
   -- and if its size is within the limit, it is, laid down, an accepted book itself" (by every check with 65,536 bytes).
-  pub book : (n : ℕ) (f : Term) → Reaches half n (rootTerm b) f → size f ≤ sizeLimit → (w : List ℕ) → IsWork w →
-      (m : ℕ) × (E .check (termBook f) w .answer ≡ accepted m)
+  pub book : (n : ℕ) (f : Term) → Reaches (halfOf (versionOf b)) n (rootTerm b) f → size f ≤ sizeLimit → (w : List ℕ) → IsWork w →
+      (m : ℕ) × (E .check (termBook (versionOf b) f) w .answer ≡ accepted m)
   -- "And for every two step limits, two laptops running that book agree: each lays down the term reached after the steps it reports;
   pub encodes : (w : List ℕ) (limit : ℕ) → IsWork w → IsLimit limit →
-      (s : Stop) × (n : ℕ) × (f : Term) × Reaches half n (rootTerm b) f × (E .run b w limit ≡ result (stopped s n) (padded (termBook f)))
+      (s : Stop) × (n : ℕ) × (f : Term) × Reaches (halfOf (versionOf b)) n (rootTerm b) f × (E .run b w limit ≡ result (stopped s n) (padded (termBook (versionOf b) f)))
   -- one whose limit is no higher .., and unless that one was stopped for steps, both give the same answer and the same bytes."
   pub agree : (w v : List ℕ) (limit other : ℕ) → IsWork w → IsWork v → IsLimit limit → IsLimit other →
       Agree limit other (E .run b w limit) (E .run b v other)

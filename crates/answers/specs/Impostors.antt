@@ -3,6 +3,7 @@ use Prim.Native.Nat.{ℕ, zero, suc}
 use mathlib.Core.Path.{_≡_}
 use mathlib.Core.Logic.{_≢_}
 use mathlib.Core.List.{List}
+use Rattle.format.specs.Book.{versionOf}
 use Rattle.answers.specs.Answer.{Stop, value, spent, room, accepted, stopped, Result, result}
 use Rattle.answers.specs.Engine.{Engine, padded}
 use Rattle.answers.specs.Definition.{check, judge, refusalResult, endResult, Ended, ending}
@@ -23,7 +24,7 @@ hurried s r = record { stop = elim (r .steps) [ zero ↦ r .stop | suc n ↦ s ]
 
 -- "An engine that reports `room` or `spent` early, at one step wherever the book has one with room and the limit allows it"
 unfoldable pub early : Stop → Engine
-early s = posing (λ b l. endResult (hurried s (ending b (atMostOne l))))
+early s = posing (λ b l. endResult (versionOf b) (hurried s (ending b (atMostOne l))))
 
 -- The true run, but for its step figure: k makes one from the limit and the steps taken.
 unfoldable pub figured : (ℕ → ℕ → ℕ) → ℕ → Ended → Ended
@@ -31,7 +32,7 @@ figured k l r = record { stop = r .stop; steps = k l (r .steps); term = r .term 
 
 -- "one whose step figure is invented"
 unfoldable pub inventedSteps : (ℕ → ℕ → ℕ) → Engine
-inventedSteps k = posing (λ b l. endResult (figured k l (ending b l)))
+inventedSteps k = posing (λ b l. endResult (versionOf b) (figured k l (ending b l)))
 
 -- Where the limit of one step is spent, the figure counts on to the whole limit l.
 unfoldable pub repeating : ℕ → Ended → Ended
@@ -39,7 +40,7 @@ repeating l r = record { stop = r .stop; steps = elim (r .stop) [ value ↦ r .s
 
 -- one "that takes the first step truly and then repeats that term"
 unfoldable pub repeatsFirst : Engine
-repeatsFirst = posing (λ b l. endResult (repeating l (ending b (atMostOne l))))
+repeatsFirst = posing (λ b l. endResult (versionOf b) (repeating l (ending b (atMostOne l))))
 
 -- "one that hands the book back untouched"
 unfoldable pub returnsBook : Engine

@@ -2,6 +2,7 @@ pub mod Answer
 pub mod Engine
 pub mod Definition
 pub mod Demands
+pub mod Restamping
 pub mod Impostors
 pub mod Samples
 pub mod Cases

@@ -1,5 +1,5 @@
--- Document 01, "Sample books": those marked M, as one list; books for the field reads, sums and choices, and bodies of document 02, (i) to (iii); and a small book for each row from
--- 2 to 15 of "Where a book is turned back". Bytes, answers and encoded bytes are literals. Assumes nothing.
+-- Document 01, "Sample books": those marked M, as one list; books for the field reads, sums and choices, bodies, and numbers of 48 bits of document 02,
+-- (i) to (iv); and a small book for each row from 2 to 15 of "Where a book is turned back". Bytes, answers and encoded bytes are literals. Assumes nothing.
 use Prim.Native.Nat.{ℕ}
 use Prim.Native.String.{String}
 use mathlib.Core.Path.{_≡_}
@@ -1046,6 +1046,225 @@ bodies =
     ∷ sample "functions with the body x and the inputs Int and Int & Int" otherInput check (refused 14 5) []
     ∷ sample "functions with the bodies {1 = x} and {2 = x}" disjointBodies check (accepted 9) (line 1 0 0 0 0 0 0 0 ++ line 1 0 0 0 0 0 0 0 ++ line 5 1 1 0 0 0 0 0 ++ line 3 0 0 0 2 0 0 0 ++ line 1 0 0 0 0 0 0 0 ++ line 1 0 0 0 0 0 0 0 ++ line 5 2 5 0 0 0 0 0 ++ line 3 0 4 0 6 0 0 0 ++ line 4 0 3 0 7 0 0 0 ++ line 240 1 9 0 8 0 0 0)
     ∷ sample "the top value, beside two equal doubling chains that nothing reaches" unreachedChains check (accepted 1) (line 2 0 0 0 0 0 0 0 ++ line 240 1 1 0 0 0 0 0)
+    ∷ []
+
+-- "Version 2 in the trailer stores a number in bytes 2–7, signed."
+unfoldable pub wideNumber : List ℕ
+wideNumber =
+    line 17 0 0 0 0 0 0 1
+    ++ line 240 2 1 0 0 0 0 0
+
+-- all six bytes hold the sign
+unfoldable pub wideMinusOne : List ℕ
+wideMinusOne =
+    line 17 0 255 255 255 255 255 255
+    ++ line 240 2 1 0 0 0 0 0
+
+-- "Sums in version 2 are held to the ends of 48 bits"
+unfoldable pub pastWideUpperEnd : List ℕ
+pastWideUpperEnd =
+    line 17 0 255 255 255 255 255 127
+    ++ line 17 0 1 0 0 0 0 0
+    ++ line 26 0 0 0 1 0 0 0
+    ++ line 240 2 3 0 2 0 0 0
+
+-- the lower end of 48 bits
+unfoldable pub pastWideLowerEnd : List ℕ
+pastWideLowerEnd =
+    line 17 0 0 0 0 0 0 128
+    ++ line 17 0 255 255 255 255 255 255
+    ++ line 26 0 0 0 1 0 0 0
+    ++ line 240 2 3 0 2 0 0 0
+
+-- "in version 1 to those of 32": version 2 passes them
+unfoldable pub above32 : List ℕ
+above32 =
+    line 17 0 255 255 255 127 0 0
+    ++ line 17 0 1 0 0 0 0 0
+    ++ line 26 0 0 0 1 0 0 0
+    ++ line 240 2 3 0 2 0 0 0
+
+-- both ends
+unfoldable pub below32 : List ℕ
+below32 =
+    line 17 0 0 0 0 128 255 255
+    ++ line 17 0 255 255 255 255 255 255
+    ++ line 26 0 0 0 1 0 0 0
+    ++ line 240 2 3 0 2 0 0 0
+
+-- field a of a number is unnamed in version 1
+unfoldable pub lowestInOne : List ℕ
+lowestInOne =
+    line 17 0 1 0 5 0 0 0
+    ++ line 240 1 1 0 0 0 0 0
+
+-- and named in version 2
+unfoldable pub lowestInTwo : List ℕ
+lowestInTwo =
+    line 17 0 1 0 5 0 0 0
+    ++ line 240 2 1 0 0 0 0 0
+
+-- its label is not
+unfoldable pub labelledNumber : List ℕ
+labelledNumber =
+    line 17 7 1 0 0 0 0 0
+    ++ line 240 2 1 0 0 0 0 0
+
+-- consistency reads the whole number: field a,
+unfoldable pub unequalInTwo : List ℕ
+unequalInTwo =
+    line 17 0 1 0 0 0 0 0
+    ++ line 17 0 2 0 0 0 0 0
+    ++ line 22 0 0 0 1 0 0 0
+    ++ line 240 2 3 0 2 0 0 0
+
+-- and field c
+unfoldable pub unequalAbove32 : List ℕ
+unequalAbove32 =
+    line 17 0 1 0 0 0 0 0
+    ++ line 17 0 1 0 0 0 1 0
+    ++ line 22 0 0 0 1 0 0 0
+    ++ line 240 2 3 0 2 0 0 0
+
+-- equal in all three
+unfoldable pub equalAbove32 : List ℕ
+equalAbove32 =
+    line 17 0 0 0 0 0 0 1
+    ++ line 17 0 0 0 0 0 0 1
+    ++ line 22 0 0 0 1 0 0 0
+    ++ line 240 2 3 0 2 0 0 0
+
+-- bodies that differ above 32 bits alone
+unfoldable pub otherAbove32 : List ℕ
+otherAbove32 =
+    line 1 0 0 0 0 0 0 0
+    ++ line 17 0 0 0 0 0 1 0
+    ++ line 17 0 0 0 0 0 0 0
+    ++ line 21 0 1 0 0 0 0 0
+    ++ line 21 0 2 0 0 0 0 0
+    ++ line 22 0 3 0 4 0 0 0
+    ++ line 240 2 6 0 5 0 0 0
+
+-- a choice reads the whole number: 0 in fields a and b is not zero,
+unfoldable pub choiceAbove32 : List ℕ
+choiceAbove32 =
+    line 17 0 0 0 0 0 1 0
+    ++ line 17 0 1 0 0 0 0 0
+    ++ line 17 0 2 0 0 0 0 0
+    ++ line 27 0 0 0 1 0 2 0
+    ++ line 240 2 4 0 3 0 0 0
+
+-- nor is 0 in field a
+unfoldable pub choiceAbove16 : List ℕ
+choiceAbove16 =
+    line 17 0 0 0 1 0 0 0
+    ++ line 17 0 1 0 0 0 0 0
+    ++ line 17 0 2 0 0 0 0 0
+    ++ line 27 0 0 0 1 0 2 0
+    ++ line 240 2 4 0 3 0 0 0
+
+-- nor 1 in it
+unfoldable pub choiceLow : List ℕ
+choiceLow =
+    line 17 0 1 0 0 0 0 0
+    ++ line 17 0 1 0 0 0 0 0
+    ++ line 17 0 2 0 0 0 0 0
+    ++ line 27 0 0 0 1 0 2 0
+    ++ line 240 2 4 0 3 0 0 0
+
+-- 0 in all three is
+unfoldable pub choiceNone : List ℕ
+choiceNone =
+    line 17 0 0 0 0 0 0 0
+    ++ line 17 0 1 0 0 0 0 0
+    ++ line 17 0 2 0 0 0 0 0
+    ++ line 27 0 0 0 1 0 2 0
+    ++ line 240 2 4 0 3 0 0 0
+
+-- there are two versions
+unfoldable pub versionThree : List ℕ
+versionThree =
+    line 17 0 0 0 1 0 0 0
+    ++ line 240 3 1 0 0 0 0 0
+
+-- and no version 0
+unfoldable pub versionZero : List ℕ
+versionZero =
+    line 17 0 0 0 1 0 0 0
+    ++ line 240 0 1 0 0 0 0 0
+
+-- "A laid-down book has the version it came from."
+unfoldable pub identityInTwo : List ℕ
+identityInTwo =
+    line 1 0 0 0 0 0 0 0
+    ++ line 16 0 0 0 0 0 0 0
+    ++ line 21 0 1 0 0 0 0 0
+    ++ line 240 2 3 0 2 0 0 0
+
+-- the hidden field, "restamped as version 2 with each number extended by its sign" (`restamped-books` in proofs/AllSamples)
+unfoldable pub restampedHiddenField : List ℕ
+restampedHiddenField =
+    line 1 0 0 0 0 0 0 0
+    ++ line 5 2 0 0 0 0 0 0
+    ++ line 17 0 2 0 0 0 0 0
+    ++ line 24 1 2 0 0 0 0 0
+    ++ line 16 0 0 0 0 0 0 0
+    ++ line 22 0 3 0 4 0 0 0
+    ++ line 5 1 0 0 0 0 0 0
+    ++ line 19 0 5 0 6 0 0 0
+    ++ line 25 1 7 0 0 0 0 0
+    ++ line 21 0 8 0 1 0 0 0
+    ++ line 17 0 1 0 0 0 0 0
+    ++ line 24 1 10 0 0 0 0 0
+    ++ line 17 0 9 0 0 0 0 0
+    ++ line 24 2 12 0 0 0 0 0
+    ++ line 22 0 11 0 13 0 0 0
+    ++ line 20 0 9 0 14 0 0 0
+    ++ line 240 2 16 0 15 0 0 0
+
+-- -5 in version 1,
+unfoldable pub minusFive : List ℕ
+minusFive =
+    line 17 0 0 0 251 255 255 255
+    ++ line 240 1 1 0 0 0 0 0
+
+-- and restamped
+unfoldable pub restampedMinusFive : List ℕ
+restampedMinusFive =
+    line 17 0 251 255 255 255 255 255
+    ++ line 240 2 1 0 0 0 0 0
+
+-- Numbers of 48 bits, document 02, (iv): the check, and the run with a limit equal to its steps or above.
+unfoldable pub wideNumbers : List Sample
+wideNumbers =
+    sample "2^40 in version 2" wideNumber check (accepted 1) (line 1 0 0 0 0 0 0 0 ++ line 240 2 1 0 0 0 0 0)
+    ∷ sample "2^40 in version 2" wideNumber (run 10) (stopped value 0) (line 17 0 0 0 0 0 0 1 ++ line 240 2 1 0 0 0 0 0)
+    ∷ sample "-1 in version 2" wideMinusOne (run 10) (stopped value 0) (line 17 0 255 255 255 255 255 255 ++ line 240 2 1 0 0 0 0 0)
+    ∷ sample "(2^47 - 1) + 1 in version 2" pastWideUpperEnd (run 1) (stopped value 1) (line 17 0 255 255 255 255 255 127 ++ line 240 2 1 0 0 0 0 0)
+    ∷ sample "-2^47 + -1 in version 2" pastWideLowerEnd (run 1) (stopped value 1) (line 17 0 0 0 0 0 0 128 ++ line 240 2 1 0 0 0 0 0)
+    ∷ sample "2147483647 + 1 in version 2" above32 (run 1) (stopped value 1) (line 17 0 0 0 0 128 0 0 ++ line 240 2 1 0 0 0 0 0)
+    ∷ sample "2147483647 + 1 in version 1" pastUpperEnd (run 1) (stopped value 1) (line 17 0 0 0 255 255 255 127 ++ line 240 1 1 0 0 0 0 0)
+    ∷ sample "-2147483648 + -1 in version 2" below32 (run 1) (stopped value 1) (line 17 0 255 255 255 127 255 255 ++ line 240 2 1 0 0 0 0 0)
+    ∷ sample "-2147483648 + -1 in version 1" pastLowerEnd (run 1) (stopped value 1) (line 17 0 0 0 0 0 0 128 ++ line 240 1 1 0 0 0 0 0)
+    ∷ sample "a version 1 number with field a" lowestInOne check (refused 6 0) []
+    ∷ sample "the same bytes in version 2" lowestInTwo check (accepted 1) (line 1 0 0 0 0 0 0 0 ++ line 240 2 1 0 0 0 0 0)
+    ∷ sample "a version 2 number with a label" labelledNumber check (refused 6 0) []
+    ∷ sample "1 merged with 2 in version 2" unequalInTwo check (refused 14 2) []
+    ∷ sample "1 merged with 2^32 + 1" unequalAbove32 check (refused 14 2) []
+    ∷ sample "2^40 merged with 2^40" equalAbove32 check (accepted 3) (line 1 0 0 0 0 0 0 0 ++ line 1 0 0 0 0 0 0 0 ++ line 4 0 0 0 1 0 0 0 ++ line 240 2 3 0 2 0 0 0)
+    ∷ sample "2^40 merged with 2^40" equalAbove32 (run 1) (stopped value 0) (line 17 0 0 0 0 0 0 1 ++ line 17 0 0 0 0 0 0 1 ++ line 22 0 0 0 1 0 0 0 ++ line 240 2 3 0 2 0 0 0)
+    ∷ sample "functions with the bodies 2^32 and 0" otherAbove32 check (refused 14 5) []
+    ∷ sample "if 2^32 then 1 else 2" choiceAbove32 (run 2) (stopped value 2) (line 17 0 2 0 0 0 0 0 ++ line 240 2 1 0 0 0 0 0)
+    ∷ sample "if 65536 then 1 else 2 in version 2" choiceAbove16 (run 2) (stopped value 2) (line 17 0 2 0 0 0 0 0 ++ line 240 2 1 0 0 0 0 0)
+    ∷ sample "if 1 then 1 else 2 in version 2" choiceLow (run 2) (stopped value 2) (line 17 0 2 0 0 0 0 0 ++ line 240 2 1 0 0 0 0 0)
+    ∷ sample "if 0 then 1 else 2 in version 2" choiceNone (run 2) (stopped value 2) (line 17 0 1 0 0 0 0 0 ++ line 240 2 1 0 0 0 0 0)
+    ∷ sample "version 3" versionThree check (refused 3 0) []
+    ∷ sample "version 0" versionZero check (refused 3 0) []
+    ∷ sample "the identity in version 2" identityInTwo check (accepted 3) (line 1 0 0 0 0 0 0 0 ++ line 1 0 0 0 0 0 0 0 ++ line 3 0 0 0 1 0 0 0 ++ line 240 2 3 0 2 0 0 0)
+    ∷ sample "the hidden field, restamped" restampedHiddenField check (accepted 1) (line 1 0 0 0 0 0 0 0 ++ line 240 2 1 0 0 0 0 0)
+    ∷ sample "the hidden field, restamped" restampedHiddenField (run 4) (stopped value 4) (line 17 0 2 0 0 0 0 0 ++ line 240 2 1 0 0 0 0 0)
+    ∷ sample "-5 in version 1" minusFive (run 10) (stopped value 0) (line 17 0 0 0 251 255 255 255 ++ line 240 1 1 0 0 0 0 0)
+    ∷ sample "-5, restamped" restampedMinusFive (run 10) (stopped value 0) (line 17 0 251 255 255 255 255 255 ++ line 240 2 1 0 0 0 0 0)
     ∷ []
 
 -- A small book for each row from 2 to 15, with the number and the cell that it is refused with. docs/FORMAT.md has the same books.

@@ -7,13 +7,18 @@ use mathlib.Core.List.{List, [], _∷_}
 use native.Mathlib.Omega.{arith}
 use borrow.Author.Tests.{ltb-true, eqb-true, eqb-false, lt-ltb, eq-eqb, ne-eqb}
 use lib.Dec.{eqb, ltb}
-use Rattle.format.specs.Table.{Sort, type-sort, term-sort, Use, unused, plain, refers, Row, table, rowIn, rowOf}
+use Rattle.format.specs.declared.Version.{Version}
+use Rattle.format.specs.Table.{Sort, type-sort, term-sort, Use, unused, plain, refers, Row, table, rowIn, rowFor, rowOf}
 use Rattle.format.specs.Cell.{byte, cellAt}
 use Rattle.format.specs.Book.{unnamedOk, referenceOk, sortOk, sortIs}
 use Rattle.cells.specs.declared.Cell.{Cell}
 use Rattle.cells.specs.declared.Entry.{Entry}
 use Rattle.cells.specs.Coded.{asCell, useOf, rowFrom}
-use Rattle.book.specs.Form.{Named, EveryField}
+use Rattle.book.specs.Form.{versionOk, Named, EveryField}
+
+-- 3: the version
+pub other-version : (x : ℕ) → (x ≡ 1 → ⊥) → eqb x 2 ≡ versionOk x
+other-version x h = rw (ne-eqb x 1 h)
 
 -- two bytes are zero if both are
 pub low-not-zero : (x y : ℕ) → (x ≡ 0 → ⊥) → eqb (x + 256 * y) 0 ≡ false
@@ -77,10 +82,13 @@ is-term s (suc (suc (suc u))) x e h l p = rw (← h) (term-number (byte s (8 * x
 
 -- ---- every field
 
--- a cell as it was read, with its entry
-pub record Read (s : List ℕ) (i : ℕ) (e : Entry) (t : Cell) : Type 0 where
+-- a cell as it was read, with its entry in a version
+pub record Read (v : Version) (s : List ℕ) (i : ℕ) (e : Entry) (t : Cell) : Type 0 where
   pub is : asCell t ≡ cellAt s i
-  pub named : Named e t
+  pub row : rowFrom (t .kind) e ≡ rowFor v (t .kind)
+
+pub entry-named : {v : Version} {s : List ℕ} {i : ℕ} {e : Entry} {t : Cell} → Read v s i e t → Named e t
+entry-named {v} r = record { version = v; row = r .row }
 
 -- the row's uses are the entry's
 pub record Uses (w : Row) (l x y z : ℕ) : Type 0 where
@@ -117,8 +125,8 @@ three q e t = q (useOf (e .a)) (t .a) && q (useOf (e .b)) (t .b) && q (useOf (e 
 abbrev pub four : (Use → ℕ → Bool) → Entry → Cell → Bool
 four q e t = q (useOf (e .label)) (t .label) && q (useOf (e .a)) (t .a) && q (useOf (e .b)) (t .b) && q (useOf (e .c)) (t .c)
 
-pub unnamed : {e : Entry} {t : Cell} {r : Bool} → Named e t → r ≡ four unnamedOk e t → EveryField unnamedOk t r
-unnamed {e} {t} h p = record { says = λ w k. let u = uses-of (t .kind) e w (h .row ∙ k) in rw (u .label, u .a, u .b, u .c) p }
+pub unnamed : {e : Entry} {t : Cell} {r : Bool} → Named e t → r ≡ four unnamedOk e t → EveryField unnamedOk e t r
+unnamed {e} {t} h p = record { says = λ w k. let u = uses-of (t .kind) e w k in rw (u .label, u .a, u .b, u .c) p }
 
 -- No label is a reference: a question that is answered yes of all else need not ask it.
 abbrev plainUse : Use → Bool
@@ -130,9 +138,9 @@ abbrev plainLabels : List Row → Bool
 plainLabels [] = true
 plainLabels (r ∷ rs) = plainUse (r .label) && plainLabels rs
 
-tableLabels : plainLabels table ≡ true
+tableLabels : (v : Version) → plainLabels (table v) ≡ true
 unfolding table
-tableLabels = refl
+tableLabels v = refl
 
 labels : (rs : List Row) → plainLabels rs ≡ true → (k : ℕ) (w : Row) → rowIn rs k ≡ some w → plainUse (w .label) ≡ true
 unfolding rowIn
@@ -152,17 +160,17 @@ said q x g h plain p = h
 said q x g h (refers o) p = absurd (false≢true p)
 
 labelled : (q : Use → ℕ → Bool) → ((x : ℕ) → q unused x ≡ true) → ((x : ℕ) → q plain x ≡ true)
-    → {e : Entry} {t : Cell} {r : Bool} → Named e t → r ≡ three q e t → EveryField q t r
-unfolding rowOf
+    → {e : Entry} {t : Cell} {r : Bool} → Named e t → r ≡ three q e t → EveryField q e t r
+unfolding rowFor
 labelled q f g {e} {t} h p =
     record {
       says = λ w k.
-          let u = uses-of (t .kind) e w (h .row ∙ k) in
-          rw (said q (t .label) (f (t .label)) (g (t .label)) (w .label) (labels table tableLabels (t .kind) w k), u .a, u .b, u .c) p;
+          let u = uses-of (t .kind) e w k in
+          rw (said q (t .label) (f (t .label)) (g (t .label)) (w .label) (labels (table (h .version)) (tableLabels (h .version)) (t .kind) w (sym (h .row) ∙ k)), u .a, u .b, u .c) p;
     }
 
-pub references : (i : ℕ) {e : Entry} {t : Cell} {r : Bool} → Named e t → r ≡ three (referenceOk i) e t → EveryField (referenceOk i) t r
+pub references : (i : ℕ) {e : Entry} {t : Cell} {r : Bool} → Named e t → r ≡ three (referenceOk i) e t → EveryField (referenceOk i) e t r
 references i = labelled (referenceOk i) (λ x. refl) (λ x. refl)
 
-pub sorts : (s : List ℕ) {e : Entry} {t : Cell} {r : Bool} → Named e t → r ≡ three (sortOk s) e t → EveryField (sortOk s) t r
+pub sorts : (s : List ℕ) {e : Entry} {t : Cell} {r : Bool} → Named e t → r ≡ three (sortOk s) e t → EveryField (sortOk s) e t r
 sorts s = labelled (sortOk s) (λ x. refl) (λ x. refl)

@@ -1,6 +1,6 @@
 -- Rows 2 to 10 of a book, from the answers to its length, its trailer and its part of cells. Assumes nothing.
 use Prim.Native.Nat.{ℕ, _+_, _-_, _%_, _≤_, _<_}
-use mathlib.Core.Path.{_≡_, refl, sym, ap, _∙_}
+use mathlib.Core.Path.{_≡_, refl, sym, ap, ap₂, subst, _∙_}
 use mathlib.Core.Bool.{Bool, true, false, not, and-eq-true-iff}
 use mathlib.Core.Option.{Option, none, some}
 use mathlib.Core.List.{List}
@@ -9,13 +9,16 @@ use borrow.Author.Tests.{not-true, not-false, ltb-true, ltb-false, eqb-true}
 use lib.Dec.{ltb, eqb}
 use lib.ListN.{length, take, drop, length-take, length-drop}
 use lib.Seq.{getD-take, getD-drop}
+use Rattle.format.specs.declared.Version.{Version}
+use Rattle.format.specs.declared.Version.the-variants.{Two}
+use Rattle.format.specs.Version.{versionFrom}
 use Rattle.format.specs.Table.{term-sort}
 use Rattle.format.specs.Cell.{byte, pair, cellAt}
 use Rattle.format.specs.Tree.{cells, treeAt}
-use Rattle.format.specs.Book.{Fault, bad-length, bad-trailer, bad-count, Finding, count, trailerAt, rootOf, hasSort, sizeLimit}
+use Rattle.format.specs.Book.{Fault, bad-length, bad-trailer, bad-count, Finding, count, trailerAt, versionOf, rootOf, hasSort, sizeLimit}
 use Rattle.format.specs.Book.{lengthOk, trailerOk, countOk, cellsFinding, cellsForm, rootFinding, formFinding}
 use Rattle.format.proofs.Unsharing.{treeAt-same}
-use Rattle.format.proofs.Tests.{cellsForm-says}
+use Rattle.format.proofs.Tests.{cellsForm-says, cell-looser}
 use Rattle.answers.specs.Answer.{refused, faultNumber}
 use Rattle.answers.specs.Cases.{refusalAnswer}
 use Rattle.answers.specs.declared.Refusal.{Refusal}
@@ -66,6 +69,9 @@ module _ {b : List ℕ} (l : Long b) where
   pair-at : (j : ℕ) → j < 7 → pair (trailerPart b) j ≡ pair b (trailerAt b + j)
   pair-at j h = rw (at j (trailerAt b + j) (omega arith) refl, at (j + 1) (trailerAt b + j + 1) (omega arith) (omega arith))
 
+  pub version-at : versionFrom (byte (trailerPart b) 1) ≡ versionOf b
+  version-at = ap versionFrom (at 1 (trailerAt b + 1) (omega arith) refl)
+
   pub root-at : pair (trailerPart b) 4 ≡ rootOf b
   root-at = pair-at 4 (omega arith)
 
@@ -115,7 +121,7 @@ count-bad b {r} {m} {n} e h f k g i =
 pub record Counted (b : List ℕ) : Type 0 where
   pub long : Long b
   pub rooted : rootOf b < count b
-  pub rest : cellsForm b ≡ cellsFinding (cellsPart b) (count b) 0
+  pub rest : cellsForm b ≡ cellsFinding (versionOf b) (cellsPart b) (count b) 0
 
 pub counted : (b : List ℕ) {r m n : Bool} → r ≡ lengthOk b → not r ≡ false → m ≡ markOk (trailerPart b) → not m ≡ false
     → n ≡ countedOk (trailerPart b) (count b) → not n ≡ false → Counted b
@@ -128,7 +134,7 @@ counted b {r} {m} {n} e h f k g i =
       rooted = ltb-true (rootOf b) (count b) (and-eq-true-iff (eqb (pair b (trailerAt b + 2)) (count b)) (ltb (rootOf b) (count b)) .0 j .1);
       rest =
           rw (sym e ∙ not-false r h, sym (f ∙ mark-at l) ∙ not-false m k, j, cellsForm)
-          (sym (findings-same (cellsPart b) b (count b) 0 (λ x h. cell-part b (count b) x (omega arith))));
+          (sym (findings-same (versionOf b) (cellsPart b) b (count b) 0 (λ x h. cell-part b (count b) x (omega arith))));
     }
 
 bad-clear : (q : Refusal) → Bad q ≡ Clear → ⊥
@@ -148,13 +154,17 @@ nothing none r h p = refl
 nothing (some f) r h p = absurd (bad-clear (h .0) (sym (h .1) ∙ p))
 
 module _ {b : List ℕ} (k : Counted b) where
-  pub cells-bad : {r : Check} {q : Refusal} → CellsCheck (cellsPart b) (count b) r → r ≡ Bad q → FormCheck b (Malformed q)
-  unfolding formFinding
-  cells-bad {r} {q} h p =
-      form-refused b (cellsFinding (cellsPart b) (count b) 0) r q (λ f e. rw (k .rest ∙ e, formFinding)) (h .says) p
+  -- the cells are tested in the version of the trailer
+  own-version : {v : Version} {r : Check} → v ≡ versionFrom (byte (trailerPart b) 1) → CellsCheck v (cellsPart b) (count b) r → CellsCheck (versionOf b) (cellsPart b) (count b) r
+  own-version {r = r} u h = subst (λ (v : Version). CellsCheck v (cellsPart b) (count b) r) (u ∙ version-at (k .long)) h
 
-  pub cells-clear : {r : Check} → CellsCheck (cellsPart b) (count b) r → r ≡ Clear → cellsForm b ≡ none
-  cells-clear {r} h p = k .rest ∙ nothing (cellsFinding (cellsPart b) (count b) 0) r (h .says) p
+  pub cells-bad : {v : Version} {r : Check} {q : Refusal} → v ≡ versionFrom (byte (trailerPart b) 1) → CellsCheck v (cellsPart b) (count b) r → r ≡ Bad q → FormCheck b (Malformed q)
+  unfolding formFinding
+  cells-bad {r = r} {q} u h p =
+      form-refused b (cellsFinding (versionOf b) (cellsPart b) (count b) 0) r q (λ f e. rw (k .rest ∙ e, formFinding)) (own-version u h .says) p
+
+  pub cells-clear : {v : Version} {r : Check} → v ≡ versionFrom (byte (trailerPart b) 1) → CellsCheck v (cellsPart b) (count b) r → r ≡ Clear → cellsForm b ≡ none
+  cells-clear {r = r} u h p = k .rest ∙ nothing (cellsFinding (versionOf b) (cellsPart b) (count b) 0) r (own-version u h .says) p
 
   same : (x : ℕ) → x < count b → cellAt (cellsPart b) x ≡ cellAt b x
   same x h = cell-part b (count b) x h
@@ -165,7 +175,7 @@ module _ {b : List ℕ} (k : Counted b) where
       record {
         within = omega (arith, cells-length (k .long));
         few = omega (arith, k .long);
-        sound = λ x h. fault-same (cellsPart b) b x (λ y l. same y (omega arith)) ∙ cellsForm-says b .0 e .sound x (omega arith);
+        sound = λ x h. fault-same Two (cellsPart b) b x (λ y l. same y (omega arith)) ∙ cell-looser (versionOf b) b x (cellsForm-says b .0 e .sound x (omega arith));
       }
 
   -- the root's sort and size, asked of the part of cells
@@ -191,8 +201,8 @@ module _ {b : List ℕ} (k : Counted b) where
       → FormCheck b (Malformed q)
   root-bad e {i} j {r} {q} h p = form-refused b _ r q (λ f g. root-rest e ∙ g) (rw (j ∙ root-at (k .long)) at (h .says)) p
 
-  pub root-clear : cellsForm b ≡ none → {i : ℕ} → i ≡ pair (trailerPart b) 4 → {r : Check} → RootCheck (cellsPart b) i r → r ≡ Clear
-      → FormCheck b (WellFormed i)
-  root-clear e {i} j {r} h p =
+  pub root-clear : cellsForm b ≡ none → {v : Version} → v ≡ versionFrom (byte (trailerPart b) 1) → {i : ℕ} → i ≡ pair (trailerPart b) 4 → {r : Check} → RootCheck (cellsPart b) i r → r ≡ Clear
+      → FormCheck b (WellFormed v i)
+  root-clear e {v} u {i} j {r} h p =
       let is = j ∙ root-at (k .long) in
-      record { says = rw (root-rest e ∙ nothing _ r (rw is at (h .says)) p) (ap WellFormed is) }
+      record { says = rw (root-rest e ∙ nothing _ r (rw is at (h .says)) p) (ap₂ WellFormed (u ∙ version-at (k .long)) is) }

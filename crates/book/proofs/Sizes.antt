@@ -9,6 +9,7 @@ use borrow.Author.Tests.{lt-ltb}
 use native.Mathlib.Decide.{ℕ-discrete}
 use lib.ListN.{length, getD, set}
 use lib.Seq.{getD-set-same, getD-set-other}
+use Rattle.format.specs.declared.Version.the-variants.{Two}
 use Rattle.format.specs.Table.{Use, unused, plain, refers, rowOf}
 use Rattle.format.specs.Tree.{cells, fieldTree, cellTree, treeAt}
 use Rattle.format.specs.Book.{referenceOk, cellFault}
@@ -46,14 +47,14 @@ pub record Sized (s z : List ℕ) (i : ℕ) (e : Entry) (t : Cell) : Type 0 wher
   pub b-lower : 2 ≤ e .b → t .b < i
   pub c-lower : 2 ≤ e .c → t .c < i
 
-pub sized : {s : List ℕ} {z : List ℕ} {i : ℕ} {e : Entry} {t : Cell} → Read s i e t → cellFault s i ≡ none → SizesUpTo s z i → Sized s z i e t
+pub sized : {s : List ℕ} {z : List ℕ} {i : ℕ} {e : Entry} {t : Cell} → Read Two s i e t → cellFault Two s i ≡ none → SizesUpTo s z i → Sized s z i e t
 unfolding cellTree cells
 sized {s} {z} {i} {e} {t} read ok h =
-    let k = cellFault-says s i .0 ok in
+    let k = cellFault-says Two s i .0 ok in
     let w = k .row in
     let r : rowOf (t .kind) ≡ some w = rw (← read .is) at (k .found) in
     let f : Each (FieldOk s i) w (asCell t) = rw (← read .is) at (k .fields) in
-    let u = uses-of (t .kind) e w (read .named .row ∙ r) in
+    let u = uses-of (t .kind) e w (read .row ∙ r) in
     let x : FieldOk s i (useOf (e .a)) (t .a) = rw (u .a) at (f .a) in
     let y : FieldOk s i (useOf (e .b)) (t .b) = rw (u .b) at (f .b) in
     let v : FieldOk s i (useOf (e .c)) (t .c) = rw (u .c) at (f .c) in

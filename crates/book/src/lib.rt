@@ -3,18 +3,22 @@
 use answers::Refusal;
 use cells::Cell;
 use cells::Entry;
+use cells::entry_for;
 use cells::entry_of;
 use cells::read_cell;
 use cells::read_pair;
 use cells::wide;
+use format::Version;
 ghost use mathlib.Core.Path.{_≡_};
 ghost use Prim.Native.Nat.{_+_, _*_, _≤_, _<_, min};
 ghost use mathlib.Core.Option.{none};
 ghost use lib.ListN.{length};
+ghost use Rattle.format.specs.declared.Version.the-variants.{Two};
+ghost use Rattle.format.specs.Version.{versionFrom};
 ghost use Rattle.format.specs.Tree.{cells, treeAt};
 ghost use Rattle.format.specs.Book.{lengthOk, unnamedOk, referenceOk, sortOk, cellFault};
 ghost use Rattle.cells.specs.Coded.{useOf};
-ghost use Rattle.book.specs.Form.{markOk, countedOk, Named, FieldsWithin, EveryField, CellCheck, CellsCheck};
+ghost use Rattle.book.specs.Form.{versionOk, markOk, countedOk, Named, FieldsWithin, EveryField, CellCheck, CellsCheck};
 ghost use Rattle.book.specs.Form.{fieldSize, SizesUpTo, RootReady, RootCheck, FormCheck};
 
 // A type, as a use of a field or as a sort; a lower number is no reference.
@@ -35,8 +39,8 @@ pub enum Check {
 
 pub enum Form {
     Malformed(Refusal),
-    // the root cell
-    WellFormed(usize),
+    // the version and the root cell
+    WellFormed(Version, usize),
 }
 
 // 2: the length.
@@ -52,6 +56,20 @@ fn length_ok(b: &[u8]) -> bool
     b.len() % 8 == 0
 }
 
+// The version that byte 1 of the trailer stands for.
+fn version_from(x: u8) -> Version
+    ensures { λ r. ⌜ r ≡ versionFrom x ⌝ }
+{
+    if x == 1 { Version::One } else { Version::Two }
+}
+
+// 1 and 2 are versions.
+fn version_ok(x: u8) -> bool
+    ensures { λ r. ⌜ r ≡ versionOk x ⌝ }
+{
+    if x == 1 { true } else { x == 2 }
+}
+
 // 3: bytes 0, 1, 6 and 7 of the trailer.
 fn mark_ok(t: &[u8]) -> bool
     requires { ⌜ length (now t) ≡ 8 ⌝ }
@@ -60,7 +78,7 @@ fn mark_ok(t: &[u8]) -> bool
     if t[0] != 0xf0 {
         return false;
     }
-    if t[1] != 1 {
+    if !version_ok(t[1]) {
         return false;
     }
     if t[6] != 0 {
@@ -112,7 +130,7 @@ fn sort_ok(s: &[u8], u: u8, x: usize) -> bool
 // 6, of every field.
 fn unnamed_all(e: Entry, t: Cell) -> bool
     requires { ⌜ Named e t ⌝ }
-    ensures { λ r. ⌜ EveryField unnamedOk t r ⌝ }
+    ensures { λ r. ⌜ EveryField unnamedOk e t r ⌝ }
 {
     if !unnamed_ok(e.label, wide(t.label)) {
         return false;
@@ -129,7 +147,7 @@ fn unnamed_all(e: Entry, t: Cell) -> bool
 // 7, of every field; no row has a reference for a label.
 fn reference_all(i: usize, e: Entry, t: Cell) -> bool
     requires { ⌜ Named e t ⌝ }
-    ensures { λ r. ⌜ EveryField (referenceOk i) t r ⌝ }
+    ensures { λ r. ⌜ EveryField (referenceOk i) e t r ⌝ }
 {
     if !reference_ok(i, e.a, t.a) {
         return false;
@@ -144,7 +162,7 @@ fn reference_all(i: usize, e: Entry, t: Cell) -> bool
 fn sort_all(s: &[u8], e: Entry, t: Cell) -> bool
     requires { ⌜ Named e t ⌝ }
     requires { ⌜ FieldsWithin (now s) e t ⌝ }
-    ensures { λ r. ⌜ EveryField (sortOk (now (s .entry))) t r ⌝ }
+    ensures { λ r. ⌜ EveryField (sortOk (now (s .entry))) e t r ⌝ }
 {
     if !sort_ok(s, e.a, t.a) {
         return false;
@@ -155,13 +173,13 @@ fn sort_all(s: &[u8], e: Entry, t: Cell) -> bool
     sort_ok(s, e.c, t.c)
 }
 
-// Rows 5 to 8 of one cell.
-fn check_cell(s: &[u8], i: usize) -> Check
+// Rows 5 to 8 of one cell, in a book of this version.
+fn check_cell(s: &[u8], i: usize, version: Version) -> Check
     requires { ⌜ 8 * i + 8 ≤ length (now s) ⌝ }
-    ensures { λ r. ⌜ CellCheck (now (s .entry)) i r ⌝ }
+    ensures { λ r. ⌜ CellCheck version (now (s .entry)) i r ⌝ }
 {
     let t = read_cell(s, i);
-    let e = entry_of(t.kind);
+    let e = entry_for(version, t.kind);
     if e.sort < TYPE {
         return Check::Bad(Refusal::Kind(i));
     }
@@ -178,13 +196,13 @@ fn check_cell(s: &[u8], i: usize) -> Check
 }
 
 // Rows 5 to 8, cells ascending.
-fn check_cells(s: &[u8], n: usize) -> Check
+fn check_cells(s: &[u8], n: usize, version: Version) -> Check
     requires { ⌜ 8 * n ≤ length (now s) ⌝ }
-    ensures { λ r. ⌜ CellsCheck (now (s .entry)) n r ⌝ }
+    ensures { λ r. ⌜ CellsCheck version (now (s .entry)) n r ⌝ }
 {
     let mut i = 0;
     while i < n {
-        let found = check_cell(s, i);
+        let found = check_cell(s, i, version);
         let Check::Clear = found else {
             return found;
         };
@@ -214,7 +232,7 @@ fn field_size(z: &[u16; CAP], u: u8, x: usize) -> usize
 // The unshared size of cell i, capped.
 fn cell_size(s: &[u8], z: &[u16; CAP], i: usize) -> usize
     requires { ⌜ (8 * i + 8 ≤ length (now s)) × (i < 4096) ⌝ }
-    requires { ⌜ cellFault (now s) i ≡ none ⌝ }
+    requires { ⌜ cellFault Two (now s) i ≡ none ⌝ }
     requires { ⌜ SizesUpTo (now s) (now z) i ⌝ }
     ensures { λ r. ⌜ r ≡ min 4096 (cells (treeAt (now (s .entry)) i)) ⌝ }
 {
@@ -268,12 +286,13 @@ pub fn check_form(b: &[u8]) -> Form
     if !counted_ok(trailer, n) {
         return Form::Malformed(Refusal::Count);
     }
-    if let Check::Bad(q) = check_cells(cells, n) {
+    let version = version_from(trailer[1]);
+    if let Check::Bad(q) = check_cells(cells, n, version) {
         return Form::Malformed(q);
     }
     let root = read_pair(trailer, 4);
     if let Check::Bad(q) = check_root(cells, root) {
         return Form::Malformed(q);
     }
-    Form::WellFormed(root)
+    Form::WellFormed(version, root)
 }

@@ -1,6 +1,6 @@
 -- Closed facts that show what the relations and the functions that decide them say. Each is proved from the definitions alone: no theorem
 -- of the other proofs stands between. Assumes nothing.
-use Prim.Native.Nat.{ℕ, zero, suc, _-_}
+use Prim.Native.Nat.{ℕ, zero, suc, _-_, _^_}
 use mathlib.Core.Path.{_≡_, refl}
 use mathlib.Core.Logic.{_≢_, _⊎_, inl, inr}
 use mathlib.Core.Bool.{true, false, decide}
@@ -12,7 +12,7 @@ use native.Mathlib.Decide.{ℕ-discrete}
 use Rattle.calculus.specs.Syntax.{Ty, int, top, arrow, inter, field}
 use Rattle.calculus.specs.Syntax.{Term, var, lit, unit, anno, app, lam, merge, fix, rcd, proj, sum, choice, substitute, size-type}
 use Rattle.calculus.specs.Syntax.{Value, v-lit, v-unit, v-lam, v-merge, v-rcd}
-use Rattle.calculus.specs.Numbers.{half, hold, chosen}
+use Rattle.calculus.specs.Numbers.{hold, chosen}
 use Rattle.calculus.specs.Subtyping.{Below, b-int, b-top, b-left, b-right, b-arrow, b-field}
 use Rattle.calculus.specs.Disjointness.{Disjoint, h-int, h-arrow, DisjointByList}
 use Rattle.calculus.specs.Disjointness.{d-heads, d-arrow}
@@ -29,6 +29,10 @@ use Rattle.calculus.specs.Evaluate.{mergeBoth, firstPart, castInt, castA
 
 abbrev number : ℕ → Term
 number n = lit (pos n)
+
+-- half of the range that sums are held to here: the one of 32 bits
+abbrev half : ℕ
+half = 2 ^ 31
 
 one-not-two : number 1 ≢ number 2
 one-not-two p = let z : _≡_ {A = ℕ} 1 2 = cc in absurd (omega arith)

@@ -17,4 +17,5 @@ pub mod RefusalPaths
 pub mod Evaluation
 pub mod Chain
 pub mod Sums
+pub mod WithoutSums
 pub mod Agreement

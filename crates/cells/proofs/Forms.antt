@@ -5,14 +5,14 @@ use lib.IntN.{ℤ}
 use Rattle.calculus.specs.Syntax.{Ty, Term, var, lit, unit, anno, app, lam, merge, fix, rcd, proj, sum, choice, byForm, foldValue, foldParts}
 use Rattle.format.specs.Table.{term-sort}
 use Rattle.format.specs.Tree.{kindIn}
-use Rattle.format.specs.Terms.{fromTerm}
+use Rattle.format.specs.Terms.{fromTermIn}
 use Rattle.cells.proofs.Held.{kindOf}
 
 pub form-else : {X : Type 0} {n : ℤ → X} {u : X} {f : Term → Ty → Ty → X} {r : ℕ → Term → X} {z : X} (e : Term)
     → (kindOf term-sort e ≡ 17 → (i : ℤ) → n i ≡ z) → (kindOf term-sort e ≡ 18 → u ≡ z)
     → (kindOf term-sort e ≡ 21 → (b : Term) (A B : Ty) → f b A B ≡ z) → (kindOf term-sort e ≡ 24 → (l : ℕ) (b : Term) → r l b ≡ z)
     → byForm n u f r z e ≡ z
-unfolding fromTerm kindIn
+unfolding fromTermIn kindIn
 form-else (var k) p q g h = refl
 form-else (lit i) p q g h = p refl i
 form-else unit p q g h = q refl
@@ -36,7 +36,7 @@ pub record NoValue (k : ℕ) : Type 0 where
 
 pub fold-else : {X : Type 0} (n : ℤ → X) (u : X) (f : Term → Ty → Ty → X) (m : X → X → X) (r : ℕ → X → X) {z : X} (e : Term)
     → NoValue (kindOf term-sort e) → foldValue n u f m r z e ≡ z
-unfolding fromTerm kindIn
+unfolding fromTermIn kindIn
 fold-else n u g m r (var k) h = refl
 fold-else n u g m r (lit i) h = absurd (h .number refl)
 fold-else n u g m r unit h = absurd (h .top-value refl)
@@ -68,7 +68,7 @@ parts-single f m (choice e g d) h = refl
 -- and goes by form there
 pub parts-else : {X : Type 0} (n : ℤ → X) (u : X) (f : Term → Ty → Ty → X) (r : ℕ → Term → X) {z : X} (m : X → X → X) (e : Term)
     → NoValue (kindOf term-sort e) → foldParts (byForm n u f r z) m e ≡ z
-unfolding fromTerm kindIn
+unfolding fromTermIn kindIn
 parts-else n u f r m e h =
     parts-single _ m e (λ v w q. h .merged (ap (kindOf term-sort) q))
     ∙ form-else e (λ k. absurd (h .number k)) (λ k. absurd (h .top-value k)) (λ k. absurd (h .function k)) (λ k. absurd (h .recorded k))

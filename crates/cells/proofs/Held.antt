@@ -13,10 +13,12 @@ use Rattle.calculus.specs.Syntax.{Ty, int, top, arrow, inter}
 use Rattle.calculus.specs.Syntax.{Term, var, lit, unit, anno, app, merge, fix, rcd, proj, sum}
 use Rattle.calculus.specs.Decide.{topLike?}
 use Rattle.calculus.proofs.Bools.{T-and, Test, _and_, at-most}
-use Rattle.format.specs.Table.{Sort, type-sort, term-sort, Use, plain, refers, Row, table, rowIn, rowOf}
-use Rattle.format.specs.Cell.{byte, pair, Cell, cellAt, cellBytes, half, signed}
+use Rattle.format.specs.declared.Version.the-variants.{Two as Version·Two}
+use Rattle.format.specs.Version.{halfOf, stored}
+use Rattle.format.specs.Table.{Sort, type-sort, term-sort, Use, plain, refers, Row, table, rowIn, rowFor, rowOf}
+use Rattle.format.specs.Cell.{byte, pair, Cell, cellAt, cellBytes, signed}
 use Rattle.format.specs.Tree.{Tree, node, kindIn}
-use Rattle.format.specs.Terms.{fromType, fromTerm, plainOf, toType, toTerm}
+use Rattle.format.specs.Terms.{fromType, fromTermIn, fromTerm, plainOf, toType, toTermIn, toTerm}
 use Rattle.format.proofs.Encoding.{Part, cell-back}
 use Rattle.format.proofs.Tests.{All, _also_, view}
 use Rattle.cells.specs.Held.{IsCell, mark, Same, Thing, thing, Marked, Fields, HeldField, f-unused, f-plain, f-refers, Holds, HoldsType, HoldsTerm}
@@ -165,49 +167,49 @@ one-term f q h = record { term = _; is = q; lower = lower h; holds = holds h }
 
 module _ {s : List ℕ} {i : ℕ} {A : Ty} (h : HoldsType s i A) where
   pub int-at : cellAt s i .kind ≡ 1 → A ≡ int
-  unfolding table rowIn rowOf toType
+  unfolding table rowIn rowFor toType
   int-at k = h .is ∙ ap toType (by-row h k refl .is)
 
   pub top-at : cellAt s i .kind ≡ 2 → A ≡ top
-  unfolding table rowIn rowOf toType
+  unfolding table rowIn rowFor toType
   top-at k = h .is ∙ ap toType (by-row h k refl .is)
 
   pub arrow-at : cellAt s i .kind ≡ 3 → TwoTypes s i arrow A
-  unfolding table rowIn rowOf toType
+  unfolding table rowIn rowFor toType
   arrow-at k = let w = by-row h k refl in two {o = type-sort} arrow (h .is ∙ ap toType (w .is)) (w .held-a) (w .held-b)
 
   pub inter-at : cellAt s i .kind ≡ 4 → TwoTypes s i inter A
-  unfolding table rowIn rowOf toType
+  unfolding table rowIn rowFor toType
   inter-at k = let w = by-row h k refl in two {o = type-sort} inter (h .is ∙ ap toType (w .is)) (w .held-a) (w .held-b)
 
   pub field-at : cellAt s i .kind ≡ 5 → OneType s i A
-  unfolding table rowIn rowOf toType
+  unfolding table rowIn rowFor toType
   field-at k = let w = by-row h k refl in record { content = _; is = h .is ∙ ap toType (w .is); lower = lower (w .held-a); holds = holds (w .held-a) }
 
 module _ {s : List ℕ} {i : ℕ} {e : Term} (h : HoldsTerm s i e) where
   pub var-at : cellAt s i .kind ≡ 16 → e ≡ var (cellAt s i .a)
-  unfolding table rowIn rowOf toTerm plainOf
+  unfolding table rowIn rowFor toTermIn plainOf
   var-at k = let w = by-row h k refl in h .is ∙ ap toTerm (w .is) ∙ ap var (plain-at (w .held-a))
 
-  pub lit-at : cellAt s i .kind ≡ 17 → e ≡ lit (signed half (cellAt s i .b + 65536 * cellAt s i .c))
-  unfolding table rowIn rowOf toTerm plainOf
+  pub lit-at : cellAt s i .kind ≡ 17 → e ≡ lit (signed (halfOf Version·Two) (stored Version·Two (cellAt s i .a) (cellAt s i .b) (cellAt s i .c)))
+  unfolding table rowIn rowFor toTermIn plainOf
   lit-at k = let w = by-row h k refl in
-      h .is ∙ ap toTerm (w .is) ∙ ap (λ n. lit (signed half n)) (omega (arith, plain-at (w .held-b), plain-at (w .held-c)))
+      h .is ∙ ap toTerm (w .is) ∙ ap (λ n. lit (signed (halfOf Version·Two) n)) (omega (arith, plain-at (w .held-a), plain-at (w .held-b), plain-at (w .held-c)))
 
   pub unit-at : cellAt s i .kind ≡ 18 → e ≡ unit
-  unfolding table rowIn rowOf toTerm
+  unfolding table rowIn rowFor toTermIn
   unit-at k = h .is ∙ ap toTerm (by-row h k refl .is)
 
   pub anno-at : cellAt s i .kind ≡ 19 → TermAndType s i anno e
-  unfolding table rowIn rowOf toTerm
+  unfolding table rowIn rowFor toTermIn
   anno-at k = let w = by-row h k refl in term-and-type anno (h .is ∙ ap toTerm (w .is)) (w .held-a) (w .held-b)
 
   pub app-at : cellAt s i .kind ≡ 20 → TwoTerms s i app e
-  unfolding table rowIn rowOf toTerm
+  unfolding table rowIn rowFor toTermIn
   app-at k = let w = by-row h k refl in two {o = term-sort} app (h .is ∙ ap toTerm (w .is)) (w .held-a) (w .held-b)
 
   pub lam-at : cellAt s i .kind ≡ 21 → FunctionAt s i e
-  unfolding table rowIn rowOf toTerm
+  unfolding table rowIn rowFor toTermIn
   lam-at k = let w = by-row h k refl in record {
     body = _;
     input = _;
@@ -222,27 +224,27 @@ module _ {s : List ℕ} {i : ℕ} {e : Term} (h : HoldsTerm s i e) where
   }
 
   pub merge-at : cellAt s i .kind ≡ 22 → TwoTerms s i merge e
-  unfolding table rowIn rowOf toTerm
+  unfolding table rowIn rowFor toTermIn
   merge-at k = let w = by-row h k refl in two {o = term-sort} merge (h .is ∙ ap toTerm (w .is)) (w .held-a) (w .held-b)
 
   pub fix-at : cellAt s i .kind ≡ 23 → TermAndType s i fix e
-  unfolding table rowIn rowOf toTerm
+  unfolding table rowIn rowFor toTermIn
   fix-at k = let w = by-row h k refl in term-and-type fix (h .is ∙ ap toTerm (w .is)) (w .held-a) (w .held-b)
 
   pub rcd-at : cellAt s i .kind ≡ 24 → OneTerm s i rcd e
-  unfolding table rowIn rowOf toTerm
+  unfolding table rowIn rowFor toTermIn
   rcd-at k = let w = by-row h k refl in one-term rcd (h .is ∙ ap toTerm (w .is)) (w .held-a)
 
   pub proj-at : cellAt s i .kind ≡ 25 → OneTerm s i proj e
-  unfolding table rowIn rowOf toTerm
+  unfolding table rowIn rowFor toTermIn
   proj-at k = let w = by-row h k refl in one-term proj (h .is ∙ ap toTerm (w .is)) (w .held-a)
 
   pub sum-at : cellAt s i .kind ≡ 26 → TwoTerms s i sum e
-  unfolding table rowIn rowOf toTerm
+  unfolding table rowIn rowFor toTermIn
   sum-at k = let w = by-row h k refl in two {o = term-sort} sum (h .is ∙ ap toTerm (w .is)) (w .held-a) (w .held-b)
 
   pub choice-at : cellAt s i .kind ≡ 27 → ChoiceAt s i e
-  unfolding table rowIn rowOf toTerm
+  unfolding table rowIn rowFor toTermIn
   choice-at k = let w = by-row h k refl in record {
     tested = _;
     zero = _;
@@ -268,9 +270,9 @@ rows-pass q [] h = tt
 rows-pass q (r ∷ rs) h = let k = T-and (q r) (allRows q rs) .0 h in (k .0, rows-pass q rs (k .1))
 
 -- what a test of every row of the table says of the row of a kind
-pub row-passes : (q : Row → Bool) → T (allRows q table) → (k : ℕ) (r : Row) → rowOf k ≡ some r → (k ≡ r .kind) × T (q r)
-unfolding rowOf
-row-passes q t k r e = view (λ r. T (q r)) table (rows-pass q table t) k r e
+pub row-passes : (q : Row → Bool) → T (allRows q (table Version·Two)) → (k : ℕ) (r : Row) → rowOf k ≡ some r → (k ≡ r .kind) × T (q r)
+unfolding rowFor
+row-passes q t k r e = view (λ r. T (q r)) (table Version·Two) (rows-pass q (table Version·Two) t) k r e
 
 -- 1 to 5, 16 to 27
 abbrev pub firstKind : Sort → ℕ
@@ -301,8 +303,8 @@ kindOf term-sort e = kindIn (fromTerm e)
 abbrev KindBack : Row → Type 0
 KindBack r = (l : ℕ) (a b c : Tree) → kindOf (r .sort) (thing (r .sort) (node (r .kind) l a b c)) ≡ r .kind
 
-rows : All KindBack table
-unfolding table toType toTerm fromType fromTerm kindIn
+rows : All KindBack (table Version·Two)
+unfolding table toType toTermIn fromType fromTermIn kindIn
 rows =
     (λ l a b c. refl) also (λ l a b c. refl) also (λ l a b c. refl) also (λ l a b c. refl) also (λ l a b c. refl)
     also (λ l a b c. refl) also (λ l a b c. refl) also (λ l a b c. refl) also (λ l a b c. refl) also (λ l a b c. refl)
@@ -311,8 +313,8 @@ rows =
     also tt
 
 kind-back : (k : ℕ) (r : Row) {o : Sort} → rowOf k ≡ some r → r .sort ≡ o → (l : ℕ) (a b c : Tree) → kindOf o (thing o (node k l a b c)) ≡ k
-unfolding rowOf
-kind-back k r e q = let v = view KindBack table rows k r e in rw (v .0, ← q) (v .1)
+unfolding rowFor
+kind-back k r e q = let v = view KindBack (table Version·Two) rows k r e in rw (v .0, ← q) (v .1)
 
 pub kind-of-held : {s : List ℕ} {i : ℕ} {o : Sort} {x : Thing o} → Holds s o i x → cellAt s i .kind ≡ kindOf o x
 kind-of-held {s} {i} {o} h =

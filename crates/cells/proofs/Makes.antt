@@ -6,7 +6,7 @@ use mathlib.Core.Bool.{true}
 use mathlib.Core.List.{List}
 use mathlib.Core.Option.{some}
 use Rattle.calculus.specs.Syntax.{Ty, int, top, arrow, inter, field}
-use Rattle.format.specs.Table.{type-sort, Row, table, rowIn, rowOf}
+use Rattle.format.specs.Table.{type-sort, Row, table, rowIn, rowFor, rowOf}
 use Rattle.format.specs.Tree.{Tree, node}
 use Rattle.format.specs.Terms.{toType}
 use Rattle.cells.specs.Held.{IsCell, mark, labelBy, HeldField, f-unused, f-refers, HoldsType}
@@ -20,21 +20,21 @@ make-type {i = i} p e o u v w is m =
 
 module _ {s : List ℕ} {i l a b c : ℕ} where
   pub h-int : IsCell s i 1 l a b c → c ≡ mark int → HoldsType s i int
-  unfolding table rowIn rowOf toType
+  unfolding table rowIn rowFor toType
   h-int p m = make-type p refl refl f-unused f-unused f-unused refl m
 
   pub h-top : IsCell s i 2 l a b c → c ≡ mark top → HoldsType s i top
-  unfolding table rowIn rowOf toType
+  unfolding table rowIn rowFor toType
   h-top p m = make-type p refl refl f-unused f-unused f-unused refl m
 
   pub h-arrow : {A B : Ty} → IsCell s i 3 l a b c → c ≡ mark (arrow A B) → a < i → b < i → HoldsType s a A → HoldsType s b B → HoldsType s i (arrow A B)
-  unfolding table rowIn rowOf toType
+  unfolding table rowIn rowFor toType
   h-arrow p m u v x y = make-type p refl refl (below (x .held) u) (below (y .held) v) f-unused (ap₂ arrow (x .is) (y .is)) m
 
   pub h-inter : {A B : Ty} → IsCell s i 4 l a b c → c ≡ mark (inter A B) → a < i → b < i → HoldsType s a A → HoldsType s b B → HoldsType s i (inter A B)
-  unfolding table rowIn rowOf toType
+  unfolding table rowIn rowFor toType
   h-inter p m u v x y = make-type p refl refl (below (x .held) u) (below (y .held) v) f-unused (ap₂ inter (x .is) (y .is)) m
 
   pub h-field : {A : Ty} → IsCell s i 5 l a b c → c ≡ mark (field l A) → a < i → HoldsType s a A → HoldsType s i (field l A)
-  unfolding table rowIn rowOf toType
+  unfolding table rowIn rowFor toType
   h-field p m u x = make-type p refl refl (below (x .held) u) f-unused f-unused (ap (field l) (x .is)) m

@@ -8,6 +8,7 @@ use mathlib.Core.Bool.{Bool, true, false}
 use mathlib.Core.Option.{none}
 use mathlib.Core.List.{List}
 use lib.ListN.{length}
+use Rattle.format.specs.declared.Version.the-variants.{Two}
 use Rattle.format.specs.Table.{Sort, Use, unused, plain, refers}
 use Rattle.format.specs.Cell.{cellAt}
 use Rattle.format.specs.Tree.{fieldTree, cellTree, treeAt}
@@ -38,7 +39,7 @@ label-kept b i plain x h = refl
 label-kept b i (refers o) x h = refl
 
 -- the tree of a cell that passes rows 5 to 8, by its row
-pub fields : {q : Bool} {b s : List ℕ} {i : ℕ} (k : CellOk b i) → Lower q b s i → Fields q s i (cellAt b i .kind) (k .row) (cellAt b i) (treeAt b i)
+pub fields : {q : Bool} {b s : List ℕ} {i : ℕ} (k : CellOk Two b i) → Lower q b s i → Fields q s i (cellAt b i .kind) (k .row) (cellAt b i) (treeAt b i)
 unfolding cellTree
 fields {b = b} {i = i} k l =
     let r = k .row in
@@ -54,10 +55,10 @@ fields {b = b} {i = i} k l =
     }
 
 -- in the book's own bytes, which have no marks
-module _ {b : List ℕ} {n : ℕ} (long : 8 * n ≤ length b) (sound : (i : ℕ) → i < n → cellFault b i ≡ none) where
+module _ {b : List ℕ} {n : ℕ} (long : 8 * n ≤ length b) (sound : (i : ℕ) → i < n → cellFault Two b i ≡ none) where
   whole : {i : ℕ} → i < n → Lower false b b i → (o : Sort) → HeldField false b (suc i) (refers o) i (treeAt b i)
   whole {i} h l o =
-      let k = cellFault-says b i .0 (sound i h) in
+      let k = cellFault-says Two b i .0 (sound i h) in
       let f = fields k l in
       rw (f .is) (f-refers {n = suc i} {x = i} (omega arith) (record { within = omega arith; is = refl }) (k .found) refl tt (f .held-a) (f .held-b) (f .held-c))
 

@@ -1,12 +1,13 @@
 // Cells of eight bytes in a buffer: reading one, writing one; the table of kinds.
+use format::Version;
 ghost use mathlib.Core.Path.{_≡_};
 ghost use Prim.Native.Nat.{_+_, _*_, _/_, _%_, _≤_, _<_};
 ghost use mathlib.Core.List.{[], _∷_};
 ghost use lib.ListN.{length};
 ghost use lib.Seq.{sets};
 ghost use Rattle.format.specs.Cell.{pair, cellAt, cellBytes};
-ghost use Rattle.format.specs.Table.{rowOf, inside};
-ghost use Rattle.cells.specs.Coded.{asCell, CellFits, placeOf, useOf, rowFrom};
+ghost use Rattle.format.specs.Table.{rowFor, rowOf, inside};
+ghost use Rattle.cells.specs.Coded.{asCell, CellFits, placeOf, placeFor, entryFrom, useOf, rowFrom};
 ghost use Rattle.cells.specs.Held.{labelBy};
 
 // A cell: kind, label and the fields a, b, c.
@@ -102,7 +103,7 @@ const C_TYPE: u16 = 0o2;
 
 const C_TERM: u16 = 0o3;
 
-const TABLE: [u16; 18] = [
+const TABLE: [u16; 19] = [
     // every other kind
     0,
     // 1, 2: Int, Top
@@ -116,8 +117,8 @@ const TABLE: [u16; 18] = [
     TYPE + LABEL + A_TYPE,
     // 16: variable
     TERM + A_NUMBER,
-    // 17: number, in b and c
-    TERM + B_NUMBER + C_NUMBER,
+    // 17: number, in a, b and c
+    TERM + A_NUMBER + B_NUMBER + C_NUMBER,
     // 18: top value
     TERM,
     // 19: annotation
@@ -138,6 +139,8 @@ const TABLE: [u16; 18] = [
     TERM + A_TERM + B_TERM,
     // 27: choice, a tested, b for zero, c for anything else
     TERM + A_TERM + B_TERM + C_TERM,
+    // 17 in version 1: number, in b and c
+    TERM + B_NUMBER + C_NUMBER,
 ];
 
 // The place of a kind in the table.
@@ -151,11 +154,23 @@ fn place(kind: u8) -> usize
     }
 }
 
-// The row of a kind: 1 to 5 types, 16 to 27 terms, all else unknown.
-pub fn entry_of(kind: u8) -> Entry
-    ensures { λ r. ⌜ rowFrom kind r ≡ rowOf kind ⌝ }
+// The place of a kind in the table, for books of this version.
+fn place_for(version: Version, kind: u8) -> usize
+    ensures { λ r. ⌜ (r ≡ placeFor version kind) × (r < 19) ⌝ }
 {
-    let line = TABLE[place(kind)];
+    if kind != 17 {
+        return place(kind);
+    }
+    match version {
+        Version::One => 18,
+        Version::Two => 7,
+    }
+}
+
+// A line of the table as a row.
+fn entry_at(line: u16) -> Entry
+    ensures { λ r. ⌜ r ≡ entryFrom line ⌝ }
+{
     Entry {
         sort: (line / 4096 % 8) as u8,
         label: (line / 512 % 8) as u8,
@@ -163,6 +178,20 @@ pub fn entry_of(kind: u8) -> Entry
         b: (line / 8 % 8) as u8,
         c: (line % 8) as u8,
     }
+}
+
+// The row of a kind: 1 to 5 types, 16 to 27 terms, all else unknown.
+pub fn entry_of(kind: u8) -> Entry
+    ensures { λ r. ⌜ rowFrom kind r ≡ rowOf kind ⌝ }
+{
+    entry_at(TABLE[place(kind)])
+}
+
+// The same for books of this version: version 1 does not name field a of a number.
+pub fn entry_for(version: Version, kind: u8) -> Entry
+    ensures { λ r. ⌜ rowFrom kind r ≡ rowFor version kind ⌝ }
+{
+    entry_at(TABLE[place_for(version, kind)])
 }
 
 // The label of a cell whose row has this use of it: 0 if the row does not name it.

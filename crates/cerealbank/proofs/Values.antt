@@ -15,7 +15,7 @@ use Rattle.calculus.proofs.Inference.{infer-says}
 use Rattle.calculus.proofs.Typing.{typed-size}
 use Rattle.format.specs.Cell.{IsBytes}
 use Rattle.format.specs.Book.{Finding, formFinding, lengthOk}
-use Rattle.format.specs.Book.{rootOf, trailerAt, follow, rootTerm, WellFormed}
+use Rattle.format.specs.Book.{versionOf, rootOf, trailerAt, follow, rootTerm, WellFormed}
 use Rattle.format.proofs.Findings.{by-rows}
 use Rattle.format.proofs.Tests.{formFinding-says, rootTerm-small}
 use Rattle.format.proofs.Paths.{follow-down}
@@ -72,7 +72,7 @@ module _ (b w : List ℕ) (y : IsBytes b) (g : Ty → Result) (h : (A : Ty) → 
 pub check-fits : (b w : List ℕ) → IsBytes b → valueOf (check b w .answer) < tagPlace
 unfolding check shown
 check-fits b w y =
-    judge-fits b w y shown (λ A f e. omega (arith, typed-size (infer-says [] (rootTerm b) A .0 e), rootTerm-small b y f))
+    judge-fits b w y (shown (versionOf b)) (λ A f e. omega (arith, typed-size (infer-says [] (rootTerm b) A .0 e), rootTerm-small b y f))
 
 pub run-fits : (b w : List ℕ) (l : ℕ) → IsBytes b → IsLimit l → valueOf (run b w l .answer) < tagPlace
 unfolding run

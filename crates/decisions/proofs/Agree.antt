@@ -15,7 +15,7 @@ use Rattle.calculus.proofs.Bools.{T-same, T-true, decide-says}
 use Rattle.format.specs.Table.{type-sort, term-sort}
 use Rattle.format.specs.Cell.{IsBytes, Cell, cellAt}
 use Rattle.format.specs.Tree.{kindIn}
-use Rattle.format.specs.Terms.{fromTerm}
+use Rattle.format.specs.Terms.{fromTermIn}
 use Rattle.cells.specs.Held.{HoldsTerm}
 use Rattle.cells.proofs.Held.{lit-at, unit-at, lam-at, merge-at, rcd-at, kindOf, kind-of-held}
 use Rattle.cells.proofs.Forms.{NoValue, fold-else, parts-else}
@@ -69,7 +69,7 @@ merge-right plain-lam u v = refl
 merge-right plain-rcd u v = refl
 
 kinds-apart : {e f : Term} → PlainTerm e → PlainTerm f → (kindOf term-sort e ≡ kindOf term-sort f → ⊥) → true ≡ consistent? e f
-unfolding consistent? eachPart consistentLit consistentLam consistentRcd fromTerm kindIn
+unfolding consistent? eachPart consistentLit consistentLam consistentRcd fromTermIn kindIn
 kinds-apart plain-lit plain-lit d = absurd (d refl)
 kinds-apart plain-lit plain-lam d = refl
 kinds-apart plain-lit plain-rcd d = refl
@@ -217,13 +217,13 @@ module _ {s : List ℕ} {i j : ℕ} {x y : Cell} {p : Bool} (w : Whenever (Holds
 pub no-answer : {s : List ℕ} {i j : ℕ} {r : Bool} → r ≡ false → Agreeing s i j r
 no-answer e = record { says = λ t. absurd (subst T (sym t ∙ e) tt) }
 
-pub one-number : {s : List ℕ} {i j : ℕ} {x y : Cell} → x ≡ cellAt s i → y ≡ cellAt s j → x .kind ≡ 17 → y .kind ≡ 17 → x .b ≡ y .b → Agreeing s i j (eqb (x .c) (y .c))
-one-number {x = x} {y = y} p q m n b = record {
+pub one-number : {s : List ℕ} {i j : ℕ} {x y : Cell} → x ≡ cellAt s i → y ≡ cellAt s j → x .kind ≡ 17 → y .kind ≡ 17 → x .a ≡ y .a → x .b ≡ y .b → Agreeing s i j (eqb (x .c) (y .c))
+one-number {x = x} {y = y} p q m n a b = record {
   says = λ t. let c = eqb-true (x .c) (y .c) t in record {
     says = λ e f h k.
         let u = lit-at h (rw p at m) in
         let v = lit-at k (rw q at n) in
-        let one : f ≡ e = v ∙ rw (← p, ← q, b, c) refl ∙ sym u in
+        let one : f ≡ e = v ∙ rw (← p, ← q, a, b, c) refl ∙ sym u in
         rw (one, u) (sym (rw two-numbers (T-true (decide-says (sameInteger _ _)) refl)));
   };
 }

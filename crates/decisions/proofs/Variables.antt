@@ -9,10 +9,11 @@ use mathlib.Core.Option.{some}
 use lib.Dec.{ltb}
 use lib.ListN.{length}
 use Rattle.calculus.specs.Decide.{closed?}
-use Rattle.format.specs.Table.{Sort, type-sort, term-sort, refers, Row, table, rowOf, inside}
+use Rattle.format.specs.declared.Version.the-variants.{Two}
+use Rattle.format.specs.Table.{Sort, type-sort, term-sort, refers, Row, table, rowFor, rowOf, inside}
 use Rattle.format.specs.Cell.{Cell, cellAt}
 use Rattle.format.specs.Tree.{Tree, node}
-use Rattle.format.specs.Terms.{toTerm}
+use Rattle.format.specs.Terms.{toTermIn, toTerm}
 use Rattle.format.proofs.Tests.{All, _also_, view}
 use Rattle.cells.specs.Held.{HeldField}
 use Rattle.cells.specs.Coded.{useOf, rowFrom}
@@ -44,8 +45,8 @@ third-first true false false = refl
 third-first false b true = refl
 third-first false b false = refl
 
-closed-rows : (k : ℕ) → All (ClosedRow k) table
-unfolding table toTerm closed?
+closed-rows : (k : ℕ) → All (ClosedRow k) (table Two)
+unfolding table toTermIn closed?
 closed-rows k =
     (λ l a b c. tt) also (λ l a b c. tt) also (λ l a b c. tt) also (λ l a b c. tt) also (λ l a b c. tt)
     also (λ l a b c n. absurd (n refl))
@@ -64,9 +65,9 @@ closed-rows k =
 
 closed-law : (k kind : ℕ) (r : Row) → rowOf kind ≡ some r → r .sort ≡ term-sort → (kind ≡ 16 → ⊥) → (l : ℕ) (a b c : Tree)
     → closed? k (toTerm (node kind l a b c)) ≡ (closedIn (r .c) k c && (closedIn (r .a) (inside kind k) a && closedIn (r .b) k b))
-unfolding rowOf
+unfolding rowFor
 closed-law k kind r e o n l a b c =
-    let v = view (ClosedRow k) table (closed-rows k) kind r e in
+    let v = view (ClosedRow k) (table Two) (closed-rows k) kind r e in
     let z : (r .kind ≡ 16 → ⊥) = λ m. n (v .0 ∙ m) in
     rw (v .0) (rw o at (v .1 l a b c) z)
 

@@ -206,6 +206,9 @@ fn equal_numbers(s: &[u8], i: usize, j: usize) -> bool
     if y.kind != 17 {
         return false;
     }
+    if x.a != y.a {
+        return false;
+    }
     x.b == y.b && x.c == y.c
 }
 

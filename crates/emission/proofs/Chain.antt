@@ -5,6 +5,7 @@ use native.Mathlib.Omega.{arith}
 use mathlib.Core.Path.{_≡_}
 use mathlib.Core.List.{List}
 use Rattle.calculus.specs.Syntax.{Ty, Term}
+use Rattle.format.specs.declared.Version.the-variants.{Two}
 use Rattle.format.specs.Table.{type-sort, term-sort, Use, unused, plain, refers}
 use Rattle.format.specs.Cell.{Cell}
 use Rattle.format.specs.Tree.{Tree, raw, node, cells}
@@ -39,7 +40,7 @@ module _ {W : Type 0} where
   of-type f = record { by = refers type-sort; number = 0; fits = omega arith; tree = λ w. fromType (f w); stands = λ w. s-refers (type-positive (f w)) }
 
   abbrev pub of-term : (W → Term) → Field W
-  of-term f = record { by = refers term-sort; number = 0; fits = omega arith; tree = λ w. fromTerm (f w); stands = λ w. s-refers (term-positive (f w)) }
+  of-term f = record { by = refers term-sort; number = 0; fits = omega arith; tree = λ w. fromTerm (f w); stands = λ w. s-refers (term-positive Two (f w)) }
 
 -- ---- the tree, to be emitted from cell m on
 

@@ -11,7 +11,7 @@ use Rattle.calculus.specs.Syntax.{unit}
 use Rattle.format.specs.Table.{Sort, Use, unused, plain, refers}
 use Rattle.format.specs.Cell.{Cell, cellBytes}
 use Rattle.format.specs.Tree.{Tree, raw, node, cells, refer, encode}
-use Rattle.format.specs.Terms.{fromTerm}
+use Rattle.format.specs.Terms.{fromTermIn, fromTerm}
 use Rattle.format.specs.Book.{sizeLimit}
 use Rattle.format.proofs.Encoding.{sets-append, length-encode}
 use Rattle.cells.specs.Coded.{useOf}
@@ -159,5 +159,5 @@ emits-leaf h f = emits-node (placed-raw _ _ _ h) (placed-raw _ _ _ h) (placed-ra
 
 pub emits-top : {d e : List ℕ} {m : ℕ} {r : Emitted} → m ≤ sizeLimit → Finishes d e m (record { kind = 18; label = 0; a = 0; b = 0; c = 0 }) r
     → Emits d e m r (fromTerm unit)
-unfolding fromTerm
+unfolding fromTermIn
 emits-top h f = emits-leaf h f

@@ -10,7 +10,8 @@ use mathlib.Core.List.{List, [], _++_, append-assoc, append-nil}
 use mathlib.Core.Option.{Option, none, some}
 use lib.ListN.{length, length-append}
 use lib.Seq.{sets, length-sets}
-use Rattle.format.specs.Table.{Sort, Use, unused, plain, refers, Row, rowOf, table}
+use Rattle.format.specs.declared.Version.the-variants.{Two}
+use Rattle.format.specs.Table.{Sort, Use, unused, plain, refers, Row, rowFor, rowOf, table}
 use Rattle.format.specs.Cell.{Cell, cellAt, cellBytes}
 use Rattle.format.specs.Tree.{Tree, cells, refer, encode}
 use Rattle.format.specs.Book.{sizeLimit}
@@ -269,13 +270,13 @@ Bare (refers o) = ⊥
 
 -- where field a is no reference, no field is
 bare-row : (k : ℕ) (r : Row) → rowOf k ≡ some r → Bare (r .a) → Bare (r .b) × Bare (r .c)
-unfolding rowOf table
-bare-row k r e = view (λ (q : Row). Bare (q .a) → Bare (q .b) × Bare (q .c)) table every k r e .1
+unfolding rowFor table
+bare-row k r e = view (λ (q : Row). Bare (q .a) → Bare (q .b) × Bare (q .c)) (table Two) every k r e .1
   where
     none : Unit {0} → Unit {0} × Unit {0}
     none h = (Prim.tt, Prim.tt)
 
-    every : All (λ (q : Row). Bare (q .a) → Bare (q .b) × Bare (q .c)) table
+    every : All (λ (q : Row). Bare (q .a) → Bare (q .b) × Bare (q .c)) (table Two)
     every =
         none
         also none

@@ -6,6 +6,7 @@ use mathlib.Core.Path.{_≡_, refl, ap, _∙_}
 use mathlib.Core.Bool.{false}
 use mathlib.Core.List.{List, _++_}
 use lib.ListN.{length, length-append}
+use Rattle.format.specs.declared.Version.the-variants.{Two}
 use Rattle.format.specs.Table.{Use}
 use Rattle.format.specs.Cell.{Cell, cellBytes}
 use Rattle.format.specs.Tree.{Tree, raw, cells, refer, encode}
@@ -30,7 +31,7 @@ within : {s : List ℕ} {m : ℕ} (t : Cell) → Part s m (cellBytes t) → 8 * 
 unfolding cellBytes
 within t p = part-within p
 
-pub encoded-run : {s : List ℕ} {u : Use} {t : Tree} (m : ℕ) → Good u t → Part s m (encode m t) → Run false s m u (refer m t) t (m + cells t)
+pub encoded-run : {s : List ℕ} {u : Use} {t : Tree} (m : ℕ) → Good Two u t → Part s m (encode m t) → Run false s m u (refer m t) t (m + cells t)
 unfolding encode cells refer
 encoded-run m (leaf n) p = rw add-zero (leaf-run n)
 encoded-run {s} m (cell {k = k} {l = l} {a = a} {b = b} {c = c} {r = r} e f h n ga gb gc) p =

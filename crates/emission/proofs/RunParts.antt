@@ -6,10 +6,10 @@ use mathlib.Core.Path.{_≡_, refl}
 use mathlib.Core.List.{List}
 use Rattle.calculus.specs.Syntax.{Ty, arrow, inter}
 use Rattle.calculus.specs.Syntax.{Term, lam, merge, fix, rcd}
-use Rattle.format.specs.Table.{Sort, type-sort, term-sort, refers, Row, rowOf, rowIn, table}
+use Rattle.format.specs.Table.{Sort, type-sort, term-sort, refers, Row, rowFor, rowOf, rowIn, table}
 use Rattle.format.specs.Cell.{Cell, cellAt}
 use Rattle.format.specs.Tree.{Tree, node}
-use Rattle.format.specs.Terms.{fromType, fromTerm, TermFits}
+use Rattle.format.specs.Terms.{fromType, fromTermIn, fromTerm, WideFits}
 use Rattle.cells.specs.Held.{Thing, Holds}
 use Rattle.cells.proofs.Held as Held
 use Rattle.cells.proofs.Shapes as Shapes
@@ -20,7 +20,7 @@ use Rattle.emission.proofs.Runs.{ends, whole, parts, holds-type, holds-
 pub runs-type : {s : List ℕ} {x n e : ℕ} {A : Ty} → Run true s x (refers type-sort) n (fromType A) e → RunsType s n A
 runs-type {x = x} r = record { start = x; run = whole r }
 
-pub runs-term : {s : List ℕ} {x n e : ℕ} {t : Term} → TermFits t → Run true s x (refers term-sort) n (fromTerm t) e → RunsTerm s n t
+pub runs-term : {s : List ℕ} {x n e : ℕ} {t : Term} → WideFits t → Run true s x (refers term-sort) n (fromTerm t) e → RunsTerm s n t
 runs-term {x = x} f r = record { start = x; run = whole r; fits = f }
 
 -- the fields of the cell i
@@ -62,21 +62,21 @@ two w a b =
 
 module _ {s : List ℕ} {i : ℕ} {A : Ty} (r : RunsType s i A) where
   pub arrow-at : cellAt s i .kind ≡ 3 → TwoTypes s i arrow A
-  unfolding fromType table rowIn rowOf
+  unfolding fromType table rowIn rowFor
   arrow-at k =
       let w = Held.arrow-at (holds-type r) k in
       let p = fields (rw (w .is) at r .run) refl in
       two {o = type-sort} w (runs-type (p .first)) (runs-type (p .second))
 
   pub inter-at : cellAt s i .kind ≡ 4 → TwoTypes s i inter A
-  unfolding fromType table rowIn rowOf
+  unfolding fromType table rowIn rowFor
   inter-at k =
       let w = Held.inter-at (holds-type r) k in
       let p = fields (rw (w .is) at r .run) refl in
       two {o = type-sort} w (runs-type (p .first)) (runs-type (p .second))
 
   pub field-at : cellAt s i .kind ≡ 5 → OneType s i A
-  unfolding fromType table rowIn rowOf
+  unfolding fromType table rowIn rowFor
   field-at k =
       let w = Held.field-at (holds-type r) k in
       let p = fields (rw (w .is) at r .run) refl in
@@ -84,7 +84,7 @@ module _ {s : List ℕ} {i : ℕ} {A : Ty} (r : RunsType s i A) where
 
 module _ {s : List ℕ} {i : ℕ} {e : Term} (r : RunsTerm s i e) where
   pub lam-at : cellAt s i .kind ≡ 21 → FunctionAt s i e
-  unfolding fromTerm table rowIn rowOf
+  unfolding fromTermIn table rowIn rowFor
   lam-at k =
       let w = Held.lam-at (holds-term r) k in
       let t = rw (w .is) at r in
@@ -103,7 +103,7 @@ module _ {s : List ℕ} {i : ℕ} {e : Term} (r : RunsTerm s i e) where
       }
 
   pub merge-at : cellAt s i .kind ≡ 22 → Two (Runs s) (cellAt s i) i term-sort merge e
-  unfolding fromTerm table rowIn rowOf
+  unfolding fromTermIn table rowIn rowFor
   merge-at k =
       let w = Held.merge-at (holds-term r) k in
       let t = rw (w .is) at r in
@@ -111,7 +111,7 @@ module _ {s : List ℕ} {i : ℕ} {e : Term} (r : RunsTerm s i e) where
       two {o = term-sort} w (runs-term (t .fits .0) (p .first)) (runs-term (t .fits .1) (p .second))
 
   pub fix-at : cellAt s i .kind ≡ 23 → TermAndType (Runs s) (cellAt s i) i fix e
-  unfolding fromTerm table rowIn rowOf
+  unfolding fromTermIn table rowIn rowFor
   fix-at k =
       let w = Held.fix-at (holds-term r) k in
       let t = rw (w .is) at r in
@@ -127,7 +127,7 @@ module _ {s : List ℕ} {i : ℕ} {e : Term} (r : RunsTerm s i e) where
       }
 
   pub rcd-at : cellAt s i .kind ≡ 24 → OneTerm s i rcd e
-  unfolding fromTerm table rowIn rowOf
+  unfolding fromTermIn table rowIn rowFor
   rcd-at k =
       let w = Held.rcd-at (holds-term r) k in
       let t = rw (w .is) at r in
@@ -140,9 +140,9 @@ behind r t = rw (ends r) at (whole t)
 
 module _ {s : List ℕ} {i : ℕ} where
   pub arrow-second : {A B : Ty} → RunsType s i (arrow A B) → Run true s (suc (cellAt s i .a)) (refers type-sort) (cellAt s i .b) (fromType B) (suc (cellAt s i .b))
-  unfolding fromType table rowIn rowOf
+  unfolding fromType table rowIn rowFor
   arrow-second r = let p = fields (r .run) refl in behind (p .first) (p .second)
 
   pub lam-second : {e : Term} {A B : Ty} → RunsTerm s i (lam e A B) → Run true s (suc (cellAt s i .a)) (refers type-sort) (cellAt s i .b) (fromType A) (suc (cellAt s i .b))
-  unfolding fromTerm table rowIn rowOf
+  unfolding fromTermIn table rowIn rowFor
   lam-second r = let p = fields (r .run) refl in behind (p .first) (p .second)

@@ -7,6 +7,7 @@ use mathlib.Core.List.{List}
 use mathlib.Core.Option.{some}
 use lib.ListN.{length}
 use Rattle.calculus.specs.Syntax.{Ty, Term}
+use Rattle.format.specs.declared.Version.the-variants.{Two}
 use Rattle.format.specs.Table.{Sort, type-sort, Use, unused, plain, refers, Row, rowOf}
 use Rattle.format.specs.Cell.{cellAt}
 use Rattle.format.specs.Tree.{Tree, raw, node, kindIn, cells}
@@ -120,4 +121,4 @@ pub holds-type : {s : List ℕ} {i : ℕ} {A : Ty} → RunsType s i A → HoldsT
 holds-type {A = A} r = run-type A (r .run)
 
 pub holds-term : {s : List ℕ} {i : ℕ} {e : Term} → RunsTerm s i e → HoldsTerm s i e
-holds-term {e = e} r = record { tree = fromTerm e; held = run-held (r .run); is = sym (term-back e (r .fits)) }
+holds-term {e = e} r = record { tree = fromTerm e; held = run-held (r .run); is = sym (term-back Two e (r .fits)) }

@@ -7,7 +7,7 @@ use mathlib.Core.Option.{some}
 use Rattle.calculus.specs.Syntax.{Ty, Term}
 use Rattle.format.specs.Table.{Sort, type-sort, term-sort, Use, unused, plain, refers, Row, rowOf}
 use Rattle.format.specs.Tree.{Tree, raw, node}
-use Rattle.format.specs.Terms.{fromType, fromTerm, TermFits}
+use Rattle.format.specs.Terms.{fromType, fromTerm, WideFits}
 use Rattle.cells.specs.Held.{IsCell, labelBy, Marked}
 
 -- A field of this use and number stands for the tree, whose cells are those from x on before y, children first and root last. What else
@@ -28,4 +28,4 @@ pub record RunsType (s : List ℕ) (i : ℕ) (A : Ty) : Type 0 where
 pub record RunsTerm (s : List ℕ) (i : ℕ) (e : Term) : Type 0 where
   pub start : ℕ
   pub run : Run true s start (refers term-sort) i (fromTerm e) (suc i)
-  pub fits : TermFits e
+  pub fits : WideFits e

@@ -6,7 +6,9 @@ use mathlib.Core.List.{List}
 use native.Mathlib.Omega.{arith}
 use Rattle.calculus.specs.Syntax.{Ty, size-type}
 use Rattle.calculus.proofs.Typing.{typed-size}
+use Rattle.format.specs.declared.Version.{Version}
 use Rattle.format.specs.Cell.{IsBytes}
+use Rattle.format.specs.Book.{versionOf}
 use Rattle.answers.specs.Answer.{refused, Result}
 use Rattle.answers.specs.Definition.{check, judge, shown}
 use Rattle.answers.proofs.Demands.{demand2}
@@ -16,9 +18,9 @@ use Rattle.engine.specs.Check.{Checked}
 use Rattle.engine.specs.Stages.{Gives}
 use Rattle.engine.proofs.Rows.{judge-refuses}
 
-shown-accepts : (A : Ty) (n i : ℕ) → shown A .answer ≢ refused n i
+shown-accepts : (u : Version) (A : Ty) (n i : ℕ) → shown u A .answer ≢ refused n i
 unfolding shown
-shown-accepts A n i e = let z : _≡_ {A = ℕ} 0 1 = cc in absurd (omega arith)
+shown-accepts u A n i e = let z : _≡_ {A = ℕ} 0 1 = cc in absurd (omega arith)
 
 module _ {b w v : List ℕ} {r : Outcome} (bytes : IsBytes b) where
   meaning : Gives v r (check b w) → Checked b w v r
@@ -29,7 +31,7 @@ module _ {b w v : List ℕ} {r : Outcome} (bytes : IsBytes b) where
         answer = g .answer;
         left = g .left;
         refuses = λ n i e.
-            subst (λ (u : List ℕ). Refuses b w u n i) (sym (g .left)) (judge-refuses b w bytes shown shown-accepts n i (sym (g .answer) ∙ e));
+            subst (λ (u : List ℕ). Refuses b w u n i) (sym (g .left)) (judge-refuses b w bytes (shown (versionOf b)) (shown-accepts (versionOf b)) n i (sym (g .answer) ∙ e));
         accepts = λ k. (
           (λ n. d .accepts .0 (record { work = w; is-work = k; size = n .0; answers = sym (g .answer) ∙ n .1 })),
           λ t. (size-type (t .1 .0), g .answer ∙ ap (λ (x : Result). x .answer) (d .shows (t .1 .0) (t .0) (t .1 .1) w k)),
@@ -39,6 +41,6 @@ module _ {b w v : List ℕ} {r : Outcome} (bytes : IsBytes b) where
             (g .answer ∙ ap (λ (x : Result). x .answer) e, g .left ∙ ap (λ (x : Result). x .left) e, typed-size t);
       }
 
-  pub checked-as : Gives v r (judge b w shown) → Checked b w v r
+  pub checked-as : Gives v r (judge b w (shown (versionOf b))) → Checked b w v r
   unfolding check
   checked-as g = meaning g

@@ -1,16 +1,18 @@
--- Every engine that meets the contracts of the two public calls meets demands 2 and 3, whole. Assumes nothing.
+-- Every engine that meets the contracts of the two public calls meets demands 2 and 3, whole, and keeps the promise of restamped books. Assumes nothing.
 use Prim.Native.Nat.{ℕ}
 use mathlib.Core.Path.{_≡_, sym, _∙_, subst}
 use mathlib.Core.List.{List, []}
 use Rattle.calculus.specs.Syntax.{Ty}
 use Rattle.calculus.specs.Typing.{Typed}
-use Rattle.format.specs.Cell.{IsBytes, half}
-use Rattle.format.specs.Book.{rootTerm, WellFormed}
+use Rattle.format.specs.Cell.{IsBytes}
+use Rattle.format.specs.Book.{versionOf, rootTerm, WellFormed}
 use Rattle.answers.specs.Answer.{Answer, accepted, Result, result}
 use Rattle.answers.specs.Engine.{Engine, IsWork, IsLimit}
 use Rattle.answers.specs.Definition.{definition, check, run}
 use Rattle.answers.specs.Demands.{Accepts, TakesSteps, Agree, Demand2, Demand3}
+use Rattle.answers.specs.Restamping.{RestampKeeps}
 use Rattle.answers.proofs.Demands.{demand2, demand3-from-2}
+use Rattle.answers.proofs.Restamping.{restamped}
 use Rattle.answers.specs.Cases.{answerOf}
 use Rattle.answers.specs.declared.Outcome.{Outcome}
 use Rattle.engine.specs.Run.{Ran}
@@ -49,9 +51,12 @@ module _ (E : Engine) (c : MeetsContracts E) where
       record {
         accepts = ((λ a. d .accepts .0 (to a)), λ t. from (d .accepts .1 t));
         shows = λ A f t w k. check-fixed b w y ∙ d .shows A f t w k;
-        runs = λ a w l k i. subst (TakesSteps half (rootTerm b) l) (sym (run-fixed b w l y i)) (d .runs (to a) w l k i);
+        runs = λ a w l k i. subst (TakesSteps (versionOf b) (rootTerm b) l) (sym (run-fixed b w l y i)) (d .runs (to a) w l k i);
         refuses = λ n w l i. run-fixed b w l y i ∙ d .refuses (λ a. n (from a)) w l i ∙ sym (check-fixed b w y);
       }
 
   pub contracts-demand3 : Demand3 E
   contracts-demand3 = demand3-from-2 E contracts-demand2
+
+  pub contracts-restamped : RestampKeeps E
+  contracts-restamped = restamped E contracts-demand2

@@ -9,6 +9,7 @@ use borrow.Author.Tests.{ne-eqb}
 use lib.ListN.{length, replicate}
 use Rattle.calculus.specs.Syntax.{Ty}
 use Rattle.calculus.specs.Infer.{infer}
+use Rattle.format.specs.declared.Version.{Version}
 use Rattle.format.specs.Book.{Finding, formFinding, rootTerm}
 use Rattle.format.proofs.Tests.{formFinding-says}
 use Rattle.answers.specs.Answer.{Result}
@@ -54,7 +55,7 @@ module _ (b w : List ℕ) (g : Ty → Result) where
       at-row-1 n (subst (λ (o : Refusal). RefusesBy w v o r) p t)
   refused-result (rows-2-to-10 k f) e t = at-rows-2-to-10 k f e t
 
-  pub past-row-10 : {v : List ℕ} {i : ℕ} {r : Outcome} → Formed b w i → AfterTyping b g v r → Gives v r (judge b w g)
+  pub past-row-10 : {v : List ℕ} {u : Version} {i : ℕ} {r : Outcome} → Formed b w u i → AfterTyping b g v r → Gives v r (judge b w g)
   unfolding afterForm
   past-row-10 {v} {r = r} k t =
       let p : judge b w g ≡ afterTyping b g (infer [] (rootTerm b)) =
@@ -62,6 +63,6 @@ module _ (b w : List ℕ) (g : Ty → Result) where
       subst (Gives v r) (sym p) t
 
 -- no row met
-pub started : {b w : List ℕ} {i : ℕ} {x : Form} → FirstRows b (length w) x → x ≡ Form.WellFormed i → Formed b w i
+pub started : {b w : List ℕ} {u : Version} {i : ℕ} {x : Form} → FirstRows b (length w) x → x ≡ Form.WellFormed u i → Formed b w u i
 started {x = x} (row-1 n s) e = let z : _≡_ {A = ℕ} 0 1 = cc in absurd (omega arith)
-started (rows-2-to-10 k f) e = let z = formed f e in record { book = record { form = z .0; root = z .1 }; work = k }
+started (rows-2-to-10 k f) e = let z = formed f e in record { book = record { form = z .0; version = z .1; root = z .2 }; work = k }

@@ -6,10 +6,11 @@ use mathlib.Core.List.{List}
 use native.Mathlib.Omega.{arith}
 use lib.ListN.{length, take}
 use lib.Seq.{getD-take, length-take-le}
+use Rattle.format.specs.declared.Version.{Version}
 use Rattle.format.specs.Table.{Use, unused, plain, refers, Sort}
 use Rattle.format.specs.Cell.{byte, pair, cellAt}
 use Rattle.format.specs.Tree.{treeAt}
-use Rattle.format.specs.Book.{count, cellFault, hasSort, WellFormed}
+use Rattle.format.specs.Book.{count, versionOf, cellFault, hasSort, WellFormed}
 use Rattle.format.proofs.Unsharing.{treeAt-same}
 use Rattle.format.proofs.Tests.{Each, FieldOk, cellFault-says}
 use Rattle.loading.specs.Loaded.{Loadable}
@@ -40,9 +41,9 @@ module _ (b : List ℕ) (n : ℕ) where
   field-part h plain x f = f
   field-part {i} h (refers t) x f = (f .0, sort-part t x (omega (arith, f .0)) ∙ f .1)
 
-  pub fault-part : (i : ℕ) → i < n → cellFault b i ≡ none → cellFault (take (8 * n) b) i ≡ none
-  fault-part i h f =
-      let k = cellFault-says b i .0 f in
+  pub fault-part : (u : Version) (i : ℕ) → i < n → cellFault u b i ≡ none → cellFault u (take (8 * n) b) i ≡ none
+  fault-part u i h f =
+      let k = cellFault-says u b i .0 f in
       let r = k .row in
       let t = cellAt b i in
       let fields : Each (FieldOk (take (8 * n) b) i) r t =
@@ -52,19 +53,21 @@ module _ (b : List ℕ) (n : ℕ) where
         b = field-part h (r .b) (t .b) (k .fields .b);
         c = field-part h (r .c) (t .c) (k .fields .c);
       } in
-      cellFault-says (take (8 * n) b) i .1
+      cellFault-says u (take (8 * n) b) i .1
       (record { row = r; found = rw (cell-part i h) (k .found); fields = rw (cell-part i h) fields })
 
   pub tree-part : (i : ℕ) → i < n → treeAt (take (8 * n) b) i ≡ treeAt b i
   tree-part i h = treeAt-same (take (8 * n) b) b i (λ j k. cell-part j (omega arith))
 
+pub part-length : (b : List ℕ) → WellFormed b → length (take (8 * count b) b) ≡ 8 * count b
+part-length b f = let k : 8 * count b ≤ length b = omega arith in length-take-le (8 * count b) b k
+
 -- a book's cells before its trailer are as many as its trailer says, and can be loaded
-pub loadable : (b s : List ℕ) → WellFormed b → length s ≡ 65536 → Loadable (take (8 * count b) b) s (count b)
-loadable b s f h =
-    let k : 8 * count b ≤ length b = omega arith in
+pub loadable : (b s : List ℕ) {u : Version} → u ≡ versionOf b → WellFormed b → length s ≡ 65536 → Loadable (take (8 * count b) b) s (count b) u
+loadable b s q f h =
     record {
-      cells = length-take-le (8 * count b) b k;
+      cells = part-length b f;
       few = omega (arith, f .formed .short);
-      sound = λ i l. fault-part b (count b) i l (f .formed .sound i l);
+      sound = λ i l. rw q (fault-part b (count b) (versionOf b) i l (f .formed .sound i l));
       long = h;
     }

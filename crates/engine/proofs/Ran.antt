@@ -5,22 +5,30 @@ use mathlib.Core.Logic.{_≢_}
 use lib.ListN.{length}
 use mathlib.Core.List.{List, []}
 use native.Mathlib.Omega.{arith}
-use Rattle.calculus.specs.Syntax.{Ty, Term}
+use Rattle.calculus.specs.Syntax.{Ty, Term, size}
 use Rattle.calculus.specs.Typing.{Typed}
-use Rattle.format.specs.Cell.{IsBytes, half}
-use Rattle.format.specs.Book.{rootTerm, sizeLimit, WellFormed}
-use Rattle.answers.specs.Answer.{refused, Result, result}
+use Rattle.calculus.specs.Step.{Reaches, r-zero, r-suc}
+use Rattle.format.specs.declared.Version.{Version}
+use Rattle.format.specs.declared.Version.the-variants.{Two}
+use Rattle.format.specs.Version.{halfOf}
+use Rattle.format.specs.Cell.{IsBytes}
+use Rattle.format.specs.Book.{versionOf, rootTerm, sizeLimit, WellFormed}
+use Rattle.answers.specs.Answer.{Stop, refused, Result, result}
 use Rattle.answers.specs.Engine.{IsWork}
-use Rattle.answers.specs.Definition.{run, judge, endResult, reported}
+use Rattle.answers.specs.Definition.{definition, run, judge, Ended, ended, evaluate, endResult, reported}
 use Rattle.answers.specs.Demands as Demands
-use Rattle.answers.proofs.Demands.{typed-accepts, definition-runs, runs-agree, demand3}
+use Rattle.answers.proofs.Fits.{reaches-fits, half-positive}
+use Rattle.answers.proofs.Running.{ran}
+use Rattle.answers.proofs.Restamping.{restamped}
+use Rattle.answers.proofs.Demands.{typed-accepts, definition-runs, runs-agree, demand2, demand3}
 use Rattle.answers.specs.Cases.{answerOf}
 use Rattle.answers.specs.declared.Outcome.{Outcome}
 use Rattle.answers.specs.declared.Outcome.the-variants.{Stopped}
-use Rattle.format.specs.Terms.{fromTerm}
+use Rattle.format.specs.Terms.{fromTerm, TermFits}
+use Rattle.format.proofs.Restamping.{fits-wide}
 use Rattle.format.proofs.Trees.{term-cells, term-positive}
 use Rattle.emission.proofs.Fields.{term-field}
-use Rattle.layout.specs.Encoding.{InPlaceReady, EncodesTree, SomeTree, Closes}
+use Rattle.layout.specs.Encoding.{InPlaceReady, EncodesTree, EncodedIn, SomeTerm, ClosesTerm}
 use Rattle.layout.proofs.Encoded.{encode-ready}
 use Rattle.format.specs.Tree.{cells}
 use Rattle.running.specs.Turns.{EncodedTerm, StepReady, Runs}
@@ -32,23 +40,37 @@ use Rattle.engine.proofs.Rows.{judge-refuses}
 
 -- ---- the root, encoded and run
 
-module _ {w : List ℕ} {i : ℕ} (bytes : IsBytes w) where
-  root-small : (e : Term) → RootAt w i e → cells (fromTerm e) ≤ sizeLimit
-  root-small e p = omega (arith, term-cells e, p .small)
+-- the term that a run ends at fits the version, as the first did
+end-fits : (q : Version) {e : Term} {A : Ty} → Typed [] e A → size e ≤ sizeLimit → TermFits (halfOf q) e → (l : ℕ) {s : Stop} {n : ℕ} {f : Term} →
+    evaluate (halfOf q) sizeLimit l 0 e ≡ ended s n f → TermFits (halfOf q) f
+end-fits q {e} t k h l {f = f} m =
+    let a = ran (halfOf q) t l 0 e r-zero first in
+    reaches-fits (halfOf q) (half-positive q) (omega arith) (subst (λ (x : Ended). Reaches (halfOf q) (x .steps) e (x .term)) m (a .reached)) h
+  where
+    first : (i : ℕ) (g : Term) → i ≤ 0 → Reaches (halfOf q) i e g → size g ≤ sizeLimit
+    first i g o r-zero = k
+    first i g o (r-suc p s) = absurd (omega arith)
 
-  pub root-ready : {s : List ℕ} → 32768 ≤ length s → SomeRoot w i → InPlaceReady s w 3 i
+module _ {q : Version} {w : List ℕ} {i : ℕ} (bytes : IsBytes w) where
+  root-small : (e : Term) → RootAt q w i e → cells (fromTerm e) ≤ sizeLimit
+  root-small e p = omega (arith, term-cells Two e, p .small)
+
+  pub root-ready : {s : List ℕ} → 32768 ≤ length s → SomeRoot q w i → InPlaceReady s w 3 i
   root-ready l p =
       record {
         long = omega (arith, p .root .long);
-        ready = encode-ready l (term-field bytes (p .root .holds)) (term-positive (p .term)) (root-small (p .term) (p .root));
+        ready = encode-ready l (term-field bytes (p .root .holds)) (term-positive Two (p .term)) (root-small (p .term) (p .root));
       }
 
   module _ {v : List ℕ} {n : ℕ} (f : EncodesTree w v 3 i n) where
-    root-encoded : (e : Term) → RootAt w i e → EncodedTerm v n e
+    root-encoded : (e : Term) → RootAt q w i e → EncodedTerm v n e
     root-encoded e p =
-        record { tree = f .says (suc i) (fromTerm e) (term-field bytes (p .holds)) (term-positive e) (root-small e p); fits = p .fits }
+        record {
+          tree = f .says (suc i) (fromTerm e) (term-field bytes (p .holds)) (term-positive Two e) (root-small e p);
+          fits = fits-wide q e (p .fits);
+        }
 
-    pub root-typed : {s : List ℕ} → 32768 ≤ length s → length v ≡ length w → SomeRoot w i → StepReady s v n
+    pub root-typed : {s : List ℕ} → 32768 ≤ length s → length v ≡ length w → SomeRoot q w i → StepReady s v n
     root-typed l k p =
         record {
           long = l;
@@ -56,19 +78,23 @@ module _ {w : List ℕ} {i : ℕ} (bytes : IsBytes w) where
           at = record { term = p .term; encoded = root-encoded (p .term) (p .root); type = p .root .type; typed = p .root .typed };
         }
 
-    module _ {u : List ℕ} {l : ℕ} {z : End} (y : Runs half v u n l z) where
-      pub end-encoded : length u ≡ length w → SomeRoot w i → SomeTree u (z .cells)
-      end-encoded h p =
-          let k = y .says (p .term) (p .root .type) (root-encoded (p .term) (p .root)) (p .root .typed) in
-          record { work = h ∙ p .root .long; tree = fromTerm (k .term); encoded = k .encoded .tree }
+    module _ {u : List ℕ} {l : ℕ} {z : End} (y : Runs q v u n l z) where
+      -- the term reached, in the form that it has outside of books
+      reached : (e : Term) (p : RootAt q w i e) → EncodedIn q u (z .cells) (y .says e (p .type) (root-encoded e p) (p .typed) .term)
+      reached e p =
+          let k = y .says e (p .type) (root-encoded e p) (p .typed) in
+          record { tree = k .encoded .tree; fits = end-fits q (p .typed) (p .small) (p .fits) l (k .ends) }
 
-      pub root-runs : {t : List ℕ} → Closes u t (z .cells) → RunsRoot w t i l (Stopped (z .stop))
+      pub end-encoded : length u ≡ length w → SomeRoot q w i → SomeTerm q u (z .cells)
+      end-encoded h p = record { work = h ∙ p .root .long; term = _; encoded = reached (p .term) (p .root) }
+
+      pub root-runs : {t : List ℕ} → ClosesTerm q u t (z .cells) → RunsRoot q w t i l (Stopped (z .stop))
       unfolding endResult
       root-runs x =
           record {
             says = λ e p.
                 let k = y .says e (p .type) (root-encoded e p) (p .typed) in
-                rw (k .ends) (record { answer = k .answer; left = x .says (fromTerm (k .term)) (k .encoded .tree) });
+                rw (k .ends) (record { answer = k .answer; left = x .says (k .term) (reached e p) });
           }
 
 -- ---- what the definition answers, and so its meaning
@@ -88,15 +114,16 @@ module _ {b w v : List ℕ} {l : ℕ} {r : Outcome} (bytes : IsBytes b) where
             subst (λ (u : List ℕ). Refuses b w u n i) (sym (g .left)) (judge-refuses b w bytes (reported b l) (run-stops b l) n i (sym (g .answer) ∙ e));
         runs = runs;
         book = λ p. demand3 b bytes p;
+        restamped = λ p o n. restamped definition demand2 b bytes p o n;
         agree = λ k f A t other y q. (runs-agree t (runs k f A t) q, runs-agree t q (runs k f A t));
       }
     where
       same : {x : Result} → Gives v r x → result (answerOf r) v ≡ x
       same h = rw (h .answer, h .left)
 
-      runs : IsWork w → WellFormed b → (A : Ty) → Typed [] (rootTerm b) A → Demands.TakesSteps half (rootTerm b) l (result (answerOf r) v)
+      runs : IsWork w → WellFormed b → (A : Ty) → Typed [] (rootTerm b) A → Demands.TakesSteps (versionOf b) (rootTerm b) l (result (answerOf r) v)
       runs k f A t =
-          subst (λ (x : Result). Demands.TakesSteps half (rootTerm b) l x) (sym (same g)) (definition-runs b w l bytes k (typed-accepts b (f, (A, t))))
+          subst (λ (x : Result). Demands.TakesSteps (versionOf b) (rootTerm b) l x) (sym (same g)) (definition-runs b w l bytes k (typed-accepts b (f, (A, t))))
 
   pub ran-as : Gives v r (judge b w (reported b l)) → Ran b w v l r
   unfolding run

@@ -12,13 +12,15 @@ use lib.ListN.{length}
 use Rattle.calculus.specs.Syntax.{Ty}
 use Rattle.calculus.specs.Infer.{Reason, unbound, not-function, no-field, conflict, mismatch, Found, found, infer}
 use Rattle.calculus.specs.Infer as Infer
+use Rattle.format.specs.declared.Version.{Version}
+use Rattle.format.specs.declared.Version.the-variants.{Two}
 use Rattle.format.specs.Table as Table
 use Rattle.format.specs.Table.{type-sort, term-sort}
 use Rattle.format.specs.Cell.{IsBytes, cellAt}
 use Rattle.format.specs.Book.{Fault, bad-length, bad-trailer, bad-count, bad-kind, bad-unnamed, bad-reference, bad-sort, bad-root, bad-size}
 use Rattle.format.specs.Book.{Finding, firstBad, rowFault, cellFault, cellsForm, formFinding, everyField, unnamedOk, referenceOk, sortOk}
-use Rattle.format.specs.Book.{sortIs, hasSort, rootOf, count, follow, rootTerm, WellFormed}
-use Rattle.format.proofs.Tests.{sortIs-says, cellFault-says, cellsForm-says, formFinding-says}
+use Rattle.format.specs.Book.{sortIs, hasSort, versionOf, rootOf, count, follow, rootTerm, WellFormed}
+use Rattle.format.proofs.Tests.{sortIs-says, cellFault-says, cell-looser, cellsForm-says, formFinding-says}
 use Rattle.format.proofs.Findings.{by-rows}
 use Rattle.format.specs.Checking.{Names}
 use Rattle.format.proofs.RefusalPaths.{refusal-names}
@@ -37,9 +39,9 @@ OfCell f = elim f [ bad-length ↦ ⊥ | bad-trailer ↦ ⊥ | bad-count ↦ ⊥
 of-cell : (g f : Fault) → OfCell g → _≡_ {A = Option Fault} (some g) (some f) → OfCell f
 of-cell g f o e = subst OfCell (Option·some-injective g f e) o
 
-cell-faults : (s : List ℕ) (i : ℕ) (f : Fault) → cellFault s i ≡ some f → OfCell f
+cell-faults : (u : Version) (s : List ℕ) (i : ℕ) (f : Fault) → cellFault u s i ≡ some f → OfCell f
 unfolding cellFault rowFault firstBad
-cell-faults s i f e = go (Table.rowOf (cellAt s i .kind)) e
+cell-faults u s i f e = go (Table.rowFor u (cellAt s i .kind)) e
   where
     three : (x y z : Bool) → _≡_ {A = Option Fault} (elim x [ true ↦ elim y [ true ↦ elim z [ true ↦ none | false ↦ some bad-sort ] | false ↦ some bad-reference ] | false ↦ some bad-unnamed ]) (some f) → OfCell f
     three true true true q = absurd (Option·none-ne-some f q)
@@ -57,7 +59,7 @@ module _ (b w : List ℕ) where
   abbrev RowOf : Finding → Type 0
   RowOf f = RefusalRow b w (faultNumber (f .fault)) (f .cell)
 
-  cell-row : (i : ℕ) (f : Fault) → i < count b → cellFault b i ≡ some f → OfCell f → RowOf (record { fault = f; cell = i })
+  cell-row : (i : ℕ) (f : Fault) → i < count b → cellFault (versionOf b) b i ≡ some f → OfCell f → RowOf (record { fault = f; cell = i })
   cell-row i bad-kind h e o = kind h e
   cell-row i bad-unnamed h e o = unnamed h e
   cell-row i bad-reference h e o = reference h e
@@ -69,7 +71,7 @@ module _ (b w : List ℕ) where
   root-type : cellsForm b ≡ none → hasSort b term-sort (rootOf b) ≡ false → hasSort b type-sort (rootOf b) ≡ true
   root-type n h =
       let w = cellsForm-says b .0 n in
-      let k = cellFault-says b (rootOf b) .0 (w .sound (rootOf b) (w .rooted)) in
+      let k = cellFault-says Two b (rootOf b) .0 (cell-looser (versionOf b) b (rootOf b) (w .sound (rootOf b) (w .rooted))) in
       rw (k .found) (other (k .row) (rw (k .found) at h))
     where
       other : (r : Table.Row) → sortIs term-sort (some r) ≡ false → sortIs type-sort (some r) ≡ true
@@ -86,7 +88,7 @@ module _ (b w : List ℕ) where
         row-2 = length-row;
         row-3 = trailer;
         row-4 = count-row;
-        rows-5-to-8 = λ f i l h e. cell-row i f h e (cell-faults b i f e);
+        rows-5-to-8 = λ f i l h e. cell-row i f h e (cell-faults (versionOf b) b i f e);
         row-9 = λ n h. root (root-type n h);
         row-10 = λ h. size (ltb-true _ _ h);
       })

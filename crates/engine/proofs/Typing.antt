@@ -1,6 +1,6 @@
 -- From a loaded book to what typing finds of its root, and from there to what both calls answer. Assumes nothing.
 use Prim.Native.Nat.{ℕ, suc, _*_, _≤_}
-use mathlib.Core.Path.{_≡_, refl, _∙_, ap, subst}
+use mathlib.Core.Path.{_≡_, refl, sym, _∙_, ap, subst}
 use mathlib.Core.List.{List, []}
 use native.Mathlib.Omega.{arith}
 use lib.ListN.{length, take, replicate, length-replicate}
@@ -9,14 +9,19 @@ use Rattle.calculus.specs.Infer as Infer
 use Rattle.calculus.specs.Infer.{infer}
 use Rattle.calculus.proofs.Inference.{infer-says}
 use Rattle.calculus.proofs.Typing.{typed-size}
+use Rattle.format.specs.declared.Version.{Version}
+use Rattle.format.specs.declared.Version.the-variants.{Two}
 use Rattle.format.specs.Cell.{IsBytes, Cell}
 use Rattle.format.specs.Table.{term-sort}
-use Rattle.format.specs.Tree.{Tree, cells}
-use Rattle.format.specs.Terms.{toTerm, fromType}
-use Rattle.format.proofs.Trees.{type-cells, type-positive}
-use Rattle.format.specs.Book.{count, WellFormed, rootOf, leadsTo, follow, rootTerm, book, sizeLimit}
+use Rattle.format.specs.Tree.{cells, treeAt}
+use Rattle.format.specs.Terms.{toTerm, fromType, fromTerm}
+use Rattle.format.specs.Widths.{wideCells}
+use Rattle.format.proofs.Trees.{type-cells, type-positive, term-back}
+use Rattle.format.proofs.Widths.{widened, term-widened}
+use Rattle.format.proofs.Restamping.{fits-wide, wide-tree, wide-sort, leads-wide}
+use Rattle.format.specs.Book.{count, WellFormed, versionOf, rootOf, leadsTo, follow, rootTerm, sizeLimit}
 use Rattle.format.proofs.Paths.{follow-alike}
-use Rattle.format.proofs.Tests.{rootTerm-small, rootTerm-fits}
+use Rattle.format.proofs.Tests.{rootTerm-tree, rootTerm-small, rootTerm-fits}
 use Rattle.answers.specs.Answer.{Result, refused, accepted, reasonNumber}
 use Rattle.answers.specs.Definition.{afterTyping, refusalResult, shown, reported}
 use Rattle.answers.specs.Cases.{refusalAnswer}
@@ -32,16 +37,28 @@ use Rattle.typing.specs.declared.Found.the-variants.{Typed, Refused}
 use Rattle.answers.specs.declared.Outcome.{Outcome}
 use Rattle.answers.specs.declared.Outcome.the-variants as Out
 use Rattle.cells.proofs.Held.{holds, same-held}
-use Rattle.engine.specs.Stages.{RefusesBy, FindsRoot, finds, refuses, Formed, AfterTyping, RootAt, RunsRoot}
-use Rattle.engine.proofs.Parts.{cell-part, tree-part}
+use Rattle.engine.specs.Stages.{RefusesBy, FindsRoot, finds, refuses, Formed, AfterTyping, RootAt, SomeRoot, RunsRoot}
+use Rattle.engine.proofs.Parts.{cell-part, tree-part, part-length}
 
-module _ (b s : List ℕ) (bytes : IsBytes b) (f : WellFormed b) (l : Loaded (take (8 * count b) b) s (count b)) where
+module _ (b s : List ℕ) (bytes : IsBytes b) (f : WellFormed b) (l : Loaded (wideCells (versionOf b) (take (8 * count b) b)) s (count b)) where
+  abbrev part : List ℕ
+  part = take (8 * count b) b
+
+  -- the root's tree outside of the book: its term has the numbers of the book, extended
+  root-tree : treeAt (wideCells (versionOf b) part) (rootOf b) ≡ fromTerm (rootTerm b)
+  root-tree =
+      let low = f .formed .rooted in
+      wide-tree (versionOf b) part (count b) (part-length b f) (rootOf b) low
+      ∙ ap (widened (versionOf b)) (tree-part b (count b) (rootOf b) low ∙ sym (rootTerm-tree b bytes f))
+      ∙ term-widened (versionOf b) (rootTerm b) (rootTerm-fits b bytes f)
+
   root-held : HoldsTerm s (rootOf b) (rootTerm b)
-  unfolding rootTerm
   root-held =
       let i = rootOf b in
       let low = f .formed .rooted in
-      subst (λ (t : Tree). HoldsTerm s i (toTerm t)) (tree-part b (count b) i low) (holds (l .held i low term-sort (rw (cell-part b (count b) i low) (f .term))))
+      let sorted = wide-sort (versionOf b) part (count b) (part-length b f) term-sort i low in
+      subst (HoldsTerm s i) (ap toTerm root-tree ∙ term-back Two (rootTerm b) (fits-wide (versionOf b) (rootTerm b) (rootTerm-fits b bytes f)))
+      (holds (l .held i low term-sort (rw (sorted, cell-part b (count b) i low) (f .term))))
 
   pub ready : FindReady s (count b) 0 (rootOf b)
   ready =
@@ -58,7 +75,7 @@ module _ (b s : List ℕ) (bytes : IsBytes b) (f : WellFormed b) (l : Loaded (ta
 
   path-alike : (p : List ℕ) → follow s (rootOf b) p ≡ follow b (rootOf b) p
   path-alike p =
-      follow-alike s b (count b) (λ i g h. l .leads i h g ∙ ap (λ (t : Cell). leadsTo i t g) (cell-part b (count b) i h)) p (rootOf b) (f .formed .rooted)
+      follow-alike s b (count b) (λ i g h. l .leads i h g ∙ leads-wide (versionOf b) part (count b) (part-length b f) i g h ∙ ap (λ (t : Cell). leadsTo i t g) (cell-part b (count b) i h)) p (rootOf b) (f .formed .rooted)
 
   -- what typing answers of the root: the book's cells are as they were
   pub root-found : {t : List ℕ} {r : Found} → Finds s t (count b) 0 (rootOf b) r → FindsRoot b t (rootOf b) r
@@ -73,7 +90,7 @@ module _ (b s : List ℕ) (bytes : IsBytes b) (f : WellFormed b) (l : Loaded (ta
           refuses q e (a .2 ∙ ap (λ (i : ℕ). refused (reasonNumber w) i) (path-alike p))
 
 -- what follows from what was found
-module _ {b w t : List ℕ} {i : ℕ} {r : Found} (p : Formed b w i) (bytes : IsBytes b) (d : FindsRoot b t i r) where
+module _ {b w t : List ℕ} {u : Version} {i : ℕ} {r : Found} (p : Formed b w u i) (bytes : IsBytes b) (d : FindsRoot b t i r) where
   found-of : {c k : ℕ} → r ≡ Typed c k → (A : Ty) × (infer [] (rootTerm b) ≡ Infer.found A) × HoldsType t c A × HoldsTerm t i (rootTerm b)
   found-of {c} {k} e = go d
     where
@@ -97,14 +114,14 @@ module _ {b w t : List ℕ} {i : ℕ} {r : Found} (p : Formed b w i) (bytes : Is
   pub type-lain : {v : List ℕ} {c k n : ℕ} → length v ≡ length w → r ≡ Typed c k → EncodesTree t v 2 c n → SomeTree v n
   type-lain h e y = let a = found-of e in record { work = h ∙ p .work; tree = fromType (a .0); encoded = type-encoded (a .0) (a .1) (a .2) y }
 
-  pub check-found : {v u : List ℕ} {c k n : ℕ} → r ≡ Typed c k → EncodesTree t v 2 c n → Closes v u n → AfterTyping b shown u (Out.Accepted n)
+  pub check-found : {v o : List ℕ} {c k n : ℕ} → r ≡ Typed c k → EncodesTree t v 2 c n → Closes u v o n → AfterTyping b (shown (versionOf b)) o (Out.Accepted n)
   unfolding afterTyping shown
   check-found e y z =
       let a = found-of e in
       let l = type-encoded (a .0) (a .1) (a .2) y in
-      rw (a .1) (record { answer = ap accepted (l .count ∙ type-cells (a .0)); left = z .says (fromType (a .0)) l })
+      rw (a .1) (record { answer = ap accepted (l .count ∙ type-cells (a .0)); left = (rw (p .book .version) at z) .says (fromType (a .0)) l })
 
-  pub root-of : {c k : ℕ} → length t ≡ length w → r ≡ Typed c k → RootAt t i (rootTerm b)
+  pub root-of : {c k : ℕ} → length t ≡ length w → r ≡ Typed c k → RootAt (versionOf b) t i (rootTerm b)
   root-of l e =
       let a = found-of e in
       record {
@@ -116,9 +133,12 @@ module _ {b w t : List ℕ} {i : ℕ} {r : Found} (p : Formed b w i) (bytes : Is
         typed = infer-says [] (rootTerm b) (a .0) .0 (a .1);
       }
 
-  pub run-found : {v : List ℕ} {c k m : ℕ} {o : Outcome} → length t ≡ length w → r ≡ Typed c k → RunsRoot t v i m o → AfterTyping b (reported b m) v o
+  pub some-root : {c k : ℕ} → length t ≡ length w → r ≡ Typed c k → SomeRoot u t i
+  some-root l e = rw (p .book .version) (record { term = rootTerm b; root = root-of l e })
+
+  pub run-found : {v : List ℕ} {c k m : ℕ} {o : Outcome} → length t ≡ length w → r ≡ Typed c k → RunsRoot u t v i m o → AfterTyping b (reported b m) v o
   unfolding afterTyping
-  run-found l e y = let a = found-of e in rw (a .1) (y .says (rootTerm b) (root-of l e))
+  run-found l e y = let a = found-of e in rw (a .1) ((rw (p .book .version) at y) .says (rootTerm b) (root-of l e))
 
   -- a refusal is answered alike by both calls
   pub ill-typed-book : {q : Refusal} {v : List ℕ} {o : Outcome} (g : Ty → Result) → length t ≡ length w → r ≡ Refused q → RefusesBy t v q o → AfterTyping b g v o

@@ -5,7 +5,7 @@ use mathlib.Core.Logic.{_↔_}
 use mathlib.Core.List.{List, []}
 use Rattle.calculus.specs.Syntax.{Ty, size-type, size}
 use Rattle.calculus.specs.Typing.{Typed}
-use Rattle.format.specs.Book.{WellFormed, rootTerm, typeBook}
+use Rattle.format.specs.Book.{WellFormed, versionOf, rootTerm, typeBook}
 use Rattle.answers.specs.Answer.{refused, accepted}
 use Rattle.answers.specs.Engine.{IsWork, padded}
 use Rattle.answers.specs.Definition.{check}
@@ -22,6 +22,6 @@ pub record Checked (b w v : List ℕ) (r : Outcome) : Type 0 where
   pub refuses : (n i : ℕ) → answerOf r ≡ refused n i → Refuses b w v n i
   -- accepted precisely if the book is well-formed and the rules derive a type for its root
   pub accepts : IsWork w → ((n : ℕ) × (answerOf r ≡ accepted n)) ↔ (WellFormed b × ((A : Ty) × Typed [] (rootTerm b) A))
-  -- that type is the one encoded, and its size, the one given, does not pass the book's own
+  -- that type is the one encoded, in the version of the book, and its size, the one given, does not pass the book's own
   pub shows : IsWork w → WellFormed b → (A : Ty) → Typed [] (rootTerm b) A →
-      (answerOf r ≡ accepted (size-type A)) × (v ≡ padded (typeBook A)) × (size-type A ≤ size (rootTerm b))
+      (answerOf r ≡ accepted (size-type A)) × (v ≡ padded (typeBook (versionOf b) A)) × (size-type A ≤ size (rootTerm b))

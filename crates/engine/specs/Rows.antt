@@ -12,7 +12,7 @@ use Rattle.format.specs.Table.{type-sort}
 use Rattle.format.specs.Cell.{cellAt}
 use Rattle.format.specs.Tree.{cells, treeAt}
 use Rattle.format.specs.Book.{bad-kind, bad-unnamed, bad-reference, bad-sort, cellFault, lengthOk, trailerOk, countOk, hasSort, rootOf, sizeLimit}
-use Rattle.format.specs.Book.{count, follow, rootTerm, WellFormed}
+use Rattle.format.specs.Book.{count, versionOf, follow, rootTerm, WellFormed}
 use Rattle.format.specs.Checking.{Checking}
 use Rattle.answers.specs.Engine.{workLength, zeros}
 
@@ -35,13 +35,13 @@ pub data RefusalRow (b w : List ℕ) : ℕ → ℕ → Type 0 where
   -- "count is not one less than an eighth of the length, or root not below count"
   count-row : countOk b ≡ false → RefusalRow b w 4 0
   -- "unknown kind"
-  kind : {i : ℕ} → i < count b → cellFault b i ≡ some bad-kind → RefusalRow b w 5 i
+  kind : {i : ℕ} → i < count b → cellFault (versionOf b) b i ≡ some bad-kind → RefusalRow b w 5 i
   -- "an unnamed field is not zero"
-  unnamed : {i : ℕ} → i < count b → cellFault b i ≡ some bad-unnamed → RefusalRow b w 6 i
+  unnamed : {i : ℕ} → i < count b → cellFault (versionOf b) b i ≡ some bad-unnamed → RefusalRow b w 6 i
   -- "a reference not lower than its cell"
-  reference : {i : ℕ} → i < count b → cellFault b i ≡ some bad-reference → RefusalRow b w 7 i
+  reference : {i : ℕ} → i < count b → cellFault (versionOf b) b i ≡ some bad-reference → RefusalRow b w 7 i
   -- "a type where a term belongs, or the reverse"
-  sort : {i : ℕ} → i < count b → cellFault b i ≡ some bad-sort → RefusalRow b w 8 i
+  sort : {i : ℕ} → i < count b → cellFault (versionOf b) b i ≡ some bad-sort → RefusalRow b w 8 i
   -- "the root is a type"
   root : hasSort b type-sort (rootOf b) ≡ true → RefusalRow b w 9 (rootOf b)
   -- "size above 4,095"

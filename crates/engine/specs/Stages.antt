@@ -6,8 +6,9 @@ use mathlib.Core.List.{List, []}
 use lib.ListN.{length}
 use Rattle.calculus.specs.Syntax.{Ty, size, Term}
 use Rattle.calculus.specs.Typing.{Typed}
-use Rattle.format.specs.Cell.{half}
-use Rattle.format.specs.Book.{WellFormed, rootTerm, rootOf, follow, sizeLimit}
+use Rattle.format.specs.declared.Version.{Version}
+use Rattle.format.specs.Version.{halfOf}
+use Rattle.format.specs.Book.{WellFormed, versionOf, rootTerm, rootOf, follow, sizeLimit}
 use Rattle.answers.specs.Answer.{Result, refused, reasonNumber}
 use Rattle.answers.specs.Engine.{IsWork, zeros, workLength}
 use Rattle.answers.specs.Definition.{afterTyping, endResult, evaluate}
@@ -37,14 +38,15 @@ pub record RefusesBy (w v : List ℕ) (q : Refusal) (r : Outcome) : Type 0 where
   pub zeroed : IsWork w → v ≡ zeros workLength
   pub untouched : length w ≢ workLength → v ≡ w
 
--- A well-formed book, and its root's cell.
-pub record Rooted (b : List ℕ) (i : ℕ) : Type 0 where
+-- A well-formed book, its version, and its root's cell.
+pub record Rooted (b : List ℕ) (u : Version) (i : ℕ) : Type 0 where
   pub form : WellFormed b
+  pub version : u ≡ versionOf b
   pub root : i ≡ rootOf b
 
 -- A work buffer to load it into.
-pub record Findable (b s : List ℕ) (i : ℕ) : Type 0 where
-  pub book : Rooted b i
+pub record Findable (b s : List ℕ) (u : Version) (i : ℕ) : Type 0 where
+  pub book : Rooted b u i
   pub long : length s ≡ 65536
 
 -- The root's type, held by the work buffer t at c, and the root, still held; or typing's refusal, which names a cell of the book.
@@ -54,8 +56,8 @@ pub data FindsRoot (b t : List ℕ) (i : ℕ) (r : Found) : Type 0 where
       refusalAnswer q ≡ refused (reasonNumber x) (follow b (rootOf b) p) → FindsRoot b t i r
 
 -- The same book and a work buffer.
-pub record Formed (b w : List ℕ) (i : ℕ) : Type 0 where
-  pub book : Rooted b i
+pub record Formed (b w : List ℕ) (u : Version) (i : ℕ) : Type 0 where
+  pub book : Rooted b u i
   pub work : IsWork w
 
 -- The answer r and the bytes v are those of the result x.
@@ -67,20 +69,20 @@ pub record Gives (v : List ℕ) (r : Outcome) (x : Result) : Type 0 where
 abbrev pub AfterTyping : List ℕ → (Ty → Result) → List ℕ → Outcome → Type 0
 AfterTyping b g v r = Gives v r (afterTyping b g (infer [] (rootTerm b)))
 
--- A typed book's root, held in the work buffer.
-pub record RootAt (w : List ℕ) (i : ℕ) (e : Term) : Type 0 where
+-- A typed book's root, held in the work buffer; u is the version of the book, which its numbers fit.
+pub record RootAt (u : Version) (w : List ℕ) (i : ℕ) (e : Term) : Type 0 where
   pub long : length w ≡ 65536
   pub holds : HoldsTerm w i e
   pub small : size e ≤ sizeLimit
-  pub fits : TermFits e
+  pub fits : TermFits (halfOf u) e
   pub type : Ty
   pub typed : Typed [] e type
 
 -- Some term is such a root.
-pub record SomeRoot (w : List ℕ) (i : ℕ) : Type 0 where
+pub record SomeRoot (u : Version) (w : List ℕ) (i : ℕ) : Type 0 where
   pub term : Term
-  pub root : RootAt w i term
+  pub root : RootAt u w i term
 
 -- The run of the root: the definition's answer and bytes.
-pub record RunsRoot (w v : List ℕ) (i limit : ℕ) (r : Outcome) : Type 0 where
-  pub says : (e : Term) → RootAt w i e → Gives v r (endResult (evaluate half sizeLimit limit 0 e))
+pub record RunsRoot (u : Version) (w v : List ℕ) (i limit : ℕ) (r : Outcome) : Type 0 where
+  pub says : (e : Term) → RootAt u w i e → Gives v r (endResult u (evaluate (halfOf u) sizeLimit limit 0 e))

@@ -3,13 +3,16 @@ use answers::Outcome;
 use answers::Refusal;
 use book::Form;
 use book::check_form;
+use format::Version;
 use layout::clear;
 use layout::close;
+use layout::close_term;
 use layout::encode_in_place;
 use loading::load;
 use running::run_on;
 use typing::Found;
 use typing::find;
+ghost use Rattle.format.specs.Book.{versionOf};
 ghost use Rattle.answers.specs.Definition.{shown, reported};
 ghost use Rattle.engine.specs.Check.{Checked};
 ghost use Rattle.engine.specs.Stages.{FirstRows, RefusesBy, Findable, FindsRoot, Formed, AfterTyping, SomeRoot, RunsRoot};
@@ -36,72 +39,72 @@ fn refuse(work: &mut [u8], refusal: Refusal) -> Outcome
 }
 
 // A well-formed book's cells are loaded into the work buffer, where typing adds cells, and the root's type is found.
-fn find_root(book: &[u8], buffer: &mut [u8], root: usize) -> Found
-    requires { ⌜ Findable (now book) (now buffer) root ⌝ }
+fn find_root(book: &[u8], buffer: &mut [u8], version: Version, root: usize) -> Found
+    requires { ⌜ Findable (now book) (now buffer) version root ⌝ }
     ensures { λ r. ⌜ FindsRoot (now (book .entry)) (now (buffer .exit)) root r ⌝ }
 {
     let n = book.len() / 8 - 1;
-    load(&book[..8 * n], buffer, n);
+    load(&book[..8 * n], buffer, n, version);
     find(buffer, n, 0, root)
 }
 
 // A well-formed book: the type found is encoded.
-fn check_types(book: &[u8], work: &mut [u8], root: usize) -> Outcome
-    requires { ⌜ Formed (now book) (now work) root ⌝ }
-    ensures { λ r. ⌜ AfterTyping (now (book .entry)) shown (now (work .exit)) r ⌝ }
+fn check_types(book: &[u8], work: &mut [u8], version: Version, root: usize) -> Outcome
+    requires { ⌜ Formed (now book) (now work) version root ⌝ }
+    ensures { λ r. ⌜ AfterTyping (now (book .entry)) (shown (versionOf (now (book .entry)))) (now (work .exit)) r ⌝ }
 {
-    match find_root(book, work, root) {
+    match find_root(book, work, version, root) {
         Found::Refused(refusal) => refuse(work, refusal),
         Found::Typed(t, _) => {
             let mut s = [0u8; 32768];
             let n = encode_in_place(&mut s, work, 2, t);
-            close(work, n);
+            close(work, n, version);
             Outcome::Accepted(n)
         }
     }
 }
 
-// Checks a book: refused by number and cell, or accepted with the size of its type, which is encoded from byte 0.
+// Checks a book: refused by number and cell, or accepted with the size of its type, which is encoded from byte 0 in the version of the book.
 pub fn check(book: &[u8], work: &mut [u8]) -> Outcome
     ensures { λ r. ⌜ Checked (now (book .entry)) (now (work .entry)) (now (work .exit)) r ⌝ }
 {
     match first_rows(book, work.len()) {
         Form::Malformed(refusal) => refuse(work, refusal),
-        Form::WellFormed(root) => check_types(book, work, root),
+        Form::WellFormed(version, root) => check_types(book, work, version, root),
     }
 }
 
 // The root, held in the work buffer, is encoded and run there; a buffer of 4,096 cells serves both.
-fn run_root(work: &mut [u8], root: usize, limit: u32) -> Outcome
-    requires { ⌜ SomeRoot (now work) root ⌝ }
-    ensures { λ r. ⌜ RunsRoot (now (work .entry)) (now (work .exit)) root limit r ⌝ }
+fn run_root(work: &mut [u8], version: Version, root: usize, limit: u32) -> Outcome
+    requires { ⌜ SomeRoot version (now work) root ⌝ }
+    ensures { λ r. ⌜ RunsRoot version (now (work .entry)) (now (work .exit)) root limit r ⌝ }
 {
     let mut s = [0u8; 32768];
     let n = encode_in_place(&mut s, work, 3, root);
-    let end = run_on(&mut s, work, n, limit);
+    let end = run_on(&mut s, work, n, limit, version);
     let stop = end.stop;
-    close(work, end.cells);
+    close_term(work, end.cells, version);
     Outcome::Stopped(stop)
 }
 
 // A well-formed book: typed as the check types it, and run.
-fn run_types(book: &[u8], work: &mut [u8], root: usize, limit: u32) -> Outcome
-    requires { ⌜ Formed (now book) (now work) root ⌝ }
+fn run_types(book: &[u8], work: &mut [u8], version: Version, root: usize, limit: u32) -> Outcome
+    requires { ⌜ Formed (now book) (now work) version root ⌝ }
     ensures { λ r. ⌜ AfterTyping (now (book .entry)) (reported (now (book .entry)) limit) (now (work .exit)) r ⌝ }
 {
-    match find_root(book, work, root) {
+    match find_root(book, work, version, root) {
         Found::Refused(fault) => refuse(work, fault),
-        Found::Typed(_, _) => run_root(work, root, limit),
+        Found::Typed(_, _) => run_root(work, version, root, limit),
     }
 }
 
 // Runs a book for at most limit steps: refused as the check refuses it, or stopped at a value, for steps or for room, with the term
-// reached encoded from byte 0.
+// reached encoded from byte 0 in the version of the book.
 pub fn run(book: &[u8], work: &mut [u8], limit: u32) -> Outcome
     ensures { λ r. ⌜ Ran (now (book .entry)) (now (work .entry)) (now (work .exit)) limit r ⌝ }
 {
     match first_rows(book, work.len()) {
         Form::Malformed(fault) => refuse(work, fault),
-        Form::WellFormed(root) => run_types(book, work, root, limit),
+        Form::WellFormed(version, root) => run_types(book, work, version, root, limit),
     }
 }

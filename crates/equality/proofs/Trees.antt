@@ -11,11 +11,12 @@ use Rattle.calculus.proofs.Bools.{eqb-says}
 use Rattle.format.specs.Table.{term-sort, Use, rowOf}
 use Rattle.format.specs.Cell.{Cell, cellAt}
 use Rattle.format.specs.Tree.{Tree, kindIn, treeAt}
-use Rattle.format.specs.Book.{count, WellFormed}
+use Rattle.format.specs.Book.{count, versionOf, WellFormed}
 use Rattle.cells.specs.Held.{labelBy, HeldField}
 use Rattle.cells.specs.Coded.{useOf, rowFrom}
 use Rattle.cells.specs.declared.Entry.{Entry}
 use Rattle.cells.proofs.Held.{fields-of, row-at, below, any-sort, field-one}
+use Rattle.format.proofs.Tests.{cell-looser}
 use Rattle.cells.proofs.Unshared.{unshares}
 use Rattle.cells.proofs.Rows.{refers-at, FieldsOf, by-entry, unused-is, plain-is, fieldMeasure, field-less}
 use Rattle.equality.specs.Trees.{Unshares, Unshared, Comparable, in-book, in-cells, SameTree, SameField, same-unused, same-plain, same-cells}
@@ -23,7 +24,7 @@ use Rattle.equality.specs.Trees.{Unshares, Unshared, Comparable, in-book
 -- ---- every cell of a book is a tree, and what is said of cells that are trees is said of the book
 
 book-unshares : {s : List ℕ} {i : ℕ} → WellFormed s → i < count s → Unshares s i (treeAt s i)
-book-unshares {s} w h = let long = w .formed .long in let n : 8 * count s ≤ length s = omega arith in (term-sort, unshares n (w .formed .sound) h term-sort)
+book-unshares {s} w h = let long = w .formed .long in let n : 8 * count s ≤ length s = omega arith in (term-sort, unshares n (λ i l. cell-looser (versionOf s) s i (w .formed .sound i l)) h term-sort)
 
 pub unshared : {s : List ℕ} {i j : ℕ} → Comparable s i j → Unshared s i × Unshared s j
 unshared (in-book w h k) = ((_, book-unshares w h), (_, book-unshares w k))

@@ -1,14 +1,16 @@
--- Closed facts that show what the tests of a book say: which row stands where a book meets two, and the cell that it names; and where a path
--- leads. Each is computed from the definitions alone. Assumes nothing.
+-- Closed facts that show what the tests of a book say: which row stands where a book meets two, and the cell that it names; what a version names; how a
+-- book is restamped; and where a path leads. Each is computed from the definitions alone. Assumes nothing.
 use Prim.Native.Nat.{ℕ}
 use mathlib.Core.Path.{_≡_, refl}
 use mathlib.Core.Option.{none, some}
 use mathlib.Core.List.{List, [], _∷_, _++_, map}
-use Rattle.format.specs.Table.{table, rowIn, rowOf}
+use Rattle.format.specs.declared.Version.the-variants.{One, Two}
+use Rattle.format.specs.Table.{table, rowIn, rowFor}
 use Rattle.format.specs.Cell.{cellAt, cellBytes}
 use Rattle.format.specs.Tree.{cells, fieldTree, cellTree, unshareWithin, treeAt}
 use Rattle.format.specs.Book.{bad-length, bad-trailer, bad-count, bad-unnamed, bad-reference, bad-sort, bad-root}
 use Rattle.format.specs.Book.{firstBad, rowFault, cellFault, cellsFinding, rootFinding, cellsForm, formFinding, follow, trailer}
+use Rattle.format.specs.Widths.{extendedCells, restamp}
 use Rattle.format.proofs.Findings.{at}
 
 abbrev cell : (kind label a b c : ℕ) → List ℕ
@@ -29,14 +31,14 @@ rows :
     map formFinding
     (one
     ∷ (one ++ cell 0 1 5 0 0)
-    ∷ (cell 0 0 0 0 0 ++ trailer 1 1)
-    ∷ (cell 18 7 0 0 0 ++ cell 0 0 0 0 0 ++ trailer 2 0)
-    ∷ (one ++ cell 22 0 1 0 1 ++ trailer 2 1)
-    ∷ (int ++ one ++ cell 19 0 0 2 0 ++ trailer 3 2)
-    ∷ (int ++ one ++ cell 19 0 0 0 0 ++ trailer 3 1)
-    ∷ (one ++ cell 19 0 0 0 0 ++ trailer 2 0)
-    ∷ (one ++ int ++ trailer 2 1)
-    ∷ (int ++ one ++ cell 19 0 1 0 0 ++ trailer 3 2)
+    ∷ (cell 0 0 0 0 0 ++ trailer One 1 1)
+    ∷ (cell 18 7 0 0 0 ++ cell 0 0 0 0 0 ++ trailer One 2 0)
+    ∷ (one ++ cell 22 0 1 0 1 ++ trailer One 2 1)
+    ∷ (int ++ one ++ cell 19 0 0 2 0 ++ trailer One 3 2)
+    ∷ (int ++ one ++ cell 19 0 0 0 0 ++ trailer One 3 1)
+    ∷ (one ++ cell 19 0 0 0 0 ++ trailer One 2 0)
+    ∷ (one ++ int ++ trailer One 2 1)
+    ∷ (int ++ one ++ cell 19 0 1 0 0 ++ trailer One 3 2)
     ∷ [])
     -- 2: a cell and no trailer; 3: byte 0 of the trailer is wrong, and so is its count; 4: the root is past the cells, and cell 0 of no kind
     ≡ (some (at bad-length 0)
@@ -55,19 +57,44 @@ rows :
     -- 1 annotated with Int
     ∷ none
     ∷ [])
-unfolding table rowIn rowOf cellAt cellBytes cells fieldTree cellTree unshareWithin treeAt firstBad rowFault cellFault cellsFinding rootFinding cellsForm formFinding trailer
+unfolding table rowIn rowFor cellAt cellBytes cells fieldTree cellTree unshareWithin treeAt firstBad rowFault cellFault cellsFinding rootFinding cellsForm formFinding trailer
 rows = refl
+
+-- Document 02, (iv): a number names field a in version 2 alone, and its label in neither; there is no version but 1 and 2.
+versions :
+    map formFinding
+    ((cell 17 0 1 5 0 ++ trailer One 1 0)
+    ∷ (cell 17 0 1 5 0 ++ trailer Two 1 0)
+    ∷ (cell 17 7 1 5 0 ++ trailer Two 1 0)
+    ∷ (one ++ cell 0xf0 3 1 0 0)
+    ∷ (one ++ cell 0xf0 0 1 0 0)
+    ∷ [])
+    ≡ (some (at bad-unnamed 0) ∷ none ∷ some (at bad-unnamed 0) ∷ some (at bad-trailer 0) ∷ some (at bad-trailer 0) ∷ [])
+unfolding table rowIn rowFor cellAt cellBytes cells fieldTree cellTree unshareWithin treeAt firstBad rowFault cellFault cellsFinding rootFinding cellsForm formFinding trailer
+versions = refl
+
+-- "restamped as version 2 with each number extended by its sign": -5, and 2147483647
+restamped :
+    map restamp
+    ((17 ∷ 0 ∷ 0 ∷ 0 ∷ 251 ∷ 255 ∷ 255 ∷ 255 ∷ 240 ∷ 1 ∷ 1 ∷ 0 ∷ 0 ∷ 0 ∷ 0 ∷ 0 ∷ [])
+    ∷ (17 ∷ 0 ∷ 0 ∷ 0 ∷ 255 ∷ 255 ∷ 255 ∷ 127 ∷ 240 ∷ 1 ∷ 1 ∷ 0 ∷ 0 ∷ 0 ∷ 0 ∷ 0 ∷ [])
+    ∷ [])
+    ≡ ((17 ∷ 0 ∷ 251 ∷ 255 ∷ 255 ∷ 255 ∷ 255 ∷ 255 ∷ 240 ∷ 2 ∷ 1 ∷ 0 ∷ 0 ∷ 0 ∷ 0 ∷ 0 ∷ [])
+    ∷ (17 ∷ 0 ∷ 255 ∷ 255 ∷ 255 ∷ 127 ∷ 0 ∷ 0 ∷ 240 ∷ 2 ∷ 1 ∷ 0 ∷ 0 ∷ 0 ∷ 0 ∷ 0 ∷ [])
+    ∷ [])
+unfolding cellAt cellBytes extendedCells restamp trailer
+restamped = refl
 
 -- The top value, and a record of 1, merged: paths from the merge, cell 3.
 abbrev merged : List ℕ
-merged = top ++ one ++ cell 24 7 1 0 0 ++ cell 22 0 0 2 0 ++ trailer 4 3
+merged = top ++ one ++ cell 24 7 1 0 0 ++ cell 22 0 0 2 0 ++ trailer One 4 3
 
 -- field c of a merge is no reference
 paths : map (follow merged 3) ([] ∷ (0 ∷ []) ∷ (1 ∷ []) ∷ (1 ∷ 0 ∷ []) ∷ (2 ∷ []) ∷ []) ≡ (3 ∷ 0 ∷ 2 ∷ 1 ∷ 3 ∷ [])
-unfolding table rowIn rowOf follow cellAt cellBytes trailer
+unfolding table rowIn rowFor follow cellAt cellBytes trailer
 paths = refl
 
 -- The top value as a function: its types are fields b and c.
-function : map (follow (top ++ int ++ cell 2 0 0 0 0 ++ cell 21 0 0 1 2 ++ trailer 4 3) 3) ((0 ∷ []) ∷ (1 ∷ []) ∷ (2 ∷ []) ∷ []) ≡ (0 ∷ 1 ∷ 2 ∷ [])
-unfolding table rowIn rowOf follow cellAt cellBytes trailer
+function : map (follow (top ++ int ++ cell 2 0 0 0 0 ++ cell 21 0 0 1 2 ++ trailer One 4 3) 3) ((0 ∷ []) ∷ (1 ∷ []) ∷ (2 ∷ []) ∷ []) ≡ (0 ∷ 1 ∷ 2 ∷ [])
+unfolding table rowIn rowFor follow cellAt cellBytes trailer
 function = refl

@@ -10,12 +10,13 @@ use mathlib.Core.Option.{none, some}
 use mathlib.Core.List.{List, [], _∷_, _++_, append-assoc}
 use lib.ListN.{length, length-append}
 use lib.Seq.{getD-append-add, sets}
-use Rattle.format.specs.Table.{Sort, Use, unused, plain, refers, Row, rowOf}
+use Rattle.format.specs.declared.Version.{Version}
+use Rattle.format.specs.Table.{Sort, Use, unused, plain, refers, Row, rowFor}
 use Rattle.format.specs.Cell.{IsBytes, byte, pair, Cell, cellAt, cellBytes}
 use Rattle.format.specs.Tree.{Tree, raw, node, cells, fieldTree, cellTree, treeAt, refer, encode}
 use Rattle.format.specs.Book.{hasSort, cellFault}
 use Rattle.format.proofs.Unsharing.{fieldTree-lower, treeAt-cell}
-use Rattle.format.proofs.Tests.{sortIs-says, FieldOk, cellFault-says}
+use Rattle.format.proofs.Tests.{sortIs-says, FieldOk, cellFault-says, looser-row, tree-looser}
 
 -- a run of stores, and then another behind it
 pub sets-append : (x y l : List ℕ) (i : ℕ) → sets l i (x ++ y) ≡ sets (sets l i x) (i + length x) y
@@ -27,11 +28,11 @@ pub data Number (n : ℕ) : Use → ℕ → Type 0 where
   blank : Number n unused 0
   number : {x : ℕ} → x < n → Number n plain x
 
--- a tree in a field, as the table of kinds will have it, all its numbers fitting their fields
-pub data Good : Use → Tree → Type 0 where
-  leaf : {u : Use} {x : ℕ} → Number 65536 u x → Good u (raw x)
-  cell : {k l : ℕ} {a b c : Tree} {s : Sort} {r : Row} → rowOf k ≡ some r → r .sort ≡ s → k < 256 → Number 256 (r .label) l
-      → Good (r .a) a → Good (r .b) b → Good (r .c) c → Good (refers s) (node k l a b c)
+-- a tree in a field, as the table of kinds will have it in a version, all its numbers fitting their fields
+pub data Good (v : Version) : Use → Tree → Type 0 where
+  leaf : {u : Use} {x : ℕ} → Number 65536 u x → Good v u (raw x)
+  cell : {k l : ℕ} {a b c : Tree} {s : Sort} {r : Row} → rowFor v k ≡ some r → r .sort ≡ s → k < 256 → Number 256 (r .label) l
+      → Good v (r .a) a → Good v (r .b) b → Good v (r .c) c → Good v (refers s) (node k l a b c)
 
 -- The bytes x stand in s from cell m on.
 pub record Part (s : List ℕ) (m : ℕ) (x : List ℕ) : Type 0 where
@@ -84,17 +85,17 @@ length-encode m (node k l a b c) =
     simp length-append (omega arith)
 
 -- No cell from m on and before n has a fault.
-abbrev pub Sound : List ℕ → ℕ → ℕ → Type 0
-Sound s m n = (i : ℕ) → m ≤ i → i < n → cellFault s i ≡ none
+abbrev pub Sound : Version → List ℕ → ℕ → ℕ → Type 0
+Sound v s m n = (i : ℕ) → m ≤ i → i < n → cellFault v s i ≡ none
 
-sound-join : (s : List ℕ) (m x n : ℕ) → Sound s m x → Sound s x n → Sound s m n
-sound-join s m x n f g i l h = elim (decLt i x) [ yes p ↦ f i l p | no p ↦ g i (omega arith) h ]
+sound-join : (v : Version) (s : List ℕ) (m x n : ℕ) → Sound v s m x → Sound v s x n → Sound v s m n
+sound-join v s m x n f g i l h = elim (decLt i x) [ yes p ↦ f i l p | no p ↦ g i (omega arith) h ]
 
 -- What holds of a good tree of use u that stands in s from cell m on; i is any cell behind it.
-pub record Encoded (s : List ℕ) (m : ℕ) (u : Use) (t : Tree) : Type 0 where
+pub record Encoded (v : Version) (s : List ℕ) (m : ℕ) (u : Use) (t : Tree) : Type 0 where
   pub passes : (i : ℕ) → m + cells t ≤ i → FieldOk s i u (refer m t)
   pub decodes : (i : ℕ) → m + cells t ≤ i → fieldTree (treeAt s) i u (refer m t) ≡ t
-  pub sound : Sound s m (m + cells t)
+  pub sound : Sound v s m (m + cells t)
 
 number-passes : (s : List ℕ) (i : ℕ) {n : ℕ} {u : Use} {x : ℕ} → Number n u x → FieldOk s i u x
 number-passes s i blank = refl
@@ -106,25 +107,26 @@ number-fieldTree g i blank = refl
 number-fieldTree g i (number h) = refl
 
 -- the step of `padded`: the three fields are encoded one after the other, and then the cell
-encoded-cell : {s : List ℕ} {m k l : ℕ} {a b c : Tree} {so : Sort} {r : Row} → rowOf k ≡ some r → r .sort ≡ so → Number 256 (r .label) l
-    → Encoded s m (r .a) a
-    → Encoded s (m + cells a) (r .b) b
-    → Encoded s (m + cells a + cells b) (r .c) c
+encoded-cell : {v : Version} {s : List ℕ} {m k l : ℕ} {a b c : Tree} {so : Sort} {r : Row} → rowFor v k ≡ some r → r .sort ≡ so → Number 256 (r .label) l
+    → Encoded v s m (r .a) a
+    → Encoded v s (m + cells a) (r .b) b
+    → Encoded v s (m + cells a + cells b) (r .c) c
     → cellAt s (refer m (node k l a b c))
     ≡ record { kind = k; label = l; a = refer m a; b = refer (m + cells a) b; c = refer (m + cells a + cells b) c }
-    → Encoded s m (refers so) (node k l a b c)
+    → Encoded v s m (refers so) (node k l a b c)
 unfolding cells refer cellTree
-encoded-cell {s} {m} {k} {l} {a} {b} {c} {so} {r} e f hl la lb lc q =
+encoded-cell {v} {s} {m} {k} {l} {a} {b} {c} {so} {r} e f hl la lb lc q =
     let n = refer m (node k l a b c) in
+    let z = looser-row v k r e in
     record {
-      passes = λ i h. (omega arith, rw (q, e) (sortIs-says so r .1 f));
+      passes = λ i h. (omega arith, rw (q, z .1) (sortIs-says so (z .0) .1 (sym (z .2 .sort) ∙ f)));
       decodes = λ i h. fieldTree-lower (treeAt s) i n so (omega arith)
           ∙ treeAt-cell s n
-          ∙ rw (q, e, la .decodes n (omega arith), lb .decodes n (omega arith), lc .decodes n (omega arith));
-      sound = sound-join s m (m + cells a) _ (la .sound)
-          (sound-join s (m + cells a) (m + cells a + cells b) _ (lb .sound)
-          (sound-join s (m + cells a + cells b) n _ (λ i g h. lc .sound i g (omega arith))
-          (λ i g h. rw (last i g h) (cellFault-says s n .1 (record {
+          ∙ rw (q, z .1, ← tree-looser (z .2 .a), ← tree-looser (z .2 .b), ← tree-looser (z .2 .c), la .decodes n (omega arith), lb .decodes n (omega arith), lc .decodes n (omega arith));
+      sound = sound-join v s m (m + cells a) _ (la .sound)
+          (sound-join v s (m + cells a) (m + cells a + cells b) _ (lb .sound)
+          (sound-join v s (m + cells a + cells b) n _ (λ i g h. lc .sound i g (omega arith))
+          (λ i g h. rw (last i g h) (cellFault-says v s n .1 (record {
             row = r;
             found = rw q e;
             fields = rw q (record {
@@ -139,9 +141,9 @@ encoded-cell {s} {m} {k} {l} {a} {b} {c} {so} {r} e f hl la lb lc q =
     last : (i : ℕ) → refer m (node k l a b c) ≤ i → i < m + cells (node k l a b c) → i ≡ refer m (node k l a b c)
     last i g h = omega arith
 
-pub padded : {s : List ℕ} {m : ℕ} {u : Use} {t : Tree} → Good u t → Part s m (encode m t) → Encoded s m u t
+pub padded : {v : Version} {s : List ℕ} {m : ℕ} {u : Use} {t : Tree} → Good v u t → Part s m (encode m t) → Encoded v s m u t
 unfolding cells refer encode
-padded {s} (leaf h) p =
+padded {s = s} (leaf h) p =
     record { passes = λ i l. number-passes s i h; decodes = λ i l. number-fieldTree (treeAt s) i h; sound = λ i l g. absurd (omega arith) }
 padded {m = m} (cell {a = a} {b = b} {c = c} e f h hl ga gb gc) p =
     let pb = part-right (cells a) (encode m a) _ (length-encode m a) p in
@@ -152,16 +154,16 @@ padded {m = m} (cell {a = a} {b = b} {c = c} e f h hl ga gb gc) p =
     (padded gc (part-left (encode (m + cells a + cells b) c) _ pc)) (cell-back _ (rw end at pd))
 
 -- Of a tree that has a cell: the cell that stands for it is its last, decodes to it and is of its sort.
-pub root-last : {s : Sort} {t : Tree} (m : ℕ) → Good (refers s) t → suc (refer m t) ≡ m + cells t
+pub root-last : {v : Version} {s : Sort} {t : Tree} (m : ℕ) → Good v (refers s) t → suc (refer m t) ≡ m + cells t
 unfolding cells refer
 root-last m (cell e f h hl ga gb gc) = omega arith
 
-pub root-decodes : {s : List ℕ} {m : ℕ} {so : Sort} {t : Tree} → Encoded s m (refers so) t → treeAt s (refer m t) ≡ t
-root-decodes {s} {m} {so} {t} l =
+pub root-decodes : {v : Version} {s : List ℕ} {m : ℕ} {so : Sort} {t : Tree} → Encoded v s m (refers so) t → treeAt s (refer m t) ≡ t
+root-decodes {s = s} {m} {so} {t} l =
     let i = m + cells t in
     sym (fieldTree-lower (treeAt s) i (refer m t) so (l .passes i (omega arith) .0)) ∙ l .decodes i (omega arith)
 
-pub root-sorted : {s : List ℕ} {m : ℕ} {so : Sort} {t : Tree} → Encoded s m (refers so) t → hasSort s so (refer m t) ≡ true
+pub root-sorted : {v : Version} {s : List ℕ} {m : ℕ} {so : Sort} {t : Tree} → Encoded v s m (refers so) t → hasSort s so (refer m t) ≡ true
 root-sorted {m = m} {t = t} l = l .passes (m + cells t) (omega arith) .1
 
 -- every element is a byte, by the shape of the list
@@ -189,12 +191,12 @@ number-fits : {n : ℕ} {u : Use} {x : ℕ} → Number n u x → 0 < n → x < n
 number-fits blank h = h
 number-fits (number f) h = f
 
-refer-fits : {u : Use} {t : Tree} (m : ℕ) → Good u t → m + cells t ≤ 65536 → refer m t < 65536
+refer-fits : {v : Version} {u : Use} {t : Tree} (m : ℕ) → Good v u t → m + cells t ≤ 65536 → refer m t < 65536
 unfolding cells refer
 refer-fits m (leaf h) l = number-fits h (omega arith)
 refer-fits m (cell e f h hl ga gb gc) l = omega arith
 
-pub encode-bytes : {u : Use} {t : Tree} (m : ℕ) → Good u t → m + cells t ≤ 65536 → Bytes (encode m t)
+pub encode-bytes : {v : Version} {u : Use} {t : Tree} (m : ℕ) → Good v u t → m + cells t ≤ 65536 → Bytes (encode m t)
 unfolding cells encode
 encode-bytes m (leaf h) f = empty
 encode-bytes m (cell {a = a} {b = b} {c = c} e f h hl ga gb gc) n =

@@ -6,35 +6,36 @@ use mathlib.Core.Option.{Option, none, some, Option·some-injective, Option·non
 use mathlib.Core.List.{List}
 use native.Mathlib.Omega.{arith}
 use lib.Dec.{ltb}
+use Rattle.format.specs.declared.Version.{Version}
 use Rattle.format.specs.Table.{term-sort}
 use Rattle.format.specs.Tree.{cells, treeAt}
 use Rattle.format.specs.Book.{Fault, bad-length, bad-trailer, bad-count, bad-root, bad-size, Finding, cellFault, cellsFinding, rootFinding, cellsForm, formFinding}
-use Rattle.format.specs.Book.{lengthOk, trailerOk, countOk, hasSort, rootOf, count, sizeLimit}
+use Rattle.format.specs.Book.{versionOf, lengthOk, trailerOk, countOk, hasSort, rootOf, count, sizeLimit}
 
 abbrev pub at : Fault → ℕ → Finding
 at f i = record { fault = f; cell = i }
 
 -- the first finding among n cells from i on is one of them
-record Among (s : List ℕ) (n : ℕ) (f : Finding) : Type 0 where
+record Among (v : Version) (s : List ℕ) (n : ℕ) (f : Finding) : Type 0 where
   below : f .cell < n
-  meets : cellFault s (f .cell) ≡ some (f .fault)
+  meets : cellFault v s (f .cell) ≡ some (f .fault)
 
-among : (s : List ℕ) (n i : ℕ) (f : Finding) → cellsFinding s n i ≡ some f → Among s (i + n) f
+among : (v : Version) (s : List ℕ) (n i : ℕ) (f : Finding) → cellsFinding v s n i ≡ some f → Among v s (i + n) f
 unfolding cellsFinding
-among s zero i f e = absurd (Option·none-ne-some f e)
-among s (suc n) i f e = go (among s n (suc i) f) (cellFault s i) refl e
+among v s zero i f e = absurd (Option·none-ne-some f e)
+among v s (suc n) i f e = go (among v s n (suc i) f) (cellFault v s i) refl e
   where
-    go : (cellsFinding s n (suc i) ≡ some f → Among s (suc i + n) f) → (x : Option Fault) → cellFault s i ≡ x →
-        _≡_ {A = Option Finding} (elim x [ none ↦ cellsFinding s n (suc i) | some g ↦ some (at g i) ]) (some f) → Among s (i + suc n) f
+    go : (cellsFinding v s n (suc i) ≡ some f → Among v s (suc i + n) f) → (x : Option Fault) → cellFault v s i ≡ x →
+        _≡_ {A = Option Finding} (elim x [ none ↦ cellsFinding v s n (suc i) | some g ↦ some (at g i) ]) (some f) → Among v s (i + suc n) f
     go h none p q = let a = h q in record { below = omega (arith, a .below); meets = a .meets }
-    go h (some g) p q = subst (Among s (i + suc n)) (Option·some-injective (at g i) f q) (record { below = omega arith; meets = p })
+    go h (some g) p q = subst (Among v s (i + suc n)) (Option·some-injective (at g i) f q) (record { below = omega arith; meets = p })
 
 -- P of each row's finding, from what the row found; rows 5 to 8 are asked of a book of the right length, 9 and 10 past row 8.
 pub record EachRow (P : Finding → Type 0) (s : List ℕ) : Type 0 where
   pub row-2 : lengthOk s ≡ false → P (at bad-length 0)
   pub row-3 : trailerOk s ≡ false → P (at bad-trailer 0)
   pub row-4 : countOk s ≡ false → P (at bad-count 0)
-  pub rows-5-to-8 : (f : Fault) (i : ℕ) → lengthOk s ≡ true → i < count s → cellFault s i ≡ some f → P (at f i)
+  pub rows-5-to-8 : (f : Fault) (i : ℕ) → lengthOk s ≡ true → i < count s → cellFault (versionOf s) s i ≡ some f → P (at f i)
   pub row-9 : cellsForm s ≡ none → hasSort s term-sort (rootOf s) ≡ false → P (at bad-root (rootOf s))
   pub row-10 : ltb sizeLimit (cells (treeAt s (rootOf s))) ≡ true → P (at bad-size (rootOf s))
 
@@ -56,7 +57,7 @@ module _ (P : Finding → Type 0) (s : List ℕ) (r : EachRow P s) where
       tested (trailerOk s) _ refl bad-trailer _ f (r .row-3)
       (λ t.
       tested (countOk s) _ refl bad-count _ f (r .row-4)
-      (λ c q. let a = among s (count s) 0 f q in r .rows-5-to-8 (f .fault) (f .cell) l (omega (arith, a .below)) (a .meets)))) e
+      (λ c q. let a = among (versionOf s) s (count s) 0 f q in r .rows-5-to-8 (f .fault) (f .cell) l (omega (arith, a .below)) (a .meets)))) e
 
   root-found : cellsForm s ≡ none → (f : Finding) → rootFinding s ≡ some f → P f
   unfolding rootFinding

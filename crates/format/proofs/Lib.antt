@@ -4,6 +4,8 @@ pub mod Unsharing
 pub mod Tests
 pub mod Encoding
 pub mod RoundTrip
+pub mod Widths
+pub mod Restamping
 pub mod Assertions
 pub mod Paths
 pub mod RefusalPaths

@@ -11,15 +11,17 @@ use Rattle.calculus.specs.RefusalPaths.{At, here, in-anno, in-left, in-right, i
 use Rattle.calculus.specs.RefusalPaths.{in-sum-left, in-sum-right, in-tested, in-zero, in-other}
 use Rattle.calculus.specs.RefusalPaths.{ChecksPart, of-anno, of-argument, of-body, of-fix, of-sum-left, of-sum-right, of-tested, of-zero, of-other, NamesPart}
 use Rattle.calculus.proofs.RefusalPaths.{infer-names}
-use Rattle.format.specs.Table.{Sort, term-sort, Use, refers, Row, table, rowIn, rowOf, useIn}
+use Rattle.format.specs.declared.Version.{Version}
+use Rattle.format.specs.declared.Version.the-variants.{Two}
+use Rattle.format.specs.Table.{Sort, term-sort, Use, refers, Row, table, rowIn, rowFor, rowOf, useIn}
 use Rattle.format.specs.Cell.{IsBytes, cellAt}
 use Rattle.format.specs.Tree.{Tree, node, fieldTree, cellTree, treeAt}
-use Rattle.format.specs.Terms.{fromTerm}
-use Rattle.format.specs.Book.{count, rootOf, fieldIn, follow, rootTerm, WellFormedCells, WellFormed}
+use Rattle.format.specs.Terms.{fromTermIn}
+use Rattle.format.specs.Book.{count, rootOf, versionOf, fieldIn, follow, rootTerm, WellFormedCells, WellFormed}
 use Rattle.format.specs.Checking.{Checking, by-anno, by-application, by-function, by-fixpoint, by-sum-left, by-sum-right, by-tested, by-zero, by-other, Names}
 use Rattle.format.proofs.Unsharing.{fieldTree-lower, treeAt-cell}
 use Rattle.format.proofs.Paths.{leads-at, follow-on}
-use Rattle.format.proofs.Tests.{FieldOk, CellOk, cellFault-says, rootTerm-tree}
+use Rattle.format.proofs.Tests.{FieldOk, CellOk, cellFault-says, cell-looser, rootTerm-tree}
 
 -- a cell has its tree's kind
 kind-is : (s : List ℕ) (i k l : ℕ) (x y z : Tree) → treeAt s i ≡ node k l x y z → cellAt s i .kind ≡ k
@@ -44,8 +46,8 @@ third (suc (suc f)) x y z = z
 
 -- a cell, its tree, and the row of its kind
 module _ (s : List ℕ) (w : WellFormedCells s) (f i k l : ℕ) (x y z : Tree) (r : Row) (below : i < count s) (e : treeAt s i ≡ node k l x y z) (row : rowOf k ≡ some r) where
-  ok : CellOk s i
-  ok = cellFault-says s i .0 (w .sound i below)
+  ok : CellOk Two s i
+  ok = cellFault-says Two s i .0 (cell-looser (versionOf s) s i (w .sound i below))
 
   same-row : ok .row ≡ r
   same-row = Option·some-injective (ok .row) r (sym (ok .found) ∙ ap rowOf (kind-is s i k l x y z e) ∙ row)
@@ -86,7 +88,7 @@ record Arrives (s : List ℕ) (i : ℕ) (p : List ℕ) (t : Tree) : Type 0 where
   on : (q : List ℕ) → follow s i (p ++ q) ≡ follow s (follow s i p) q
 
 -- The cell at the end of a path holds the part at its end.
-module _ (s : List ℕ) (w : WellFormedCells s) where
+module _ (v : Version) (s : List ℕ) (w : WellFormedCells s) where
   -- on by a field
   onward : {i f j : ℕ} {t u : Tree} (p : List ℕ) → i < count s → Leads s i f j t →
       ((j : ℕ) → j < count s → treeAt s j ≡ t → Arrives s j p u) → Arrives s i (f ∷ p) u
@@ -99,8 +101,8 @@ module _ (s : List ℕ) (w : WellFormedCells s) where
         on = λ q. v .path (p ++ q) ∙ a .on q ∙ ap (λ (k : ℕ). follow s k q) (sym e);
       }
 
-  arrives : {e f : Term} {p : List ℕ} → At e p f → (i : ℕ) → i < count s → treeAt s i ≡ fromTerm e → Arrives s i p (fromTerm f)
-  unfolding follow fromTerm table rowIn rowOf
+  arrives : {e f : Term} {p : List ℕ} → At e p f → (i : ℕ) → i < count s → treeAt s i ≡ fromTermIn v e → Arrives s i p (fromTermIn v f)
+  unfolding follow fromTermIn table rowIn rowFor
   arrives here i b t = record { holds = t; below = b; on = λ q. refl }
   arrives (in-anno {p = p} h) i b t = onward p b (leads s w 0 i 19 0 _ _ _ _ b t refl term-sort refl) (arrives h)
   arrives (in-left {p = p} h) i b t = onward p b (leads s w 0 i 20 0 _ _ _ _ b t refl term-sort refl) (arrives h)
@@ -118,8 +120,8 @@ module _ (s : List ℕ) (w : WellFormedCells s) where
   arrives (in-other {p = p} h) i b t = onward p b (leads s w 2 i 27 0 _ _ _ _ b t refl term-sort refl) (arrives h)
 
   -- the cell j around a checked part: the part is one of its fields
-  checks-at : {e f : Term} {n : ℕ} → ChecksPart e n f → (j : ℕ) → j < count s → treeAt s j ≡ fromTerm e → Checking s j (follow s j (n ∷ []))
-  unfolding follow fromTerm table rowIn rowOf
+  checks-at : {e f : Term} {n : ℕ} → ChecksPart e n f → (j : ℕ) → j < count s → treeAt s j ≡ fromTermIn v e → Checking s j (follow s j (n ∷ []))
+  unfolding follow fromTermIn table rowIn rowFor
   checks-at of-anno j b t = by-anno (kind-is s j 19 _ _ _ _ t) (leads s w 0 j 19 0 _ _ _ _ b t refl term-sort refl .path [])
   checks-at of-argument j b t = by-application (kind-is s j 20 _ _ _ _ t) (leads s w 1 j 20 0 _ _ _ _ b t refl term-sort refl .path [])
   checks-at of-body j b t = by-function (kind-is s j 21 _ _ _ _ t) (leads s w 0 j 21 0 _ _ _ _ b t refl term-sort refl .path [])
@@ -130,20 +132,20 @@ module _ (s : List ℕ) (w : WellFormedCells s) where
   checks-at of-zero j b t = by-zero (kind-is s j 27 _ _ _ _ t) (leads s w 1 j 27 0 _ _ _ _ b t refl term-sort refl .path [])
   checks-at of-other j b t = by-other (kind-is s j 27 _ _ _ _ t) (leads s w 2 j 27 0 _ _ _ _ b t refl term-sort refl .path [])
 
-module _ (s : List ℕ) (w : WellFormedCells s) (i : ℕ) (b : i < count s) (e : Term) (t : treeAt s i ≡ fromTerm e) where
+module _ (v : Version) (s : List ℕ) (w : WellFormedCells s) (i : ℕ) (b : i < count s) (e : Term) (t : treeAt s i ≡ fromTermIn v e) where
   named-cell : (r : Reason) (p : List ℕ) (f : Term) → At e p f → NamesPart r e p f → Names s r (follow s i p)
-  unfolding fromTerm
-  named-cell unbound p f a n = kind-is s (follow s i p) 16 _ _ _ _ (arrives s w a i b t .holds ∙ ap fromTerm (n .1))
-  named-cell not-function p f a n = kind-is s (follow s i p) 20 _ _ _ _ (arrives s w a i b t .holds ∙ ap fromTerm (n .2))
-  named-cell no-field p f a n = kind-is s (follow s i p) 25 _ _ _ _ (arrives s w a i b t .holds ∙ ap fromTerm (n .2))
-  named-cell conflict p f a n = kind-is s (follow s i p) 22 _ _ _ _ (arrives s w a i b t .holds ∙ ap fromTerm (n .2))
+  unfolding fromTermIn
+  named-cell unbound p f a n = kind-is s (follow s i p) 16 _ _ _ _ (arrives v s w a i b t .holds ∙ ap (fromTermIn v) (n .1))
+  named-cell not-function p f a n = kind-is s (follow s i p) 20 _ _ _ _ (arrives v s w a i b t .holds ∙ ap (fromTermIn v) (n .2))
+  named-cell no-field p f a n = kind-is s (follow s i p) 25 _ _ _ _ (arrives v s w a i b t .holds ∙ ap (fromTermIn v) (n .2))
+  named-cell conflict p f a n = kind-is s (follow s i p) 22 _ _ _ _ (arrives v s w a i b t .holds ∙ ap (fromTermIn v) (n .2))
   named-cell mismatch p f a n =
-      let v = arrives s w (n .at) i b t in
+      let a = arrives v s w (n .at) i b t in
       let j = follow s i (n .to) in
-      (j, subst (Checking s j) (sym (ap (follow s i) (n .path) ∙ v .on (n .last ∷ []))) (checks-at s w (n .checks) j (v .below) (v .holds)))
+      (j, subst (Checking s j) (sym (ap (follow s i) (n .path) ∙ a .on (n .last ∷ []))) (checks-at v s w (n .checks) j (a .below) (a .holds)))
 
 pub refusal-names : (s : List ℕ) → IsBytes s → WellFormed s → (r : Reason) (p : List ℕ) → infer [] (rootTerm s) ≡ refused r p →
     Names s r (follow s (rootOf s) p)
 refusal-names s y w r p e =
     let x = infer-names [] (rootTerm s) r p e in
-    named-cell s (w .formed) (rootOf s) (w .formed .rooted) (rootTerm s) (sym (rootTerm-tree s y w)) r p (x .part) (x .at) (x .named)
+    named-cell (versionOf s) s (w .formed) (rootOf s) (w .formed .rooted) (rootTerm s) (sym (rootTerm-tree s y w)) r p (x .part) (x .at) (x .named)

@@ -8,10 +8,12 @@ use mathlib.Core.List.{List, [], _∷_, _++_}
 use lib.Dec.{eqb, ltb}
 use lib.ListN.{length}
 use Rattle.calculus.specs.Syntax.{Ty, Term}
-use Rattle.format.specs.Table.{Sort, type-sort, term-sort, Use, unused, plain, refers, Row, rowOf, useIn}
+use Rattle.format.specs.declared.Version.{Version}
+use Rattle.format.specs.Version.{versionByte, versionFrom}
+use Rattle.format.specs.Table.{Sort, type-sort, term-sort, Use, unused, plain, refers, Row, rowFor, rowOf, useIn}
 use Rattle.format.specs.Cell.{byte, pair, Cell, cellAt}
 use Rattle.format.specs.Tree.{Tree, cells, treeAt, encode}
-use Rattle.format.specs.Terms.{fromType, fromTerm, toTerm}
+use Rattle.format.specs.Terms.{fromType, fromTermIn, toTermIn}
 
 -- "The limit is 4,095."
 abbrev pub sizeLimit : ℕ
@@ -33,13 +35,17 @@ trailerAt s = 8 * count s
 abbrev pub rootOf : List ℕ → ℕ
 rootOf s = pair s (trailerAt s + 4)
 
+-- "byte 1 the version": of a book past row 3, 1 or 2.
+abbrev pub versionOf : List ℕ → Version
+versionOf s = versionFrom (byte s (trailerAt s + 1))
+
 -- 2: "below 16, above 32,768, or not a multiple of 8"
 abbrev pub lengthOk : List ℕ → Bool
 lengthOk s = not (ltb (length s) 16) && not (ltb 32768 (length s)) && eqb (length s % 8) 0
 
--- 3: "wrong byte 0, 1, 6 or 7"
+-- 3: "wrong byte 0, 1, 6 or 7"; a version other than 1 and 2 is wrong.
 abbrev pub trailerOk : List ℕ → Bool
-trailerOk s = eqb (byte s (trailerAt s)) 0xf0 && eqb (byte s (trailerAt s + 1)) 1 && eqb (pair s (trailerAt s + 6)) 0
+trailerOk s = eqb (byte s (trailerAt s)) 0xf0 && eqb (byte s (trailerAt s + 1)) (versionByte (versionOf s)) && eqb (pair s (trailerAt s + 6)) 0
 
 -- 4: "count is not one less than an eighth of the length, or root not below count"
 abbrev pub countOk : List ℕ → Bool
@@ -92,9 +98,9 @@ rowFault s i t (some r) =
     ∷ (everyField (sortOk s) r t, bad-sort)
     ∷ [])
 
--- The first of rows 5 to 8 that cell i meets.
-unfoldable pub cellFault : List ℕ → ℕ → Option Fault
-cellFault s i = rowFault s i (cellAt s i) (rowOf (cellAt s i .kind))
+-- The first of rows 5 to 8 that cell i meets in a book of this version.
+unfoldable pub cellFault : Version → List ℕ → ℕ → Option Fault
+cellFault v s i = rowFault s i (cellAt s i) (rowFor v (cellAt s i .kind))
 
 -- A fault and the cell that it names.
 pub record Finding : Type 0 where
@@ -106,9 +112,9 @@ abbrev finding : Fault → ℕ → Option Finding
 finding f i = some (record { fault = f; cell = i })
 
 -- "cells ascending, each cell completely": the first finding among n cells from i on
-unfoldable pub cellsFinding : List ℕ → ℕ → ℕ → Option Finding
-cellsFinding s zero i = none
-cellsFinding s (suc n) i = elim (cellFault s i) [ none ↦ cellsFinding s n (suc i) | some f ↦ finding f i ]
+unfoldable pub cellsFinding : Version → List ℕ → ℕ → ℕ → Option Finding
+cellsFinding v s zero i = none
+cellsFinding v s (suc n) i = elim (cellFault v s i) [ none ↦ cellsFinding v s n (suc i) | some f ↦ finding f i ]
 
 -- 9: "the root is a type"; 10: "size above 4,095"
 unfoldable pub rootFinding : List ℕ → Option Finding
@@ -125,7 +131,7 @@ cellsForm s =
       | false ↦ finding bad-length 0
       | true ↦ elim (trailerOk s) [
         | false ↦ finding bad-trailer 0
-        | true ↦ elim (countOk s) [ false ↦ finding bad-count 0 | true ↦ cellsFinding s (count s) 0 ]
+        | true ↦ elim (countOk s) [ false ↦ finding bad-count 0 | true ↦ cellsFinding (versionOf s) s (count s) 0 ]
       ]
     ]
 
@@ -139,11 +145,11 @@ pub record WellFormedCells (s : List ℕ) : Type 0 where
   pub short : length s ≤ 32768
   pub whole : length s % 8 ≡ 0
   pub mark : byte s (trailerAt s) ≡ 0xf0
-  pub version : byte s (trailerAt s + 1) ≡ 1
+  pub version : byte s (trailerAt s + 1) ≡ versionByte (versionOf s)
   pub zeros : pair s (trailerAt s + 6) ≡ 0
   pub counted : pair s (trailerAt s + 2) ≡ count s
   pub rooted : rootOf s < count s
-  pub sound : (i : ℕ) → i < count s → cellFault s i ≡ none
+  pub sound : (i : ℕ) → i < count s → cellFault (versionOf s) s i ≡ none
 
 -- and no row from 2 to 10: the root is a term of at most 4,095 cells, unshared.
 pub record WellFormed (s : List ℕ) : Type 0 where
@@ -179,20 +185,20 @@ follow s i (f ∷ p) = elim (leadsTo i (cellAt s i) f) [ none ↦ i | some j ↦
 
 -- The root of a book, unshared: document 01's "sharing opened".
 unfoldable pub rootTerm : List ℕ → Term
-rootTerm s = toTerm (treeAt s (rootOf s))
+rootTerm s = toTermIn (versionOf s) (treeAt s (rootOf s))
 
--- "Trailer: byte 0 is F0 (hex); byte 1 the version, 1; bytes 2–3 the cell count; bytes 4–5 the root cell; bytes 6–7 zero."
-unfoldable pub trailer : ℕ → ℕ → List ℕ
-trailer n r = 0xf0 ∷ 1 ∷ n % 256 ∷ n / 256 ∷ r % 256 ∷ r / 256 ∷ 0 ∷ 0 ∷ []
+-- "Trailer: byte 0 is F0 (hex); byte 1 the version, ..; bytes 2–3 the cell count; bytes 4–5 the root cell; bytes 6–7 zero."
+unfoldable pub trailer : Version → ℕ → ℕ → List ℕ
+trailer v n r = 0xf0 ∷ versionByte v ∷ n % 256 ∷ n / 256 ∷ r % 256 ∷ r / 256 ∷ 0 ∷ 0 ∷ []
 
--- "A term or type is laid down as a version 1 book of its own, trailer included"
-unfoldable pub book : Tree → List ℕ
-book t = encode 0 t ++ trailer (cells t) (cells t - 1)
+-- "A term or type is laid down as a .. book of its own, trailer included"; "A laid-down book has the version it came from."
+unfoldable pub book : Version → Tree → List ℕ
+book v t = encode 0 t ++ trailer v (cells t) (cells t - 1)
 
 -- A type encoded,
-abbrev pub typeBook : Ty → List ℕ
-typeBook A = book (fromType A)
+abbrev pub typeBook : Version → Ty → List ℕ
+typeBook v A = book v (fromType A)
 
 -- and a term.
-abbrev pub termBook : Term → List ℕ
-termBook e = book (fromTerm e)
+abbrev pub termBook : Version → Term → List ℕ
+termBook v e = book v (fromTermIn v e)

@@ -6,8 +6,6 @@ use mathlib.Core.Bool.{cond}
 use lib.Dec.{ltb}
 use lib.IntN.{ℤ, pos, negsuc}
 use lib.ListN.{getD}
--- "bytes 4–7, signed 32 bits"
-pub use Rattle.calculus.specs.Numbers.{half}
 
 -- every element is a byte
 abbrev pub IsBytes : List ℕ → Type 0

@@ -1,7 +1,9 @@
+pub mod Version
 pub mod Table
 pub mod Cell
 pub mod Tree
 pub mod Terms
 pub mod Book
+pub mod Widths
 pub mod RoundTrip
 pub mod Checking

@@ -1,10 +1,12 @@
--- Document 01, "Bytes of a book": the table of kinds, as data, with document 02's kinds 26 and 27. One row a kind, once for all readers. Assumes
--- nothing.
+-- Document 01, "Bytes of a book": the table of kinds, as data, with document 02's kinds 26 and 27. One row a kind, once for all readers; the number's
+-- row is by the version of the book. Assumes nothing.
 use Prim.Native.Nat.{ℕ, zero, suc}
 use mathlib.Core.Bool.{true, false, cond}
 use mathlib.Core.List.{List, [], _∷_}
 use mathlib.Core.Option.{Option, none, some}
 use lib.Dec.{eqb}
+use Rattle.format.specs.declared.Version.{Version}
+use Rattle.format.specs.declared.Version.the-variants.{One, Two}
 
 -- "a type where a term belongs, or the reverse": what a cell is, and what a reference is to.
 pub data Sort : Type 0 where
@@ -42,18 +44,23 @@ types = refers type-sort
 abbrev terms : Use
 terms = refers term-sort
 
+-- Field a of a number: "Version 2 in the trailer stores a number in bytes 2–7", and version 1 in "bytes 4–7".
+abbrev pub lowest : Version → Use
+lowest One = unused
+lowest Two = plain
+
 -- kind, sort, label, a, b, c
-unfoldable pub table : List Row
-table =
+unfoldable pub table : Version → List Row
+table v =
     -- Int, Top, function type, intersection, record type
     row 1 type-sort unused unused unused unused
     ∷ row 2 type-sort unused unused unused unused
     ∷ row 3 type-sort unused types types unused
     ∷ row 4 type-sort unused types types unused
     ∷ row 5 type-sort plain types unused unused
-    -- variable, number (b and c hold it), top value, annotation, application
+    -- variable, number (b and c hold it, in version 2 a too), top value, annotation, application
     ∷ row 16 term-sort unused plain unused unused
-    ∷ row 17 term-sort unused unused plain plain
+    ∷ row 17 term-sort unused (lowest v) plain plain
     ∷ row 18 term-sort unused unused unused unused
     ∷ row 19 term-sort unused terms types unused
     ∷ row 20 term-sort unused terms terms unused
@@ -78,9 +85,13 @@ unfoldable pub rowIn : List Row → ℕ → Option Row
 rowIn [] k = none
 rowIn (r ∷ rs) k = elim (eqb k (r .kind)) [ true ↦ some r | false ↦ rowIn rs k ]
 
--- The row of a kind; none for an unknown kind.
-unfoldable pub rowOf : ℕ → Option Row
-rowOf k = rowIn table k
+-- The row of a kind in a book of this version; none for an unknown kind.
+unfoldable pub rowFor : Version → ℕ → Option Row
+rowFor v k = rowIn (table v) k
+
+-- Version 2 names all that version 1 does. Its row is the one for sorts, for references, and for cells that are not in a book.
+abbrev pub rowOf : ℕ → Option Row
+rowOf = rowFor Two
 
 -- "Kinds 21 and 23 bind one variable in a." Of a term of this kind under k binders, the binders over field a.
 abbrev pub inside : ℕ → ℕ → ℕ

@@ -4,17 +4,24 @@ use Prim.Native.Nat.{ℕ, _+_, _*_, _-_, _≤_, _<_, zero-le}
 use native.Mathlib.Decide.{decLe}
 use native.Mathlib.Omega.{arith}
 use native.Mathlib.Nat.{zero-add}
-use mathlib.Core.Path.{_≡_, refl, _∙_, ap, subst}
+use mathlib.Core.Path.{_≡_, refl, sym, _∙_, ap, subst, subst⁻¹}
 use mathlib.Core.Logic.{_⊎_, inl, inr}
 use mathlib.Core.Bool.{false}
 use mathlib.Core.List.{List, [], _++_, append-nil}
 use borrow.Rule.Slice.PartMut.{putMid, midOf, postOf, post-is}
 use lib.ListN.{length, take, drop, replicate, length-append, length-take, length-drop}
 use lib.Seq.{sets, sets-eq, length-sets, take-at, drop-length, length-take-le}
+use Rattle.calculus.specs.Syntax.{Term}
+use Rattle.format.specs.declared.Version.{Version}
+use Rattle.format.specs.declared.Version.the-variants.{One, Two}
+use Rattle.format.specs.Version.{versionByte}
 use Rattle.format.specs.Cell.{Cell, cellBytes}
 use Rattle.format.specs.Tree.{Tree, cells, encode}
+use Rattle.format.specs.Terms.{fromTermIn, fromTerm}
 use Rattle.format.specs.Book.{sizeLimit, book, trailer}
 use Rattle.format.proofs.Encoding.{length-encode}
+use Rattle.format.proofs.Trees.{term-cells}
+use Rattle.widths.specs.Narrowing.{Narrows}
 use Rattle.format.proofs.RoundTrip.{book-length}
 use Rattle.answers.specs.Engine.{workLength, zeros, padded}
 use Rattle.cells.specs.Coded.{useOf}
@@ -22,7 +29,7 @@ use Rattle.cells.specs.Held.{HeldField}
 use Rattle.emission.specs.Emits.{Emits, EmitsField}
 use Rattle.emission.specs.declared.Emitted.{Emitted}
 use Rattle.emission.specs.declared.Emitted.the-variants.{Next, Full}
-use Rattle.layout.specs.Encoding.{EncodedTree, EncodeReady, EncodesTree}
+use Rattle.layout.specs.Encoding.{EncodedTree, EncodeReady, EncodesTree, SomeTree, Closes, EncodedIn, SomeTerm, ClosesTerm}
 
 -- ---- emitted from cell 0 on
 
@@ -80,16 +87,16 @@ module _ {s d e : List ℕ} {u x : ℕ} {r : Emitted} (p : EncodeReady s d u x) 
 
 -- ---- closed
 
-abbrev trailerCell : ℕ → Cell
-trailerCell n = record { kind = 240; label = 1; a = n; b = n - 1; c = 0 }
+abbrev trailerCell : ℕ → ℕ → Cell
+trailerCell x n = record { kind = 240; label = x; a = n; b = n - 1; c = 0 }
 
 -- the first n + 1 cells are then the tree's book
-book-front : {d e : List ℕ} {n : ℕ} {t : Tree} → EncodedTree d n t → e ≡ sets d (8 * n) (cellBytes (trailerCell n)) → take (8 * (n + 1)) e ≡ book t
+book-front : (v : Version) {d e : List ℕ} {n : ℕ} {t : Tree} → EncodedTree d n t → e ≡ sets d (8 * n) (cellBytes (trailerCell (versionByte v) n)) → take (8 * (n + 1)) e ≡ book v t
 unfolding cellBytes book trailer
-book-front {d} {e} {n} {t} l q =
-    let T = trailer n (n - 1) in
+book-front v {d} {e} {n} {t} l q =
+    let T = trailer v n (n - 1) in
     let h : 8 * n + 8 ≤ length d = omega (arith, l .long, l .small) in
-    let f : take (8 * n) d ++ T ≡ book t = ap (λ (x : List ℕ). x ++ T) (l .encoded) ∙ ap (λ (x : ℕ). encode 0 t ++ trailer x (x - 1)) (l .count) in
+    let f : take (8 * n) d ++ T ≡ book v t = ap (λ (x : List ℕ). x ++ T) (l .encoded) ∙ ap (λ (x : ℕ). encode 0 t ++ trailer v x (x - 1)) (l .count) in
     let m : length (take (8 * n) d ++ T) ≡ 8 * (n + 1) =
     length-append (take (8 * n) d) T ∙ ap (λ (x : ℕ). x + 8) (length-take-le (8 * n) d (omega arith)) ∙ omega arith in
     ap (take (8 * (n + 1))) (q ∙ sets-eq T d (8 * n) h) ∙ take-at (take (8 * n) d ++ T) (drop (8 * n + 8) d) (8 * (n + 1)) m ∙ f
@@ -101,15 +108,43 @@ nothing-after a u h = post-is a (length u) u h ∙ drop-length u
 part-length : (a : ℕ) (u : List ℕ) → a ≤ length u → length (midOf a (length u - a) u) ≡ length u - a
 part-length a u h = simp (length-take, length-drop) (omega arith)
 
-pub closed : {d u z : List ℕ} {n : ℕ} (t : Tree) → length d ≡ 65536 → EncodedTree d n t → u ≡ sets d (8 * n) (cellBytes (trailerCell n)) →
-    z ≡ replicate (length (midOf (8 * (n + 1)) (length u - 8 * (n + 1)) u)) 0 → putMid (8 * (n + 1)) (length u - 8 * (n + 1)) u z ≡ padded (book t)
+pub closed : (v : Version) {d u z : List ℕ} {n x : ℕ} → x ≡ versionByte v → (t : Tree) → length d ≡ 65536 → EncodedTree d n t → u ≡ sets d (8 * n) (cellBytes (trailerCell x n)) →
+    z ≡ replicate (length (midOf (8 * (n + 1)) (length u - 8 * (n + 1)) u)) 0 → putMid (8 * (n + 1)) (length u - 8 * (n + 1)) u z ≡ padded (book v t)
 unfolding padded zeros
-closed {d} {u} {z} {n} t w l q p =
+closed v {d} {u} {z} {n} {x} y t w l q p =
     let a = 8 * (n + 1) in
-    let long : length u ≡ 65536 = ap length q ∙ length-sets d (8 * n) (cellBytes (trailerCell n)) ∙ w in
+    let long : length u ≡ 65536 = ap length q ∙ length-sets d (8 * n) (cellBytes (trailerCell x n)) ∙ w in
     let h : a ≤ length u = omega (arith, l .small) in
-    let size-is : length (book t) ≡ a = book-length t ∙ omega (arith, l .count) in
-    let m : length (midOf a (length u - a) u) ≡ workLength - length (book t) = part-length a u h ∙ omega arith in
+    let size-is : length (book v t) ≡ a = book-length v t ∙ omega (arith, l .count) in
+    let m : length (midOf a (length u - a) u) ≡ workLength - length (book v t) = part-length a u h ∙ omega arith in
     ap (λ (x : List ℕ). take a u ++ (z ++ x)) (nothing-after a u h)
     ∙ ap (λ (x : List ℕ). take a u ++ x) (append-nil z ∙ p ∙ ap (λ (i : ℕ). replicate i 0) m)
-    ∙ ap (λ (x : List ℕ). x ++ replicate (workLength - length (book t)) 0) (book-front l q)
+    ∙ ap (λ (x : List ℕ). x ++ replicate (workLength - length (book v t)) 0) (book-front v l (rw y at q))
+
+-- ---- a term, as a version has it
+
+-- in version 1 its numbers are narrowed first
+module _ {d e : List ℕ} {n : ℕ} (q : Narrows d e n) where
+  pub narrowed-term : (f : Term) → EncodedIn One d n f → EncodedTree e n (fromTermIn One f)
+  narrowed-term f l =
+      let c : cells (fromTermIn One f) ≡ cells (fromTerm f) = term-cells One f ∙ sym (term-cells Two f) in
+      record {
+        long = rw (q .long) (l .tree .long);
+        count = l .tree .count ∙ sym c;
+        some = l .tree .some;
+        small = l .tree .small;
+        encoded = q .says f (l .fits) (l .tree .count ∙ term-cells Two f) (l .tree .encoded);
+      }
+
+  pub narrowed-some : SomeTerm One d n → SomeTree e n
+  narrowed-some p = record { work = q .long ∙ p .work; tree = _; encoded = narrowed-term (p .term) (p .encoded) }
+
+  pub closes-narrowed : {v : Version} {z : List ℕ} → v ≡ One → Closes v e z n → ClosesTerm v d z n
+  closes-narrowed {z = z} i h =
+      subst⁻¹ (λ (v : Version). ClosesTerm v d z n) i (record { says = λ f l. (rw i at h) .says (fromTermIn One f) (narrowed-term f l) })
+
+pub wide-some : {d : List ℕ} {n : ℕ} {v : Version} → SomeTerm v d n → SomeTree d n
+wide-some p = record { work = p .work; tree = _; encoded = p .encoded .tree }
+
+pub closes-wide : {d z : List ℕ} {n : ℕ} {v : Version} → v ≡ Two → Closes v d z n → ClosesTerm v d z n
+closes-wide {d} {z} {n} i h = subst⁻¹ (λ (v : Version). ClosesTerm v d z n) i (record { says = λ f l. (rw i at h) .says (fromTerm f) (l .tree) })

@@ -4,8 +4,12 @@ use mathlib.Core.Path.{_≡_}
 use mathlib.Core.Bool.{false}
 use mathlib.Core.List.{List}
 use lib.ListN.{length, take}
+use Rattle.calculus.specs.Syntax.{Term}
+use Rattle.format.specs.declared.Version.{Version}
+use Rattle.format.specs.Version.{halfOf}
 use Rattle.format.specs.Tree.{Tree, cells, encode}
-use Rattle.format.specs.Book.{sizeLimit, book}
+use Rattle.format.specs.Terms.{fromTerm, TermFits}
+use Rattle.format.specs.Book.{sizeLimit, book, termBook}
 use Rattle.answers.specs.Engine.{padded}
 use Rattle.cells.specs.Coded.{useOf}
 use Rattle.cells.specs.Held.{HeldField}
@@ -41,5 +45,20 @@ pub record SomeTree (d : List ℕ) (n : ℕ) : Type 0 where
   pub encoded : EncodedTree d n tree
 
 -- "bytes past the laid-down book are zero"
-pub record Closes (d e : List ℕ) (n : ℕ) : Type 0 where
-  pub says : (t : Tree) → EncodedTree d n t → e ≡ padded (book t)
+pub record Closes (v : Version) (d e : List ℕ) (n : ℕ) : Type 0 where
+  pub says : (t : Tree) → EncodedTree d n t → e ≡ padded (book v t)
+
+-- The term f is encoded there, with numbers of 48 bits, and its numbers fit the version.
+pub record EncodedIn (v : Version) (d : List ℕ) (n : ℕ) (f : Term) : Type 0 where
+  pub tree : EncodedTree d n (fromTerm f)
+  pub fits : TermFits (halfOf v) f
+
+-- A work buffer that begins with such a term.
+pub record SomeTerm (v : Version) (d : List ℕ) (n : ℕ) : Type 0 where
+  pub work : length d ≡ 65536
+  pub term : Term
+  pub encoded : EncodedIn v d n term
+
+-- "A laid-down book has the version it came from."
+pub record ClosesTerm (v : Version) (d e : List ℕ) (n : ℕ) : Type 0 where
+  pub says : (f : Term) → EncodedIn v d n f → e ≡ padded (termBook v f)

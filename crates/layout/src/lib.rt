@@ -1,12 +1,15 @@
-// Encoding: a held tree from cell 0 on, its trailer and the zeros behind it; a buffer of zeros.
+// Encoding: a held tree from cell 0 on, its trailer and the zeros behind it, in the version that it came from; a buffer of zeros.
 use cells::Cell;
 use cells::write_cell;
 use emission::Emitted;
 use emission::emit_field;
+use format::Version;
 use moving::copy;
+use widths::narrow;
 ghost use mathlib.Core.Path.{_≡_};
 ghost use lib.ListN.{length, replicate};
-ghost use Rattle.layout.specs.Encoding.{EncodeReady, EncodesTree, InPlaceReady, SomeTree, Closes};
+ghost use Rattle.format.specs.Version.{versionByte};
+ghost use Rattle.layout.specs.Encoding.{EncodeReady, EncodesTree, InPlaceReady, SomeTree, Closes, SomeTerm, ClosesTerm};
 
 pub fn clear(d: &mut [u8])
     ensures { λ _. ⌜ now (d .exit) ≡ replicate (length (now (d .entry))) 0 ⌝ }
@@ -39,21 +42,45 @@ pub fn encode_in_place(s: &mut [u8], w: &mut [u8], u: u8, x: usize) -> usize
     n
 }
 
-// The tree becomes a book: its trailer behind it, and zeros behind that.
-pub fn close(d: &mut [u8], n: usize)
+// Byte 1 of the trailer.
+fn version_byte(version: Version) -> u8
+    ensures { λ r. ⌜ r ≡ versionByte version ⌝ }
+{
+    match version {
+        Version::One => 1,
+        Version::Two => 2,
+    }
+}
+
+// The tree becomes a book of this version: its trailer behind it, and zeros behind that.
+pub fn close(d: &mut [u8], n: usize, version: Version)
     requires { ⌜ SomeTree (now d) n ⌝ }
-    ensures { λ _. ⌜ Closes (now (d .entry)) (now (d .exit)) n ⌝ }
+    ensures { λ _. ⌜ Closes version (now (d .entry)) (now (d .exit)) n ⌝ }
 {
     write_cell(
         d,
         n,
         Cell {
             kind: 240,
-            label: 1,
+            label: version_byte(version),
             a: n,
             b: n - 1,
             c: 0,
         },
     );
     clear(&mut d[8 * (n + 1)..]);
+}
+
+// The term becomes a book of this version: version 1 has its numbers in 32 bits.
+pub fn close_term(d: &mut [u8], n: usize, version: Version)
+    requires { ⌜ SomeTerm version (now d) n ⌝ }
+    ensures { λ _. ⌜ ClosesTerm version (now (d .entry)) (now (d .exit)) n ⌝ }
+{
+    match version {
+        Version::One => {
+            narrow(d, n);
+            close(d, n, version);
+        }
+        Version::Two => close(d, n, version),
+    }
 }

@@ -9,11 +9,15 @@ use mathlib.Core.List.{List}
 use lib.Dec.{T}
 use lib.ListN.{length}
 use lib.Seq.{sets}
+use Rattle.format.specs.declared.Version.{Version}
+use Rattle.format.specs.declared.Version.the-variants.{Two}
 use Rattle.format.specs.Table.{type-sort, term-sort, Use, unused, plain, refers, Row, table, rowOf}
 use Rattle.format.specs.Cell.{IsBytes, Cell, cellAt, cellBytes}
 use Rattle.format.specs.Tree.{Tree, treeAt}
 use Rattle.format.specs.Terms.{toType}
 use Rattle.format.specs.Book.{lowerOf, leadsTo}
+use Rattle.format.specs.Widths.{wideCell, wideCells}
+use Rattle.format.proofs.Restamping.{wide-cell, wide-sound, wide-bytes}
 use Rattle.format.proofs.Tests.{CellOk, cellFault-says, sortIs-says, cell-fits}
 use Rattle.cells.specs.Coded.{CellFits, rowFrom}
 use Rattle.cells.specs.declared.Cell.{Cell as Struct}
@@ -72,7 +76,7 @@ loaded-same l q =
     }
 
 -- the cell written: its field c may be new
-loaded-more : {b s s′ : List ℕ} {i c : ℕ} (k : CellOk b i) → Loaded b s′ i
+loaded-more : {b s s′ : List ℕ} {i c : ℕ} (k : CellOk Two b i) → Loaded b s′ i
     → Written s s′ i (record { kind = cellAt b i .kind; label = cellAt b i .label; a = cellAt b i .a; b = cellAt b i .b; c = c })
     → Kept (k .row .c) c (cellAt b i .c) → MarkIs (k .row .sort) c (treeAt b i)
     → Loaded b s′ (i + 1)
@@ -99,28 +103,35 @@ term-row k y r e u = go (y .sort) refl
     go (suc (suc zero)) q = absurd (u q)
     go (suc (suc (suc n))) q = sym (ap (λ (x : Row). x .sort) (Option·some-injective _ r (rw q at e)))
 
--- Cell i before it is written: t as it was read, y its row as the code found it.
-pub record Read (b s : List ℕ) (i : ℕ) (t : Cell) (y : Entry) : Type 0 where
-  pub next : LoadsNext b s i
-  pub cell : t ≡ cellAt b i
+-- Cell i of the book c before it is written: t as it was read and widened, y its row as the code found it.
+pub record Read (v : Version) (c s : List ℕ) (i : ℕ) (x t : Cell) (y : Entry) : Type 0 where
+  pub next : LoadsNext c s i v
+  pub own : x ≡ cellAt c i
+  pub cell : t ≡ wideCell v x
   pub row : rowFrom (t .kind) y ≡ rowOf (t .kind)
-  pub bytes : IsBytes b
+  pub bytes : IsBytes c
 
 -- What field c is to hold.
 pub data NewThird (s : List ℕ) (t : Cell) (y : Entry) (c : ℕ) : Type 0 where
   of-type : y .sort ≡ 2 → c ≡ markBy s t (t .kind) → NewThird s t y c
   of-term : (y .sort ≡ 2 → ⊥) → c ≡ t .c → NewThird s t y c
 
-module _ {b s : List ℕ} {i : ℕ} {t : Cell} {y : Entry} (n : Read b s i t y) where
-  ok : CellOk b i
-  ok = cellFault-says b i .0 (n .next .sound)
+module _ {v : Version} {c₀ s : List ℕ} {i : ℕ} {x t : Cell} {y : Entry} (n : Read v c₀ s i x t y) where
+  abbrev b : List ℕ
+  b = wideCells v c₀
+
+  cell : t ≡ cellAt b i
+  cell = n .cell ∙ ap (wideCell v) (n .own) ∙ sym (wide-cell v c₀ (n .next .count) i (n .next .cells) (n .next .within))
+
+  ok : CellOk Two b i
+  ok = cellFault-says Two b i .0 (wide-sound v c₀ (n .next .count) (n .next .cells) i (n .next .within) (n .next .sound))
 
   row : rowFrom (t .kind) y ≡ some (ok .row)
-  row = n .row ∙ ap (λ (x : Cell). rowOf (x .kind)) (n .cell) ∙ ok .found
+  row = n .row ∙ ap (λ (x : Cell). rowOf (x .kind)) cell ∙ ok .found
 
   type-cell : y .sort ≡ 2 → Names s i type-sort t (treeAt b i)
   type-cell q =
-      rw (n .cell) record { row = ok .row; found = ok .found; sort = type-row (t .kind) y (ok .row) row q; fields = fields ok (n .next .done .held) }
+      rw cell record { row = ok .row; found = ok .found; sort = type-row (t .kind) y (ok .row) row q; fields = fields ok (n .next .done .held) }
 
   type-marked : {c : ℕ} → y .sort ≡ 2 → c ≡ markBy s t (t .kind) → c ≡ mark (toType (treeAt b i))
   type-marked q h = h ∙ marked (t .kind) (type-cell q) refl
@@ -129,7 +140,7 @@ module _ {b s : List ℕ} {i : ℕ} {t : Cell} {y : Entry} (n : Read b s i t y) 
   ready q = mark-ready (type-cell q)
 
   fields-fit : (t .label < 256) × (t .a < 65536) × (t .b < 65536) × (t .c < 65536)
-  fields-fit = rw (n .cell) (cell-fits b (n .bytes) i)
+  fields-fit = rw cell (cell-fits b (wide-bytes v c₀ (n .bytes)) i)
 
   third-fits : {c : ℕ} → NewThird s t y c → c < 65536
   third-fits (of-type q h) = omega (arith, mark-one (toType (treeAt b i)), type-marked q h)
@@ -137,7 +148,7 @@ module _ {b s : List ℕ} {i : ℕ} {t : Cell} {y : Entry} (n : Read b s i t y) 
 
   third-kept : {c : ℕ} → NewThird s t y c → Kept (ok .row .c) c (cellAt b i .c)
   third-kept (of-type q h) = inl (type-third (cellAt b i .kind) (ok .row) (ok .found) (type-row (t .kind) y (ok .row) row q))
-  third-kept (of-term q h) = inr (h ∙ ap (λ (x : Cell). x .c) (n .cell))
+  third-kept (of-term q h) = inr (h ∙ ap (λ (x : Cell). x .c) cell)
 
   third-marked : {c : ℕ} → NewThird s t y c → MarkIs (ok .row .sort) c (treeAt b i)
   third-marked (of-type q h) = rw (type-row (t .kind) y (ok .row) row q) (type-marked q h)
@@ -152,12 +163,12 @@ module _ {b s : List ℕ} {i : ℕ} {t : Cell} {y : Entry} (n : Read b s i t y) 
   pub loaded : {s′ : List ℕ} {c : ℕ} → NewThird s t y c
       → s′ ≡ sets s (8 * i) (cellBytes (record { kind = t .kind; label = t .label; a = t .a; b = t .b; c = c })) → Loaded b s′ (i + 1)
   loaded h g =
-      let w = rw (n .cell) at (written _ room g) in
+      let w = rw cell at (written _ room g) in
       loaded-more ok (loaded-same (n .next .done) (w .same)) w (third-kept h) (third-marked h)
 
 -- none is loaded at first
-pub loaded-none : {b s : List ℕ} {n : ℕ} → Loadable b s n → Loaded b s 0
+pub loaded-none : {b s : List ℕ} {n : ℕ} {v : Version} → Loadable b s n v → Loaded (wideCells v b) s 0
 loaded-none l = record { long = l .long; held = λ j h. absurd (omega arith); leads = λ j h. absurd (omega arith) }
 
-pub loads-next : {b s s′ : List ℕ} {n i : ℕ} → Loadable b s n → i < n → Loaded b s′ i → LoadsNext b s′ i
-loads-next {i = i} l h d = record { within = omega (arith, l .cells); few = omega (arith, l .few); sound = l .sound i h; done = d }
+pub loads-next : {b s s′ : List ℕ} {n i : ℕ} {v : Version} → Loadable b s n v → i < n → Loaded (wideCells v b) s′ i → LoadsNext b s′ i v
+loads-next {i = i} l h d = record { count = _; cells = l .cells; within = h; few = omega (arith, l .few); sound = l .sound i h; done = d }

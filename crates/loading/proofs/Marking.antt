@@ -9,7 +9,7 @@ use mathlib.Core.List.{List}
 use lib.Dec.{eqb}
 use borrow.Author.Tests.{eq-eqb, ne-eqb}
 use Rattle.calculus.specs.Decide.{topLike?}
-use Rattle.format.specs.Table.{Sort, type-sort, refers, Row, table, rowIn, rowOf}
+use Rattle.format.specs.Table.{Sort, type-sort, refers, Row, table, rowIn, rowFor, rowOf}
 use Rattle.format.specs.Cell.{IsBytes, Cell, cellAt}
 use Rattle.format.specs.Tree.{Tree}
 use Rattle.format.specs.Terms.{toType}
@@ -41,7 +41,7 @@ both-marked true q = refl
 both-marked false q = refl
 
 pub marked : {s : List ℕ} {i : ℕ} {t : Cell} {x : Tree} (k : ℕ) → Names s i type-sort t x → t .kind ≡ k → markBy s t k ≡ mark (toType x)
-unfolding topLike? table rowIn rowOf toType
+unfolding topLike? table rowIn rowFor toType
 marked {t = t} zero h f = absurd (omega (arith, f, in-range (t .kind) (h .row) (h .found) (h .sort)))
 marked (suc zero) h f = rw (fields 1 _ h f refl .is)
 marked (suc (suc zero)) h f = rw (fields 2 _ h f refl .is)
@@ -54,7 +54,7 @@ marked {t = t} (suc (suc (suc (suc (suc (suc k)))))) h f = absurd (omega (arith,
 
 -- the cells that are read lie within the buffer
 pub mark-ready : {s : List ℕ} {i : ℕ} {t : Cell} {x : Tree} → Names s i type-sort t x → MarkReady s t
-unfolding table rowIn rowOf
+unfolding table rowIn rowFor
 mark-ready {t = t} h =
     record {
       first = λ a b. elim (ℕ-discrete (t .kind) 4) [

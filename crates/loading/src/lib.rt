@@ -1,11 +1,14 @@
-// Loads the cells of a book into a buffer: each cell as it stands, but that field c of a type cell, which no type names, says whether the
-// type is top-like. One ascending loop: what a cell refers to stands below it.
+// Loads the cells of a book into a buffer: each cell as it stands, but that a number of version 1 is extended to 48 bits, and that field c of a type
+// cell, which no type names, says whether the type is top-like. One ascending loop: what a cell refers to stands below it.
 use cells::Cell;
 use cells::entry_of;
 use cells::read_cell;
 use cells::write_cell;
+use format::Version;
+use widths::widen;
 ghost use mathlib.Core.Path.{_≡_};
 ghost use Prim.Native.Nat.{_+_};
+ghost use Rattle.format.specs.Widths.{wideCells};
 ghost use Rattle.cells.specs.Coded.{asCell};
 ghost use Rattle.loading.specs.Loaded.{Loadable, Loaded, LoadsNext};
 ghost use Rattle.loading.specs.Marks.{MarkReady, markBy};
@@ -32,11 +35,11 @@ pub fn mark_of(s: &[u8], t: Cell) -> usize
 }
 
 // One cell, with its mark.
-fn load_cell(b: &[u8], s: &mut [u8], i: usize)
-    requires { ⌜ LoadsNext (now b) (now s) i ⌝ }
-    ensures { λ _. ⌜ Loaded (now (b .entry)) (now (s .exit)) (i + 1) ⌝ }
+fn load_cell(b: &[u8], s: &mut [u8], i: usize, version: Version)
+    requires { ⌜ LoadsNext (now b) (now s) i version ⌝ }
+    ensures { λ _. ⌜ Loaded (wideCells version (now (b .entry))) (now (s .exit)) (i + 1) ⌝ }
 {
-    let t = read_cell(b, i);
+    let t = widen(version, read_cell(b, i));
     let c = if entry_of(t.kind).sort == 2 {
         mark_of(s, t)
     } else {
@@ -55,13 +58,13 @@ fn load_cell(b: &[u8], s: &mut [u8], i: usize)
     );
 }
 
-pub fn load(b: &[u8], s: &mut [u8], n: usize)
-    requires { ⌜ Loadable (now b) (now s) n ⌝ }
-    ensures { λ _. ⌜ Loaded (now (b .entry)) (now (s .exit)) n ⌝ }
+pub fn load(b: &[u8], s: &mut [u8], n: usize, version: Version)
+    requires { ⌜ Loadable (now b) (now s) n version ⌝ }
+    ensures { λ _. ⌜ Loaded (wideCells version (now (b .entry))) (now (s .exit)) n ⌝ }
 {
     let mut i = 0;
     while i < n {
-        load_cell(b, s, i);
+        load_cell(b, s, i, version);
         i += 1;
     }
 }

@@ -6,6 +6,7 @@ use mathlib.Core.Path.{_≡_, ap, _∙_}
 use mathlib.Core.Bool.{true, false}
 use mathlib.Core.List.{List}
 use mathlib.Core.Option.{some}
+use Rattle.format.specs.declared.Version.the-variants.{Two}
 use Rattle.format.specs.Table.{Sort, type-sort, term-sort, Use, refers, Row, rowOf}
 use Rattle.format.specs.Cell.{Cell, cellAt}
 use Rattle.format.specs.Tree.{Tree, raw, node}
@@ -87,7 +88,7 @@ module _ {s w : List ℕ} {v t u : ℕ} (o : Placed s w v t u) where
   plainly r-unused = r-unused
   plainly r-plain = r-plain
 
-  placed : {x n e : ℕ} {y : Use} {g : Tree} → Good y g → Among x e → Run false s x y n g e → Run true w (x - v + t) y (rebase v t y n) g (e - v + t)
+  placed : {x n e : ℕ} {y : Use} {g : Tree} → Good Two y g → Among x e → Run false s x y n g e → Run true w (x - v + t) y (rebase v t y n) g (e - v + t)
   placed (leaf h) a z = plainly z
   placed (cell n so k l f g h) a z =
       let p = parts z n in
@@ -104,5 +105,5 @@ module _ {s w z : List ℕ} {x y n : ℕ} (o : Places s w z x y n) where
   all : Among (o .placed) x (x + n)
   all = record { low = omega arith; high = omega arith }
 
-  pub run-placed : {i : ℕ} {q : Sort} {t : Tree} → Good (refers q) t → Run false s x (refers q) i t (x + n) → Run true z y (refers q) (i - x + y) t (y + n)
+  pub run-placed : {i : ℕ} {q : Sort} {t : Tree} → Good Two (refers q) t → Run false s x (refers q) i t (x + n) → Run true z y (refers q) (i - x + y) t (y + n)
   run-placed g r = rw (start, end) at (placed (o .placed) g all r)

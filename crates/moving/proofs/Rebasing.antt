@@ -3,7 +3,8 @@ use Prim.Native.Nat.{ℕ, zero, suc, _+_, _-_, _≤_, _<_}
 use native.Mathlib.Omega.{arith}
 use mathlib.Core.Path.{_≡_, refl, sym, _∙_}
 use mathlib.Core.Option.{some}
-use Rattle.format.specs.Table.{type-sort, Use, unused, plain, refers, Row, rowOf, rowIn, table}
+use Rattle.format.specs.declared.Version.the-variants.{Two}
+use Rattle.format.specs.Table.{type-sort, Use, unused, plain, refers, Row, rowFor, rowOf, rowIn, table}
 use Rattle.format.specs.Cell.{Cell}
 use Rattle.format.proofs.Tests.{All, _also_, view}
 use Rattle.cells.specs.Coded.{CellFits, useOf, rowFrom}
@@ -59,10 +60,10 @@ of-term : {r : Row} → 16 ≤ r .kind → OfType r
 of-term h = record { third = λ k. absurd (omega (arith, h, k)); first = λ _ k. absurd (omega (arith, h, k)); second = λ _ k. absurd (omega (arith, h, k)) }
 
 pub of-type : (k : ℕ) (r : Row) → rowOf k ≡ some r → (k ≡ r .kind) × OfType r
-unfolding rowOf rowIn table
-of-type k r e = view OfType table every k r e
+unfolding rowFor rowIn table
+of-type k r e = view OfType (table Two) every k r e
   where
-    every : All OfType table
+    every : All OfType (table Two)
     every =
         record { third = λ _. refl; first = λ h _. absurd (omega (arith, h)); second = λ h _. absurd (omega (arith, h)) }
         also record { third = λ _. refl; first = λ h _. absurd (omega (arith, h)); second = λ h _. absurd (omega (arith, h)) }

@@ -1,18 +1,27 @@
--- Numbers by their distance from the lower end of a range: sums of numbers are sums of distances, and so is a held sum of stored numbers, over half of
--- the range. Assumes nothing.
-use Prim.Native.Nat.{ℕ, suc, _+_, _*_, _-_, _≤_, _<_}
+-- Numbers by their distance from the lower end of a range: sums of numbers are sums of distances, and a held sum is stored by where that distance lies.
+-- Assumes nothing.
+use Prim.Native.Nat.{ℕ, suc, _+_, _*_, _-_, _%_, _≤_, _<_}
 use native.Mathlib.Omega.{arith}
-use mathlib.Core.Path.{_≡_, refl, sym, ap, _∙_}
+use mathlib.Core.Path.{_≡_, refl, ap, _∙_}
 use mathlib.Core.Bool.{cond}
 use lib.Dec.{ltb, ltb→lt, nltb→le, not-T}
 use lib.IntN.{ℤ, pos, negsuc, _+ℤ_}
 use lib.Signed.{mag}
 use Rattle.calculus.specs.Numbers.{hold}
 use Rattle.calculus.proofs.Bools.{by-test}
-use Rattle.calculus.proofs.Numbers.{hold-id, hold-above, hold-below}
-use Rattle.format.specs.Cell.{signed}
-use Rattle.format.proofs.Numbers.{by-half}
-use Rattle.numbers.specs.Sums.{offsetOf, Stored, Offsets, SumReady, AddsHeld}
+use Rattle.calculus.proofs.Numbers.{hold-fits, hold-id, hold-above, hold-below}
+use Rattle.format.specs.declared.Version.{Version}
+use Rattle.format.specs.declared.Version.the-variants.{One, Two}
+use Rattle.format.specs.Version.{halfOf}
+use Rattle.format.specs.Cell.{signed, unsigned}
+use Rattle.format.proofs.Numbers.{by-half, signed-unsigned, unsigned-fits}
+use Rattle.numbers.specs.Sums.{SumReady, AddsHeld}
+
+abbrev wide : ℕ
+wide = halfOf Two
+
+abbrev range : ℕ
+range = 2 * halfOf Two
 
 -- z is d above -k.
 abbrev Above : ℕ → ℤ → ℕ → Type 0
@@ -23,112 +32,60 @@ Above k (negsuc n) d = d + suc n ≡ k
 by-less : {X : Type 0} (P : X → Type 0) (a b : ℕ) {x y : X} → (a < b → P x) → (b ≤ a → P y) → P (cond (ltb a b) x y)
 by-less P a b f g = by-test P (ltb a b) (λ t. f (ltb→lt a b t)) (λ t. g (nltb→le a b (not-T (ltb a b) t)))
 
-above-one : (k d : ℕ) (z w : ℤ) → Above k z d → Above k w d → z ≡ w
-above-one k d (pos n) (pos m) p q = ap pos (omega arith)
-above-one k d (pos n) (negsuc m) p q = absurd (omega arith)
-above-one k d (negsuc n) (pos m) p q = absurd (omega arith)
-above-one k d (negsuc n) (negsuc m) p q = ap negsuc (omega arith)
+above-sum : (k d e : ℕ) (z w : ℤ) → Above k z d → Above k w e → Above (2 * k) (z +ℤ w) (d + e)
+above-sum k d e (pos n) (pos m) p q = omega arith
+above-sum k d e (pos n) (negsuc m) p q = by-less (λ z. Above (2 * k) z (d + e)) n (suc m) (λ l. omega arith) (λ l. omega arith)
+above-sum k d e (negsuc n) (pos m) p q = by-less (λ z. Above (2 * k) z (d + e)) m (suc n) (λ l. omega arith) (λ l. omega arith)
+above-sum k d e (negsuc n) (negsuc m) p q = omega arith
 
-above-sum : (h d e : ℕ) (z w : ℤ) → Above h z d → Above h w e → Above (h + h) (z +ℤ w) (d + e)
-above-sum h d e (pos n) (pos m) p q = omega arith
-above-sum h d e (pos n) (negsuc m) p q = by-less (λ z. Above (h + h) z (d + e)) n (suc m) (λ l. omega arith) (λ l. omega arith)
-above-sum h d e (negsuc n) (pos m) p q = by-less (λ z. Above (h + h) z (d + e)) m (suc n) (λ l. omega arith) (λ l. omega arith)
-above-sum h d e (negsuc n) (negsuc m) p q = omega arith
+-- the distance of a stored number
+abbrev pub distance : ℕ → ℕ
+distance x = (x + wide) % range
 
--- a stored number
-stored-above : (h x : ℕ) → x < 2 * h → Above h (signed h x) (offsetOf h x)
-stored-above h x f =
-    by-half (λ z. Above h z (offsetOf h x)) h x
-    (λ l. by-less (λ d. d ≡ x + h) x h (λ _. refl) (λ m. absurd (omega arith)))
-    (λ l. by-less (λ d. d + suc (2 * h - suc x) ≡ h) x h (λ m. absurd (omega arith)) (λ _. omega arith))
+stored-above : (x : ℕ) → x < range → Above wide (signed wide x) (distance x)
+stored-above x f = by-half (λ z. Above wide z (distance x)) wide x (λ l. omega arith) (λ l. omega arith)
 
-pub offset-fits : (h x : ℕ) → x < 2 * h → offsetOf h x < 2 * h
-offset-fits h x f = by-less (λ d. d < 2 * h) x h (λ l. omega arith) (λ l. omega arith)
+-- what is stored for a number z, held, by its distance s
+below-range : (h s : ℕ) (z : ℤ) → Above range z s → 0 < h → s + h < range → range - h ≡ unsigned wide (hold h z)
+unfolding unsigned
+below-range h s (pos n) a p l = absurd (omega arith)
+below-range h s (negsuc n) a p l = rw (hold-below h n (omega arith)) (omega arith)
 
-offset-back : (h d : ℕ) → d < 2 * h → offsetOf h (offsetOf h d) ≡ d
-offset-back h d f =
-    by-less (λ x. offsetOf h x ≡ d) d h
-    (λ l. by-less (λ x. x ≡ d) (d + h) h (λ m. absurd (omega arith)) (λ _. omega arith))
-    (λ l. by-less (λ x. x ≡ d) (d - h) h (λ _. omega arith) (λ m. absurd (omega arith)))
+above-range : (h s : ℕ) (z : ℤ) → Above range z s → range + h ≤ s → h - 1 ≡ unsigned wide (hold h z)
+unfolding unsigned
+above-range h s (pos n) a l = rw (hold-above h n (omega arith)) refl
+above-range h s (negsuc n) a l = absurd (omega arith)
 
--- a sum of distances s, by where it lies
-below-range : {h s : ℕ} (z : ℤ) → Above (h + h) z s → s < h → hold h z ≡ negsuc (h - 1)
-below-range (pos n) p l = absurd (omega arith)
-below-range {h} (negsuc n) p l = hold-below h n (omega arith)
-
-above-range : {h s : ℕ} (z : ℤ) → Above (h + h) z s → h ≤ s → 2 * h ≤ s - h → hold h z ≡ pos (h - 1)
-above-range {h} (pos n) p l m = hold-above h n (omega arith)
-above-range {h} (negsuc n) p l m = elim-zero n (omega arith)
-  where
-    elim-zero : (n : ℕ) → suc n ≤ 0 → hold h (negsuc n) ≡ pos (h - 1)
-    elim-zero n q = absurd (omega arith)
-
-in-range : {h s : ℕ} (z : ℤ) → Above (h + h) z s → h ≤ s → s - h < 2 * h → (mag z < h)
-in-range (pos n) p l m = omega arith
-in-range (negsuc n) p l m = omega arith
-
-nearer : {h s : ℕ} (z : ℤ) → Above (h + h) z s → h ≤ s → Above h z (s - h)
-nearer (pos n) p l = omega arith
-nearer (negsuc n) p l = omega arith
+in-range : (h s : ℕ) (z : ℤ) → Above range z s → h ≤ wide → range ≤ s + h → s < range + h → s % range ≡ unsigned wide (hold h z)
+unfolding unsigned
+in-range h s (pos n) a p l m = rw (hold-id h (pos n) (omega arith)) (omega arith)
+in-range h s (negsuc n) a p l m = rw (hold-id h (negsuc n) (omega arith)) (omega arith)
 
 module _ {x y h : ℕ} (p : SumReady x y h) where
-  abbrev sum-offset : ℕ
-  sum-offset = offsetOf h x + offsetOf h y
+  abbrev z : ℤ
+  z = signed wide x +ℤ signed wide y
 
-  positive : 0 < h
-  positive = omega (arith, p .first .fits)
+  abbrev s : ℕ
+  s = distance x + distance y
 
-  sum-above : Above (h + h) (signed h x +ℤ signed h y) sum-offset
-  sum-above = above-sum h (offsetOf h x) (offsetOf h y) (signed h x) (signed h y) (stored-above h x (p .first .fits)) (stored-above h y (p .second .fits))
+  above : Above range z s
+  above = above-sum wide (distance x) (distance y) (signed wide x) (signed wide y) (stored-above x (p .first)) (stored-above y (p .second))
 
-  -- the lower end is stored as h, the upper as h - 1
-  pub held-low : sum-offset < h → AddsHeld x y h h
-  held-low l =
-      record {
-        fits = omega (arith, positive);
-        says =
-            by-half (λ z. z ≡ negsuc (h - 1)) h h (λ m. absurd (omega arith)) (λ _. ap negsuc (omega (arith, positive)))
-            ∙ sym (below-range (signed h x +ℤ signed h y) sum-above l);
-      }
+  stored-held : {r : ℕ} → r ≡ unsigned wide (hold h z) → AddsHeld x y h r
+  stored-held q =
+      let f : mag (hold h z) < wide = omega (arith, hold-fits h z (p .some), p .narrow) in
+      record { fits = rw q (unsigned-fits wide (hold h z) f); says = ap (signed wide) q ∙ signed-unsigned wide (hold h z) f }
 
-  pub held-high : h ≤ sum-offset → 2 * h ≤ sum-offset - h → AddsHeld x y h (h - 1)
-  held-high l m =
-      record {
-        fits = omega (arith, positive);
-        says =
-            by-half (λ z. z ≡ pos (h - 1)) h (h - 1) (λ _. refl) (λ k. absurd (omega (arith, positive)))
-            ∙ sym (above-range (signed h x +ℤ signed h y) sum-above l m);
-      }
+  pub adds-low : s + h < range → AddsHeld x y h (range - h)
+  adds-low l = stored-held (below-range h s z above (p .some) l)
 
-  pub held-within : {d r : ℕ} → h ≤ sum-offset → d ≡ sum-offset - h → d < 2 * h → r ≡ offsetOf h d → AddsHeld x y h r
-  held-within {d} {r} l e m q =
-      let z = signed h x +ℤ signed h y in
-      let own : Above h (signed h (offsetOf h d)) d =
-      rw (offset-back h d m) at (stored-above h (offsetOf h d) (offset-fits h d m)) in
-      let far : Above h z d = rw (← e) at (nearer z sum-above l) in
-      record {
-        fits = rw q (offset-fits h d m);
-        says = ap (signed h) q ∙ above-one h d (signed h (offsetOf h d)) z own far ∙ sym (hold-id h z (in-range z sum-above l (omega arith)));
-      }
+  pub adds-high : range + h ≤ s → AddsHeld x y h (h - 1)
+  adds-high l = stored-held (above-range h s z above l)
 
--- ---- what the calls answer
+  pub adds-within : range ≤ s + h → s < range + h → AddsHeld x y h (s % range)
+  adds-within l m = stored-held (in-range h s z above (p .narrow) l m)
 
-pub offset-up : {x h : ℕ} → Stored x h → x < h → Offsets x h (x + h)
-offset-up {x} {h} p l = record { is = sym (by-less (λ d. d ≡ x + h) x h (λ _. refl) (λ m. absurd (omega arith))); fits = omega arith }
-
-pub offset-down : {x h : ℕ} → Stored x h → h ≤ x → Offsets x h (x - h)
-offset-down {x} {h} p l = record { is = sym (by-less (λ d. d ≡ x - h) x h (λ m. absurd (omega arith)) (λ _. refl)); fits = omega (arith, p .fits) }
-
--- a and b are the distances of x and y
-module _ {x y h a b : ℕ} (p : SumReady x y h) (u : Offsets x h a) (v : Offsets y h b) where
-  sum-is : a + b ≡ sum-offset p
-  sum-is = rw (u .is, v .is) refl
-
-  pub adds-low : a + b < h → AddsHeld x y h h
-  adds-low l = held-low p (rw sum-is at l)
-
-  pub adds-high : h ≤ a + b → 2 * h ≤ a + b - h → AddsHeld x y h (h - 1)
-  adds-high l m = held-high p (rw sum-is at l) (rw sum-is at m)
-
-  pub adds-within : {r : ℕ} → h ≤ a + b → a + b - h < 2 * h → Offsets (a + b - h) h r → AddsHeld x y h r
-  adds-within l m e = held-within p (rw sum-is at l) (rw sum-is refl) m (e .is)
+-- The range of either version is one that a sum can be held to.
+pub half-ready : (v : Version) → (0 < halfOf v) × (halfOf v ≤ halfOf Two)
+half-ready One = omega arith
+half-ready Two = omega arith

@@ -1,32 +1,21 @@
--- Sums of stored numbers: what a call needs, and what it answers. Over h, half of the range. Assumes nothing.
-use Prim.Native.Nat.{ℕ, _+_, _*_, _-_, _^_, _≤_, _<_}
+-- Document 02, (iv): sums of stored numbers, what a call needs and what it answers. Numbers are stored in the one form that they have outside of books,
+-- that of version 2; h is half of the range that a sum is held to. Assumes nothing.
+use Prim.Native.Nat.{ℕ, _*_, _≤_, _<_}
 use mathlib.Core.Path.{_≡_}
-use mathlib.Core.Bool.{cond}
-use lib.Dec.{ltb}
 use lib.IntN.{_+ℤ_}
 use Rattle.calculus.specs.Numbers.{hold}
+use Rattle.format.specs.declared.Version.the-variants.{Two}
+use Rattle.format.specs.Version.{halfOf}
 use Rattle.format.specs.Cell.{signed}
 
--- x is a stored number of the range, of at most 48 bits.
-pub record Stored (x h : ℕ) : Type 0 where
-  pub fits : x < 2 * h
-  pub narrow : h ≤ 2 ^ 47
-
--- The distance of a stored number from the lower end of the range.
-abbrev pub offsetOf : ℕ → ℕ → ℕ
-offsetOf h x = cond (ltb x h) (x + h) (x - h)
-
--- r is that distance, and within the range itself.
-pub record Offsets (x h r : ℕ) : Type 0 where
-  pub is : r ≡ offsetOf h x
-  pub fits : r < 2 * h
-
--- Two stored numbers of one range.
+-- Two stored numbers, and a range of at least one number and at most 48 bits.
 pub record SumReady (x y h : ℕ) : Type 0 where
-  pub first : Stored x h
-  pub second : Stored y h
+  pub first : x < 2 * halfOf Two
+  pub second : y < 2 * halfOf Two
+  pub some : 0 < h
+  pub narrow : h ≤ halfOf Two
 
--- "the sum is held to the ends of the .. range": r is stored for it.
+-- "Sums in version 2 are held to the ends of 48 bits, in version 1 to those of 32": r is stored for the sum held to the range of h.
 pub record AddsHeld (x y h r : ℕ) : Type 0 where
-  pub fits : r < 2 * h
-  pub says : signed h r ≡ hold h (signed h x +ℤ signed h y)
+  pub fits : r < 2 * halfOf Two
+  pub says : signed (halfOf Two) r ≡ hold h (signed (halfOf Two) x +ℤ signed (halfOf Two) y)

@@ -1,26 +1,37 @@
-// Sums of numbers as they are stored, over half of the range: a number z from -half to half - 1 is stored as z, a negative one as z + 2 * half.
-ghost use Rattle.numbers.specs.Sums.{Stored, Offsets, SumReady, AddsHeld};
+// Sums of numbers in the one form that they have outside of books, 48 bits: z from -WIDE to WIDE - 1 is stored as z, a negative one as z + RANGE.
+// Proved: a sum is held to the ends of the range that the caller gives, and `half_of` gives that of a book's version.
+use format::Version;
+ghost use mathlib.Core.Path.{_≡_};
+ghost use Rattle.format.specs.Version.{halfOf};
+ghost use Rattle.numbers.specs.Sums.{SumReady, AddsHeld};
 
-// The number z as its distance z + half from the lower end, and back: both halves of the range change places.
-fn offset(x: usize, half: usize) -> usize
-    requires { ⌜ Stored x half ⌝ }
-    ensures { λ r. ⌜ Offsets x half r ⌝ }
+// Half of the range of stored numbers, 2^47.
+const WIDE: usize = 140737488355328;
+
+const RANGE: usize = 2 * WIDE;
+
+// Half of the range of a version's numbers, which go from -half to half - 1.
+pub fn half_of(version: Version) -> usize
+    ensures { λ r. ⌜ r ≡ halfOf version ⌝ }
 {
-    if x < half { x + half } else { x - half }
+    match version {
+        Version::One => 2147483648,
+        Version::Two => WIDE,
+    }
 }
 
-// The sum of two stored numbers, held to the ends of the range.
+// The sum of two stored numbers, held to the ends of the range from -half to half - 1.
 pub fn add_held(x: usize, y: usize, half: usize) -> usize
     requires { ⌜ SumReady x y half ⌝ }
     ensures { λ r. ⌜ AddsHeld x y half r ⌝ }
 {
-    let sum = offset(x, half) + offset(y, half);
-    if sum < half {
-        return half;
+    // Each number as its distance z + WIDE from the lower end, so the sum z as z + RANGE.
+    let sum = (x + WIDE) % RANGE + (y + WIDE) % RANGE;
+    if sum + half < RANGE {
+        return RANGE - half;
     }
-    let distance = sum - half;
-    if distance >= 2 * half {
+    if sum >= RANGE + half {
         return half - 1;
     }
-    offset(distance, half)
+    sum % RANGE
 }

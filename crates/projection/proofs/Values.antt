@@ -14,10 +14,10 @@ use Rattle.calculus.specs.Decide.{topLike?, value?, typeOf}
 use Rattle.calculus.specs.Evaluate.{firstPart, content}
 use Rattle.calculus.proofs.Bools.{true-says, and-says}
 use Rattle.calculus.proofs.Tests.{value?-says}
-use Rattle.format.specs.Table.{term-sort, rowOf, rowIn, table}
+use Rattle.format.specs.Table.{term-sort, rowFor, rowIn, table}
 use Rattle.format.specs.Cell.{Cell, cellAt}
 use Rattle.format.specs.Tree.{kindIn}
-use Rattle.format.specs.Terms.{fromTerm}
+use Rattle.format.specs.Terms.{fromTermIn}
 use Rattle.cells.specs.Held.{HoldsType}
 use Rattle.cells.proofs.Held.{kindOf, mark-test, held-within}
 use Rattle.emission.proofs.Runs.{nothing, last, ends, whole, at-run, parts, run-kind, run-type}
@@ -35,7 +35,7 @@ pub data Shape (s : List ℕ) (start v : ℕ) (t : Cell) : ℕ → Term → Type
   is-rcd : {l : ℕ} {e : Term} → l ≡ t .label → IsValueFrom s start (t .a) e → start ≤ t .a → v ≡ suc (t .a) → Shape s start v t 24 (rcd l e)
 
 by-value : {s : List ℕ} {start v : ℕ} {e : Term} {A : Ty} → Value e A → IsValueFrom s start v e → Shape s start v (cellAt s v) (kindOf term-sort e) e
-unfolding fromTerm kindIn table rowIn rowOf value?
+unfolding fromTermIn kindIn table rowIn rowFor value?
 by-value v-lit h = is-lit
 by-value v-unit h = is-unit
 by-value (v-lam {e} {A} {B}) h =

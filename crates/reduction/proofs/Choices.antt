@@ -8,7 +8,9 @@ use lib.IntN.{pos}
 use Rattle.calculus.specs.Syntax.{int, Term, anno}
 use Rattle.calculus.specs.Evaluate.{numberOf}
 use Rattle.calculus.proofs.Numbers.{chosen-says}
-use Rattle.format.specs.Cell.{Cell, cellAt, half, signed, unsigned}
+use Rattle.format.specs.declared.Version.the-variants.{Two}
+use Rattle.format.specs.Version.{halfOf}
+use Rattle.format.specs.Cell.{Cell, cellAt, signed, unsigned}
 use Rattle.format.specs.Terms.{fromType, fromTerm}
 use Rattle.format.proofs.Numbers.{unsigned-signed}
 use Rattle.emission.specs.Emits.{Space, Finishes}
@@ -47,9 +49,9 @@ module _ {s d : List ℕ} {i m : ℕ} (o : AnnotateReady s d i m) where
 -- ---- `next_choice`: t is the choice's cell as it was read
 
 -- a stored number is zero exactly if 0 is stored
-zero-stored : {n : ℕ} → n < 2 * half → (n ≡ 0) ↔ (signed half n ≡ pos 0)
+zero-stored : {n : ℕ} → n < 2 * halfOf Two → (n ≡ 0) ↔ (signed (halfOf Two) n ≡ pos 0)
 unfolding signed unsigned
-zero-stored {n} f = (λ e. rw e refl, λ e. sym (unsigned-signed half n f) ∙ ap (unsigned half) e)
+zero-stored {n} f = (λ e. rw e refl, λ e. sym (unsigned-signed (halfOf Two) n f) ∙ ap (unsigned (halfOf Two)) e)
 
 module _ {s d : List ℕ} {i m : ℕ} (o : ContractAt s d i m 27) where
   own : Choosing s i (o .ready .successor)

@@ -6,9 +6,10 @@ use mathlib.Core.Path.{_≡_, refl}
 use mathlib.Core.List.{List}
 use lib.ListN.{length}
 use Rattle.calculus.specs.Syntax.{Ty, Term, unit, anno, fix, substitute}
+use Rattle.format.specs.declared.Version.the-variants.{Two}
 use Rattle.format.specs.Cell.{Cell, cellAt}
 use Rattle.format.specs.Tree.{raw, node}
-use Rattle.format.specs.Terms.{fromType, fromTerm}
+use Rattle.format.specs.Terms.{fromType, fromTermIn, fromTerm}
 use Rattle.format.proofs.Trees.{term-positive}
 use Rattle.cells.proofs.Held.{held-within, unit-at}
 use Rattle.emission.specs.Emits.{Space, Emits}
@@ -27,7 +28,7 @@ use Rattle.reduction.proofs.Nexts.{fix-instance, anno-redex, Arguments,
 -- ---- a term, annotated
 
 pub anno-tree : (e : Term) (A : Ty) → fromTerm (anno e A) ≡ node 19 0 (fromTerm e) (fromType A) (raw 0)
-unfolding fromTerm
+unfolding fromTermIn
 anno-tree e A = refl
 
 -- W is all that the cells may be said to hold
@@ -81,7 +82,7 @@ module _ {s d : List ℕ} {i m : ℕ} (o : ContractAt s d i m 23) where
     itself h = stands refl (rw (start-is (h .run) n) (h .run))
 
     starts-low : b < 8192
-    starts-low = omega (arith, start-is (own-fix .run) n, counts (own-fix .run), term-positive (o .ready .term), o .ready .low)
+    starts-low = omega (arith, start-is (own-fix .run) n, counts (own-fix .run), term-positive Two (o .ready .term), o .ready .low)
 
     module _ {t : Cell} (c : t ≡ cellAt s i) where
       pub fix-ready : InstanceReady s d (t .a) (t .b) m (record { reduct = 0; term = i; under = b })

@@ -13,7 +13,7 @@ use Rattle.calculus.specs.Decide.{value?}
 use Rattle.calculus.specs.Evaluate.{cast, apply, numberOf, choose, next}
 use Rattle.format.specs.Cell.{Cell, cellAt}
 use Rattle.format.specs.Tree.{kindIn}
-use Rattle.format.specs.Terms.{fromTerm}
+use Rattle.format.specs.Terms.{fromTermIn}
 use Rattle.cells.specs.Held.{HoldsTerm}
 use Rattle.cells.proofs.Held.{kind-of, kind-of-held, held-within}
 use Rattle.cells.proofs.Forms.{form-else}
@@ -69,7 +69,7 @@ redex-within (at-choice p _ _ _ _ _ _ _) = p .within
 redex-within (at-fix r) = held-within (holds-term r)
 
 fix-kind : {s : List ℕ} {i : ℕ} {e : Term} {A : Ty} → HoldsTerm s i (fix e A) → cellAt s i .kind ≡ 23
-unfolding fromTerm kindIn
+unfolding fromTermIn kindIn
 fix-kind h = kind-of-held h
 
 -- an annotated value: g is its reading

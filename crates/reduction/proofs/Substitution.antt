@@ -8,10 +8,11 @@ use mathlib.Core.Option.{Option, none, some}
 use mathlib.Core.List.{List}
 use borrow.Author.Tests.{eq-eqb, ne-eqb}
 use Rattle.calculus.specs.Syntax.{Ty, Term, var, lit, unit, anno, app, lam, merge, fix, rcd, proj, sum, choice, substitute}
-use Rattle.format.specs.Table.{Sort, type-sort, term-sort, Use, unused, plain, refers, Row, table, rowIn, rowOf, inside}
+use Rattle.format.specs.declared.Version.the-variants.{Two}
+use Rattle.format.specs.Table.{Sort, type-sort, term-sort, Use, unused, plain, refers, Row, table, rowIn, rowFor, rowOf, inside}
 use Rattle.format.specs.Cell.{IsBytes, Cell, cellAt}
 use Rattle.format.specs.Tree.{Tree, raw, node, kindIn}
-use Rattle.format.specs.Terms.{fromType, fromTerm, toTerm, TermFits}
+use Rattle.format.specs.Terms.{fromType, fromTermIn, fromTerm, toTerm, WideFits}
 use Rattle.format.specs.Book.{sizeLimit}
 use Rattle.format.proofs.Tests.{Decodes}
 use Rattle.format.proofs.Trees.{type-positive, term-positive, term-back}
@@ -42,7 +43,7 @@ pub substituted-stands : {s : List ℕ} {i k n : ℕ} {x : Term} {u : Use} {f : 
 substituted-stands p-unused = s-unused
 substituted-stands p-plain = s-plain
 substituted-stands (p-type {A = A} l h) = s-refers (type-positive A)
-substituted-stands {k = k} {x = x} (p-term {e = e} l h) = s-refers (term-positive (substitute k x e))
+substituted-stands {k = k} {x = x} (p-term {e = e} l h) = s-refers (term-positive Two (substitute k x e))
 
 -- no cell
 substitute-none : {s d : List ℕ} {i k m n : ℕ} {x : Term} {f : Tree} (u : ℕ) → u < 2 → m ≤ sizeLimit → SubstitutedField s i k x (useOf u) n f → Emits d d m (Next m) f
@@ -145,7 +146,7 @@ module _ {s d : List ℕ} {i k m : ℕ} {p : Source} {t : Cell} (j : AtVariable 
 
   pub variable-kept : {e : List ℕ} {r : Emitted} → (t .a ≡ k → ⊥) → Finishes d e m (record { kind = 16; label = 0; a = t .a; b = 0; c = 0 }) r
       → EmitsSubstituted s d e i k m p r
-  unfolding substitute fromTerm
+  unfolding substitute fromTermIn
   variable-kept q w = record { says = λ e x h b. rw (variable h, ne-eqb (t .a) k q) (emits-leaf (j .ready .ready .source .space .used) w) }
 
 -- ---- a term other than a variable, with x substituted for the variable that skips k binders: by the row of its kind
@@ -163,23 +164,23 @@ substituteNode k x none f = f
 substituteNode k x (some r) (raw n) = raw n
 substituteNode k x (some r) (node kind l a b c) = node kind l (substituteTree (inside kind k) x (r .a) a) (substituteTree k x (r .b) b) (substituteTree k x (r .c) c)
 
-substitute-law : (k : ℕ) (x e : Term) → TermFits e → (kindOf term-sort e ≡ 16 → ⊥) → fromTerm (substitute k x e) ≡ substituteNode k x (rowOf (kindOf term-sort e)) (fromTerm e)
-unfolding fromTerm kindIn substitute table rowIn rowOf
+substitute-law : (k : ℕ) (x e : Term) → WideFits e → (kindOf term-sort e ≡ 16 → ⊥) → fromTerm (substitute k x e) ≡ substituteNode k x (rowOf (kindOf term-sort e)) (fromTerm e)
+unfolding fromTermIn kindIn substitute table rowIn rowFor
 substitute-law k x (var n) f h = absurd (h refl)
 substitute-law k x (lit z) f h = refl
 substitute-law k x unit f h = refl
-substitute-law k x (anno e A) f h = cc (term-back e (f .0))
-substitute-law k x (app e g) f h = cc (term-back e (f .0), term-back g (f .1))
-substitute-law k x (lam e A B) f h = cc (term-back e (f .0))
-substitute-law k x (merge e g) f h = cc (term-back e (f .0), term-back g (f .1))
-substitute-law k x (fix e A) f h = cc (term-back e (f .0))
-substitute-law k x (rcd l e) f h = cc (term-back e (f .1))
-substitute-law k x (proj l e) f h = cc (term-back e (f .1))
-substitute-law k x (sum e g) f h = cc (term-back e (f .0), term-back g (f .1))
-substitute-law k x (choice e g d) f h = cc (term-back e (f .0), term-back g (f .1), term-back d (f .2))
+substitute-law k x (anno e A) f h = cc (term-back Two e (f .0))
+substitute-law k x (app e g) f h = cc (term-back Two e (f .0), term-back Two g (f .1))
+substitute-law k x (lam e A B) f h = cc (term-back Two e (f .0))
+substitute-law k x (merge e g) f h = cc (term-back Two e (f .0), term-back Two g (f .1))
+substitute-law k x (fix e A) f h = cc (term-back Two e (f .0))
+substitute-law k x (rcd l e) f h = cc (term-back Two e (f .1))
+substitute-law k x (proj l e) f h = cc (term-back Two e (f .1))
+substitute-law k x (sum e g) f h = cc (term-back Two e (f .0), term-back Two g (f .1))
+substitute-law k x (choice e g d) f h = cc (term-back Two e (f .0), term-back Two g (f .1), term-back Two d (f .2))
 
 -- a field that refers to a run is the tree of a type or a term
-run-fields : {s : List ℕ} {v n z : ℕ} {o : Sort} {f : Tree} → IsBytes s → Run true s v (refers o) n f z → Decodes o f
+run-fields : {s : List ℕ} {v n z : ℕ} {o : Sort} {f : Tree} → IsBytes s → Run true s v (refers o) n f z → Decodes Two o f
 run-fields {z = z} b r = reference-decodes b (held {m = z} (omega arith) r)
 
 -- ---- the cell that `emit_substituted` reads
@@ -203,9 +204,9 @@ module _ {s d : List ℕ} {i k m : ℕ} {p : Source} {t : Cell} {y : Entry} {g :
   substitute-field (refers type-sort) r h = let o = run-fields (j .read .bytes) r in rw (← o .1) (p-type (below r h) (runs-type (rw (← o .1) at r)))
   substitute-field (refers term-sort) r h =
       let o = run-fields (j .read .bytes) r in
-      rw (← o .1, term-back (o .0) (o .2)) (p-term (below r h) (runs-term (o .2) (rw (← o .1) at r)))
+      rw (← o .1, term-back Two (o .0) (o .2)) (p-term (below r h) (runs-term (o .2) (rw (← o .1) at r)))
 
-  by-run : (e : Term) {f : Tree} {v z : ℕ} → TermFits e → fromTerm e ≡ f → Run true s v (refers term-sort) i f z
+  by-run : (e : Term) {f : Tree} {v z : ℕ} → WideFits e → fromTerm e ≡ f → Run true s v (refers term-sort) i f z
       → FieldsOf (FieldOf s i) t y (g, x) (k, x) (fromTerm (substitute k x e))
   unfolding kindIn
   by-run e w q (r-refers {r = r} c v n a b o z u) =

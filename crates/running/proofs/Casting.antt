@@ -14,9 +14,9 @@ use Rattle.calculus.specs.Decide.{value?, topLike?, below?}
 use Rattle.calculus.specs.Evaluate.{next, cast, firstPart, castInt, castArrow}
 use Rattle.calculus.proofs.Decisions.{topLike?-says, not-topLike}
 use Rattle.calculus.proofs.Tests.{cast-top, cast-arrow}
-use Rattle.format.specs.Table.{type-sort, term-sort, refers, rowOf, rowIn, table}
+use Rattle.format.specs.Table.{type-sort, term-sort, refers, rowFor, rowIn, table}
 use Rattle.format.specs.Cell.{Cell, cellAt, cellBytes}
-use Rattle.format.specs.Terms.{fromType, fromTerm}
+use Rattle.format.specs.Terms.{fromType, fromTermIn, fromTerm}
 use Rattle.cells.specs.Held.{HoldsType}
 use Rattle.cells.proofs.Held.{top-like, not-top-like, int-at, arrow-at}
 use Rattle.emission.specs.Runs.{Run, r-refers}
@@ -27,7 +27,7 @@ use Rattle.moving.proofs.Runs.{shift-ready, run-shifted}
 use Rattle.typed_reduction.proofs.Deciding.{ordinary-at}
 use Rattle.typed_reduction.proofs.Casts.{when-some}
 use Rattle.reduction.proofs.Nexts.{anno-reads}
-use Rattle.running.specs.Places.{RedexParts, of-anno, Standing, doneAt, Becomes, TopReady, RedexAt, TopAt, FunctionAt}
+use Rattle.running.specs.Places.{RedexParts, of-anno, Standing, doneAt, Becomes, OnlyBecomes, RedexAt, TopAt, FunctionAt}
 use Rattle.running.specs.declared.Place.{Place}
 use Rattle.running.specs.declared.Focus.the-variants.{Redex}
 use Rattle.running.proofs.Going.{wrote-run}
@@ -68,8 +68,8 @@ module _ {w : List ℕ} (p : Place) (t : Cell) (d : RedexAt w p t 19) where
 
 -- ---- the top value
 
-pub top-ready : {half : ℕ} {w : List ℕ} {p : Place} {t y : Cell} → TopAt w p t y → TopReady half w p
-top-ready {half} {w} {p} {t} {y} d = record { ready = d .at .ready; becomes = λ e s _. becomes-top e s }
+pub top-only : (half : ℕ) {w : List ℕ} {p : Place} {t y : Cell} → TopAt w p t y → OnlyBecomes half w p unit
+top-only half {w} {p} {t} {y} d = λ e s _. becomes-top e s
   where
     becomes-top : (e : Term) (s : Standing w (Redex p) e) (h : Term) → next half (s .focus) ≡ some h → unit ≡ h
     becomes-top e s h n =
@@ -124,14 +124,14 @@ function-of (k-lam {e = b} {A = C} {B = D}) = (b, C, D, refl)
 -- its parts, from the runs of both
 lam-runs : {w : List ℕ} {start left a : ℕ} (b : Term) (C D : Ty) (v : Cell) → v ≡ cellAt w a → Run true w start (refers term-sort) a (fromTerm (lam b C D)) left →
     Run true w start (refers term-sort) (v .a) (fromTerm b) (suc (v .a)) × Run true w (suc (v .a)) (refers type-sort) (v .b) (fromType C) (suc (v .b)) × (v .b + 1 < left)
-unfolding fromTerm table rowIn rowOf
+unfolding fromTermIn table rowIn rowFor
 lam-runs b C D v e r =
     let q = fields r refl in
     rw e (whole (q .first), behind (q .first) (q .second), omega (arith, ends (q .second), last (q .third), ends (q .third), ends r))
 
 arrow-runs : {w : List ℕ} {start root b : ℕ} (E F : Ty) (y : Cell) → y ≡ cellAt w b → Run true w start (refers type-sort) b (fromType (arrow E F)) root →
     Run true w (suc (y .a)) (refers type-sort) (y .b) (fromType F) (suc (y .b)) × (start ≤ y .a) × (y .b + 2 ≡ root)
-unfolding fromType table rowIn rowOf
+unfolding fromType table rowIn rowFor
 arrow-runs E F y e r =
     let q = fields r refl in
     rw e (behind (q .first) (q .second), last (q .first), omega (arith, ends (q .second), nothing (q .third), ends r))
@@ -235,7 +235,7 @@ module _ {w : List ℕ} (p : Place) (t v y : Cell) (d : FunctionAt w p t v y) wh
 
     retyped-run : {e : Term} (s : Standing w (Redex p) e) (q : Retyped w p (s .focus) v y) →
         Run true z (p .start) (refers term-sort) (v .b + 1 + (y .b - y .a)) (fromTerm (lam (q .body) (q .input) (q .second))) (suc (v .b + 1 + (y .b - y .a)))
-    unfolding fromTerm table rowIn rowOf
+    unfolding fromTermIn table rowIn rowFor
     retyped-run s q =
         let l = places in
         let moved = run-shifted (at-run (omega arith) refl (omega (arith, l .some)) (q .second-run)) x in

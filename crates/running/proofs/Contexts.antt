@@ -7,7 +7,7 @@ use mathlib.Core.List.{List, [], _∷_}
 use Rattle.calculus.specs.Syntax.{Term}
 use Rattle.calculus.specs.Decide.{value?}
 use Rattle.calculus.specs.Evaluate.{next}
-use Rattle.format.specs.Terms.{fromTerm}
+use Rattle.format.specs.Terms.{fromTermIn, fromTerm}
 use Rattle.running.specs.Waiting.{plug, fill}
 use Rattle.running.specs.Contexts.{Around, anno-of, app-left, app-right, merge-left, merge-right, rcd-of, proj-of, sum-left, sum-right, choice-of}
 use Rattle.running.specs.Contexts.{plugTerm, whole, Proper, AllProper, p-more, frame, frames}
@@ -76,7 +76,7 @@ next-inside half k e g p h n = go (next half e) refl (sym (whole-steps half k e 
     go (some x) q i = record { to = x; steps = q; is = sym (Option·some-injective (whole k x) g i) }
 
 one : (g : Around) (e : Term) → plug (frame g) (fromTerm e) ≡ fromTerm (plugTerm g e)
-unfolding plug frame plugTerm fromTerm
+unfolding plug frame plugTerm fromTermIn
 one (anno-of A) e = refl
 one (app-left x) e = refl
 one (app-right v) e = refl

@@ -18,10 +18,12 @@ use Rattle.calculus.proofs.Tests.{value?-says}
 use Rattle.calculus.proofs.TypedReduction.{cast-to}
 use Rattle.calculus.proofs.Soundness.{value-no-step}
 use Rattle.calculus.proofs.Evaluation.{next-sound}
-use Rattle.format.specs.Table.{term-sort, refers, rowOf, rowIn, table}
+use Rattle.format.specs.Version.{halfOf}
+use Rattle.format.specs.declared.Version.the-variants.{Two}
+use Rattle.format.specs.Table.{term-sort, refers, rowFor, rowIn, table}
 use Rattle.format.specs.Cell.{Cell, cellAt}
 use Rattle.format.specs.Tree.{cells, encode}
-use Rattle.format.specs.Terms.{fromTerm, TermFits}
+use Rattle.format.specs.Terms.{fromTermIn, fromTerm, WideFits}
 use Rattle.format.specs.Book.{sizeLimit}
 use Rattle.format.proofs.Trees.{term-cells}
 use Rattle.format.proofs.Encoding.{Part, length-encode, root-last}
@@ -61,7 +63,7 @@ use Rattle.running.proofs.Projecting.{size-whole, redex-value, redex-ki
 -- ---- installing
 
 anno-low : {s : List ℕ} {x i e : ℕ} {h : Term} → Run false s x (refers term-sort) i (fromTerm h) e → Kind 19 h → cellAt s i .a < e
-unfolding fromTerm table rowIn rowOf
+unfolding fromTermIn table rowIn rowFor
 anno-low r k-anno =
     let q = parts r refl in
     omega (arith, ap (λ (c : Cell). c .a) (q .cell .is), ends (q .first), grows (q .second), grows (q .third), q .last)
@@ -121,7 +123,7 @@ module _ {s w : List ℕ} {p : Place} {kind m end : ℕ} (i : Installing s w p k
                 proper = b .proper;
                 at = record {
                   value = b .value k;
-                  run = at-run refl (omega (arith, ends (b .run), last (b .run), ordered)) refl (run-placed x (term-good h (b .fits)) (cut b));
+                  run = at-run refl (omega (arith, ends (b .run), last (b .run), ordered)) refl (run-placed x (term-good Two h (b .fits)) (cut b));
                   waits = subst (λ (n : ℕ). Waits v (p .up) (p .start) n (frames K)) (omega arith) (around-kept K (x .kept) (omega arith) (omega (arith, far)) (b .waits));
                   apart = omega (arith, far);
                 };
@@ -142,7 +144,7 @@ module _ {s w : List ℕ} {p : Place} {kind m end : ℕ} (i : Installing s w p k
                 proper = b .proper;
                 at = record {
                   starts = refl;
-                  run = at-run refl (omega (arith, ends (b .run), last (b .run), ordered, far)) (omega (arith, far)) (run-placed x (term-good h (b .fits)) (cut b));
+                  run = at-run refl (omega (arith, ends (b .run), last (b .run), ordered, far)) (omega (arith, far)) (run-placed x (term-good Two h (b .fits)) (cut b));
                   waits = around-kept K (x .kept) (omega (arith, far)) (omega (arith, far)) (b .waits);
                   apart = omega (arith, far);
                 };
@@ -162,10 +164,10 @@ part-set s {t} m x h e =
     }
 
 -- a term that was emitted is a run
-pub emitted-run : (s : List ℕ) {t : List ℕ} (m : ℕ) (h : Term) → TermFits h → 32768 ≤ length s → m + cells (fromTerm h) ≤ sizeLimit → t ≡ sets s (8 * m) (encode m (fromTerm h)) →
+pub emitted-run : (s : List ℕ) {t : List ℕ} (m : ℕ) (h : Term) → WideFits h → 32768 ≤ length s → m + cells (fromTerm h) ≤ sizeLimit → t ≡ sets s (8 * m) (encode m (fromTerm h)) →
     Run false t m (refers term-sort) (m + cells (fromTerm h) - 1) (fromTerm h) (m + cells (fromTerm h))
 emitted-run s {t} m h f n l e =
-    let g = term-good h f in
+    let g = term-good Two h f in
     let z = length-encode m (fromTerm h) in
     at-run refl (omega (arith, root-last m g)) refl (encoded-run m g (part-set s m (encode m (fromTerm h)) (omega (arith, z, l, n)) e))
 
@@ -186,7 +188,7 @@ module _ {w : List ℕ} (p : Place) {e : Term} (s : Standing w (Redex p) e) (r :
   around-small = omega (arith, around-is, whole-size, r .small)
 
   -- the redex, as reduction asks for it
-  redex-of : (f : Term) → TermFits f → RedexParts w p f → (cellAt w (p .root) .kind ≡ 25 → ⊥) → (cellAt w (p .root) .kind ≡ 26 → ⊥) → Reduction.Redex w (p .root) f
+  redex-of : (f : Term) → WideFits f → RedexParts w p f → (cellAt w (p .root) .kind ≡ 25 → ⊥) → (cellAt w (p .root) .kind ≡ 26 → ⊥) → Reduction.Redex w (p .root) f
   redex-of (anno v A) f (of-anno c x y z) k m =
       let q = redex-range (s .at) in
       Reduction.at-anno c (below y (omega (arith, q .apart, q .right))) (below z (omega arith)) x (runs-term (f .0) y) (runs-type z)
@@ -210,16 +212,16 @@ module _ {w : List ℕ} (p : Place) {e : Term} (s : Standing w (Redex p) e) (r :
   pub within-of : (half : ℕ) {g : Term} → next half e ≡ some g → Inside half (s .around) (s .focus) g
   within-of half {g} n = next-inside half (s .around) (s .focus) g (s .proper) (redex-value (s .at .parts)) (sym (ap (next half) (s .is)) ∙ n)
 
-  fits-after : (half : ℕ) {g : Term} (n : next half e ≡ some g) → Reduction.Redex w (p .root) (s .focus) → TermFits (within-of half n .to)
+  fits-after : (half : ℕ) {g : Term} (n : next half e ≡ some g) → Reduction.Redex w (p .root) (s .focus) → WideFits (within-of half n .to)
   fits-after half n x =
       let i = within-of half n in
-      successor-fits (s .focus) (i .to) (any-range Rattle.format.specs.Cell.half half x ∙ i .steps) (standing-fits s r)
+      successor-fits Two (s .focus) (i .to) (any-range (halfOf Two) half x ∙ i .steps) (standing-fits s r)
 
   size-after : (half : ℕ) {g : Term} (n : next half e ≡ some g) → size g ≡ p .start + 8191 - p .root + cells (fromTerm (within-of half n .to))
   size-after half {g} n =
       let i = within-of half n in
       let a = ap size (i .is) ∙ size-whole (s .around) (i .to) in
-      omega (arith, a, around-is, term-cells (i .to))
+      omega (arith, a, around-is, term-cells Two (i .to))
 
   -- an annotated value becomes a value
   value-after : (half : ℕ) {g : Term} (n : next half e ≡ some g) → cellAt w (p .root) .kind ≡ 19 → value? (within-of half n .to) ≡ true
@@ -231,13 +233,13 @@ module _ {w : List ℕ} (p : Place) {e : Term} (s : Standing w (Redex p) e) (r :
 pub emit-ready : {s w : List ℕ} {p : Place} {t : Cell} → Emitting s w p t → Reduction.ContractReady w s (p .root) (p .start + 8191 - p .root)
 emit-ready {p = p} d =
     let y = d .contracting .ready in
-    let a = successor-of p (y .standing) (y .runnable) Rattle.format.specs.Cell.half in
+    let a = successor-of p (y .standing) (y .runnable) (halfOf Two) in
     record {
       space = record { long = d .contracting .long; used = around-small p (y .standing) (y .runnable) };
       low = redex-low (y .standing .at);
       term = y .standing .focus;
       redex = redex-at p (y .standing) (y .runnable) (kind-not (d .cell) (d .no-read)) (kind-not (d .cell) (d .no-sum));
-      half = Rattle.format.specs.Cell.half;
+      half = halfOf Two;
       successor = a .0;
       steps = a .1;
     }
@@ -293,7 +295,7 @@ module _ {s s′ w : List ℕ} {p : Place} {t : Cell} (d : Emitting s w p t) {o 
     installing l i =
         let y = d .contracting .ready in
         let st = y .standing in
-        let half = Rattle.format.specs.Cell.half in
+        let half = halfOf Two in
         let a = successor-of p st (y .runnable) half in
         let n : next half (y .term) ≡ some (whole (st .around) (a .0)) = ap (next half) (st .is) ∙ next-whole half (st .around) (st .focus) (a .0) (st .proper) (redex-value (st .at .parts)) (a .1) in
         let b = became-after half st (y .runnable) n in
@@ -322,25 +324,25 @@ contracts-in-place x = record { says = λ e g st r n. let a = x .says e g st r n
 
 -- ---- an annotated value, in place or not
 
-module _ {half : ℕ} {w v : List ℕ} {p : Place} {r : InPlace} (h : CastsInPlace half w v p r) where
-  pub became-is : {x : Focus} → r ≡ Became x → Contracts half w v p (To x)
-  became-is {x} q = go (h .says)
+module _ {w v : List ℕ} {p : Place} {r : InPlace} (h : CastsInPlace w v p r) where
+  pub became-is : {half : ℕ} {x : Focus} → r ≡ Became x → Contracts half w v p (To x)
+  became-is {half} {x} q = go (h .says)
     where
-      go : InPlaceBy half w v p r → Contracts half w v p (To x)
-      go (h-became {x = y} e b) = let i : y ≡ x = cc in subst (λ (z : Focus). Contracts half w v p (To z)) i (contracts-in-place b)
+      go : InPlaceBy w v p r → Contracts half w v p (To x)
+      go (h-became {x = y} e b) = let i : y ≡ x = cc in subst (λ (z : Focus). Contracts half w v p (To z)) i (contracts-in-place (b half))
       go (h-elsewhere e b) = let z : _≡_ {A = ℕ} 0 1 = cc in absurd (omega arith)
 
   same : r ≡ Elsewhere → v ≡ w
   same q = go (h .says)
     where
-      go : InPlaceBy half w v p r → v ≡ w
+      go : InPlaceBy w v p r → v ≡ w
       go (h-became e b) = let z : _≡_ {A = ℕ} 0 1 = cc in absurd (omega arith)
       go (h-elsewhere e b) = b
 
-  pub still-contracts : {u : List ℕ} {o : Contracted} → r ≡ Elsewhere → Contracts half v u p o → Contracts half w u p o
-  still-contracts {u} {o} q c = subst (λ (z : List ℕ). Contracts half z u p o) (same q) c
+  pub still-contracts : {half : ℕ} {u : List ℕ} {o : Contracted} → r ≡ Elsewhere → Contracts half v u p o → Contracts half w u p o
+  still-contracts {half} {u} {o} q c = subst (λ (z : List ℕ). Contracts half z u p o) (same q) c
 
-pub still-emitting : {half : ℕ} {s w v : List ℕ} {p : Place} {t : Cell} {r : InPlace} → ContractingAnno s w p t → CastsInPlace half w v p r → r ≡ Elsewhere → Emitting s v p t
+pub still-emitting : {s w v : List ℕ} {p : Place} {t : Cell} {r : InPlace} → ContractingAnno s w p t → CastsInPlace w v p r → r ≡ Elsewhere → Emitting s v p t
 still-emitting {s = s} {w} {v} {p} {t} a h q =
     subst (λ (z : List ℕ). Emitting s z p t) (sym (same h q))
     (record { contracting = a .contracting; cell = a .cell; no-read = λ k. omega (arith, k, a .kind); no-sum = λ k. omega (arith, k, a .kind) })

@@ -8,9 +8,10 @@ use mathlib.Core.Option.{some}
 use lib.ListN.{length, take, drop, take-append-drop}
 use Rattle.calculus.specs.Syntax.{Ty, Term}
 use Rattle.calculus.specs.Typing.{Typed}
-use Rattle.format.specs.Table.{term-sort, unused, refers, Row, rowOf, rowIn, table}
+use Rattle.format.specs.declared.Version.the-variants.{Two}
+use Rattle.format.specs.Table.{term-sort, unused, refers, Row, rowFor, rowOf, rowIn, table}
 use Rattle.format.specs.Tree.{raw, node, encode}
-use Rattle.format.specs.Terms.{fromTerm}
+use Rattle.format.specs.Terms.{fromTermIn, fromTerm}
 use Rattle.format.proofs.Trees.{term-cells, term-positive}
 use Rattle.format.proofs.Encoding.{Part, root-last}
 use Rattle.format.proofs.RoundTrip.{term-good}
@@ -41,7 +42,7 @@ module _ {w : List ℕ} {n : ℕ} {e : Term} (l : EncodedTerm w n e) where
   -- the cells of a term that lies somewhere are a run
   pub term-run : (s : List ℕ) → take (8 * n) s ≡ take (8 * n) w → Run false s 0 (refers term-sort) (n - 1) (fromTerm e) (0 + n)
   term-run s q =
-      let g = term-good e (l .fits) in
+      let g = term-good Two e (l .fits) in
       let c = l .tree .count in
       let part : Part s 0 (encode 0 (fromTerm e)) =
       record { before = []; after = drop (8 * n) s; starts = refl; split = sym (take-append-drop (8 * n) s) ∙ ap (λ (x : List ℕ). x ++ drop (8 * n) s) (q ∙ l .tree .encoded) } in
@@ -51,7 +52,7 @@ module _ {w : List ℕ} {n : ℕ} {e : Term} (l : EncodedTerm w n e) where
   start-place s h k q = place-ready w (8192 - n) (omega (arith, h, l .tree .small)) k (omega (arith, l .tree .small)) (omega (arith, l .tree .small)) (term-run s q)
 
   pub encoded-runnable : {A : Ty} → Typed [] e A → Runnable e
-  encoded-runnable {A} t = record { type = A; typed = t; fits = l .fits; small = omega (arith, l .tree .small, l .tree .count, term-cells e) }
+  encoded-runnable {A} t = record { type = A; typed = t; fits = l .fits; small = omega (arith, l .tree .small, l .tree .count, term-cells Two e) }
 
 -- the place of a whole term of n cells that is to come
 abbrev pub first : ℕ → Place
@@ -68,7 +69,7 @@ starts-ahead {s} {w} {v} {n} {e} l h q x =
       proper = p-none;
       at = record {
         starts = refl;
-        run = at-run refl (omega (arith, l .tree .small, l .tree .some)) (omega (arith, l .tree .small)) (run-placed x (term-good e (l .fits)) (term-run l s q));
+        run = at-run refl (omega (arith, l .tree .small, l .tree .some)) (omega (arith, l .tree .small)) (run-placed x (term-good Two e (l .fits)) (term-run l s q));
         waits = w-none;
         apart = omega (arith, l .tree .small);
       };
@@ -118,7 +119,7 @@ held-both {p = p} l i d =
     f-refers z (d .cell) i refl tt (bare (omega (arith, l, d .nothing, grows (d .second))) (d .first)) (bare (omega (arith, l, d .nothing)) (d .second)) f-unused
 
 held-parts : {w : List ℕ} {p : Place} {f : Term} → p .left < p .right → p .right ≤ p .root → RedexParts w p f → HeldField false w (suc (p .root)) (refers term-sort) (p .root) (fromTerm f)
-unfolding fromTerm table rowIn rowOf
+unfolding fromTermIn table rowIn rowFor
 held-parts {p = p} l r (of-anno c v a b) =
     let z : p .root < suc (p .root) = omega arith in
     f-refers z c refl refl tt (bare (omega (arith, l, r)) a) (bare (omega arith) b) f-unused
@@ -202,7 +203,7 @@ module _ {s w v : List ℕ} {x : Focus} {r : ℕ} (l : WholeReady s w x) (h : Re
       let y = l .ready in
       record {
         long = omega (arith, k, y .standing .long);
-        ready = encode-ready (l .long) (h .says (y .term) (y .standing)) (term-positive (y .term)) (omega (arith, term-cells (y .term), y .runnable .small));
+        ready = encode-ready (l .long) (h .says (y .term) (y .standing)) (term-positive Two (y .term)) (omega (arith, term-cells Two (y .term), y .runnable .small));
       }
 
 pub encodes-whole : {w v u : List ℕ} {x : Focus} {r n : ℕ} → Rebuilds w v x r → EncodesTree v u 3 r n → EncodesWhole w u x n
@@ -210,7 +211,7 @@ encodes-whole h d =
     record {
       says = λ e s r.
           record {
-            tree = d .says 8192 (fromTerm e) (h .says e s) (term-positive e) (omega (arith, term-cells e, r .small));
+            tree = d .says 8192 (fromTerm e) (h .says e s) (term-positive Two e) (omega (arith, term-cells Two e, r .small));
             fits = r .fits;
           };
     }

@@ -10,10 +10,10 @@ use lib.Dec.{eqb}
 use lib.IntN.{ℤ}
 use Rattle.calculus.specs.Syntax.{Ty, Term, var, lit, unit, anno, app, lam, merge, fix, rcd, proj, sum, choice}
 use Rattle.calculus.specs.Decide.{value?}
-use Rattle.format.specs.Table.{Sort, term-sort, unused, refers, Row, rowOf, rowIn, table}
+use Rattle.format.specs.Table.{Sort, term-sort, unused, refers, Row, rowFor, rowOf, rowIn, table}
 use Rattle.format.specs.Cell.{Cell, cellAt}
 use Rattle.format.specs.Tree.{Tree, kindIn}
-use Rattle.format.specs.Terms.{fromTerm}
+use Rattle.format.specs.Terms.{fromTermIn, fromTerm}
 use Rattle.cells.specs.Held.{IsCell}
 use Rattle.cells.proofs.Held.{kindOf}
 use Rattle.emission.specs.Runs.{Run}
@@ -41,7 +41,7 @@ pub data Kind : ℕ → Term → Type 0 where
   k-choice : {e f g : Term} → Kind 27 (choice e f g)
 
 by-kind : (f : Term) → Kind (kindOf term-sort f) f
-unfolding fromTerm kindIn
+unfolding fromTermIn kindIn
 by-kind (var n) = k-var
 by-kind (lit z) = k-lit
 by-kind unit = k-unit
@@ -124,7 +124,7 @@ module _ {w v : List ℕ} (p : Place) {K : List Around} (d : Wrote w v (p .root)
   -- the cell t of the focus waits
   pub enters-part : (f : Term) (t : Cell) → IsAhead w p K f → t ≡ cellAt w (p .root) → IsCell v (p .root) (t .kind) (t .label) (p .up) (t .b) (thirdOf t) →
       Steps (kindOf term-sort f) → Descends v p K f (t .a)
-  unfolding fromTerm kindIn table rowIn rowOf plugTerm frame
+  unfolding fromTermIn kindIn table rowIn rowFor plugTerm frame
   enters-part (var n) t a e c h = absurd (h .0 refl)
   enters-part (lit i) t a e c h = absurd (h .1 refl)
   enters-part unit t a e c h = absurd (h .2 refl)

@@ -9,9 +9,10 @@ use lib.ListN.{length}
 use lib.Seq.{sets}
 use Rattle.calculus.specs.Syntax.{Ty, Term, anno}
 use Rattle.calculus.specs.Decide.{value?}
-use Rattle.format.specs.Table.{type-sort, term-sort, refers, rowOf, rowIn, table}
+use Rattle.format.specs.declared.Version.the-variants.{Two}
+use Rattle.format.specs.Table.{type-sort, term-sort, refers, rowFor, rowIn, table}
 use Rattle.format.specs.Cell.{Cell, cellAt, cellBytes}
-use Rattle.format.specs.Terms.{fromType, fromTerm, TypeFits, TermFits}
+use Rattle.format.specs.Terms.{fromType, fromTermIn, fromTerm, TypeFits, WideFits}
 use Rattle.format.proofs.RoundTrip.{type-good, term-good}
 use Rattle.emission.specs.Runs.{Run}
 use Rattle.emission.proofs.Runs.{grows, nothing, last, ends, at-run, kept-run, parts}
@@ -38,13 +39,13 @@ record Halves (s : List ℕ) (m end a : ℕ) (h : Term) : Type 0 where
   type : Ty
   is : h ≡ anno inside type
   final : value? inside ≡ true
-  fits : TermFits inside × TypeFits type
+  fits : WideFits inside × TypeFits type
   first : Run false s m (refers term-sort) a (fromTerm inside) (a + 1)
   second : Run false s (a + 1) (refers type-sort) (end - 2) (fromType type) (end - 1)
 
-halves : {s : List ℕ} {m end a : ℕ} {h : Term} → Run false s m (refers term-sort) (end - 1) (fromTerm h) end → TermFits h → Kind 19 h → a ≡ cellAt s (end - 1) .a →
+halves : {s : List ℕ} {m end a : ℕ} {h : Term} → Run false s m (refers term-sort) (end - 1) (fromTerm h) end → WideFits h → Kind 19 h → a ≡ cellAt s (end - 1) .a →
     cellAt s a .kind ≡ 21 → Halves s m end a h
-unfolding fromTerm table rowIn rowOf
+unfolding fromTermIn table rowIn rowFor
 halves {s} {m} {end} {a} r g (k-anno {e = x} {A}) i f =
     let q = parts r refl in
     let e : a ≡ q .a = i ∙ ap (λ (c : Cell). c .a) (q .cell .is) in
@@ -129,7 +130,7 @@ module _ {s w : List ℕ} {p : Place} {kind m end a : ℕ} (d : Halving s w p ki
         function-run : {h : Term} (q : Halves s m end a h) →
             Run true z (p .start) (refers term-sort) (p .start + (a + 1 - m) - 1) (fromTerm (q .inside)) (p .start + (a + 1 - m))
         function-run q =
-            let r = run-placed x (term-good (q .inside) (q .fits .0)) (at-run refl refl (omega (arith, low)) (q .first)) in
+            let r = run-placed x (term-good Two (q .inside) (q .fits .0)) (at-run refl refl (omega (arith, low)) (q .first)) in
             kept-run (o .long ∙ y .kept .long)
             (λ i g h. o .others i (λ e. absurd (omega (arith, e, h, apart))) ∙ y .kept .below i (omega (arith, h, apart)))
             (at-run refl (omega (arith, low)) refl r)
@@ -137,7 +138,7 @@ module _ {s w : List ℕ} {p : Place} {kind m end a : ℕ} (d : Halving s w p ki
         type-run : {h : Term} (q : Halves s m end a h) →
             Run true z (p .root - (end - 2 - a)) (refers type-sort) (p .root - 1) (fromType (q .type)) (p .root)
         type-run q =
-            let r = run-placed y (type-good (q .type) (q .fits .1)) (at-run refl refl (omega (arith, high)) (q .second)) in
+            let r = run-placed y (type-good Two (q .type) (q .fits .1)) (at-run refl refl (omega (arith, high)) (q .second)) in
             kept-run (o .long)
             (λ i g h. o .others i (λ e. absurd (omega (arith, e, h))))
             (at-run refl (omega (arith, high, apart)) (omega (arith, high, apart)) r)

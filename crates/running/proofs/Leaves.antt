@@ -8,7 +8,7 @@ use mathlib.Core.List.{List, [], _∷_}
 use lib.Dec.{T, eqb}
 use lib.ListN.{length}
 use Rattle.calculus.specs.Syntax.{Ty, Term}
-use Rattle.format.specs.Table.{rowOf, rowIn, table}
+use Rattle.format.specs.Table.{rowFor, rowIn, table}
 use Rattle.format.specs.Cell.{Cell, cellAt}
 use Rattle.cells.specs.Held.{IsCell}
 use Rattle.moving.specs.Moves.{Wrote}
@@ -39,7 +39,7 @@ seen : {w : List ℕ} {j k l a b c d : ℕ} {F : Around} → IsCell w j k l a b 
 seen i e h = rw (i .is, e) h
 
 pub waiter : {w : List ℕ} {j p q : ℕ} (F : Around) (K : List Around) → Waits w j p q (frames (F ∷ K)) → Waiter (cellAt w j .kind) (cellAt w j .c) F
-unfolding frames frame table rowIn rowOf
+unfolding frames frame table rowIn rowFor
 waiter (anno-of A) K h = let q = waits-first h refl in seen (q .cell) (q .unused refl) at-anno
 waiter (app-left f) K h = let q = waits-first h refl in seen (q .cell) (q .unused refl) at-app
 waiter (app-right v) K h = let q = waits-second h refl in seen (q .cell) (q .start) at-argument
@@ -122,7 +122,7 @@ module _ {w v : List ℕ} (p : Place) (t : Cell) (some : p .up ≡ 0 → ⊥) (c
 
   pub second-on : WaitsTwice (t .kind) → t .c ≡ 0 → Wrote w v (p .up) → IsCell v (p .up) (t .kind) (t .label) (p .left - 1) (t .a) (p .start + 1) →
       Moves w v (Done p) (Ahead (onward p (t .b)))
-  unfolding whole plugTerm frame rowOf rowIn table
+  unfolding whole plugTerm frame rowFor rowIn table
   second-on k z x y = leaving (x .long) (λ f F K l b a d h. go K k l a d (rw z at h))
     where
       go : {f : Term} {F : Around} {k : ℕ} (K : List Around) → WaitsTwice k → length v ≡ 65536 → AllProper K → IsDone w p (F ∷ K) f → Waiter k 0 F →
@@ -149,7 +149,7 @@ module _ {w v : List ℕ} (p : Place) (t : Cell) (some : p .up ≡ 0 → ⊥) (c
 
   pub both-redex : WaitsTwice (t .kind) → (t .kind ≡ 22 → ⊥) → (t .c ≡ 0 → ⊥) → Wrote w v (p .up) → IsCell v (p .up) (t .kind) (t .label) (t .a) (p .left - 1) 0 →
       Moves w v (Done p) (Redex (redexed p (t .c - 1) (t .b)))
-  unfolding plugTerm frame rowOf rowIn table
+  unfolding plugTerm frame rowFor rowIn table
   both-redex k m z x y = leaving (x .long) (λ f F K l b a d h. stands K _ l a (go k m b d (turned z h)))
     where
       go : {f : Term} {F : Around} {K : List Around} {k c : ℕ} → WaitsTwice k → (k ≡ 22 → ⊥) → Proper F → IsDone w p (F ∷ K) f → Waiter k (suc c) F →

@@ -7,10 +7,10 @@ use mathlib.Core.List.{List, [], _∷_}
 use mathlib.Core.Option.{some}
 use Rattle.calculus.specs.Syntax.{Ty, Term, merge, rcd}
 use Rattle.calculus.specs.Decide.{value?}
-use Rattle.format.specs.Table.{term-sort, unused, refers, Row, rowOf, rowIn, table}
+use Rattle.format.specs.Table.{term-sort, unused, refers, Row, rowFor, rowOf, rowIn, table}
 use Rattle.format.specs.Cell.{Cell, cellAt}
 use Rattle.format.specs.Tree.{Tree, raw}
-use Rattle.format.specs.Terms.{fromTerm}
+use Rattle.format.specs.Terms.{fromTermIn, fromTerm}
 use Rattle.cells.specs.Held.{IsCell, labelBy}
 use Rattle.emission.specs.Runs.{Run}
 use Rattle.emission.proofs.Runs.{grows, nothing, ends, at-run}
@@ -100,7 +100,7 @@ module _ {w v : List ℕ} (p : Place) {K : List Around} where
   -- a record is done
   pub leaves-record : {l : ℕ} (f : Term) (t : Cell) → IsDone w p (rcd-of l ∷ K) f → t ≡ cellAt w (p .up) → Wrote w v (p .left) →
       IsCell v (p .left) (t .kind) (t .label) (p .left - 1) (t .b) (t .c) → IsDone v (closed p (p .start) (t .a)) K (rcd l f)
-  unfolding frames frame fromTerm value? table rowIn rowOf
+  unfolding frames frame fromTermIn value? table rowIn rowFor
   leaves-record {l} f t d e x y =
       let q = waits-first (d .waits) refl in
       let s : t ≡ record { kind = 24; label = q .l; a = q .u; b = q .b; c = q .c } = e ∙ q .cell .is in
@@ -134,17 +134,17 @@ module _ {w v : List ℕ} (p : Place) {K : List Around} where
   module _ (f : Term) (t : Cell) (e : t ≡ cellAt w (p .up)) (x : Wrote w v (p .up)) (y : IsCell v (p .up) (t .kind) (t .label) (p .left - 1) (t .b) (t .c)) where
     -- an annotated value
     pub leaves-anno : {A : Ty} → IsDone w p (anno-of A ∷ K) f → IsRedex v (redexed p (p .start) (t .a)) K (plugTerm (anno-of A) f)
-    unfolding plugTerm frame table rowIn rowOf
+    unfolding plugTerm frame table rowIn rowFor
     leaves-anno {A} d = leaves-one f (anno-of A) t d refl refl e x y (λ _ _ _ _ m c a g h. of-anno c (d .value) a (at-run refl refl (nothing h) g))
 
     -- a field read of a value
     pub leaves-proj : {l : ℕ} → IsDone w p (proj-of l ∷ K) f → IsRedex v (redexed p (p .start) (t .a)) K (plugTerm (proj-of l) f)
-    unfolding plugTerm frame table rowIn rowOf
+    unfolding plugTerm frame table rowIn rowFor
     leaves-proj {l} d = leaves-one f (proj-of l) t d refl refl e x y (λ _ _ _ _ m c a g h. of-proj (rw (sym m) at c) (d .value) a (nothing g ∙ nothing h))
 
     -- a choice by a value
     pub leaves-choice : {g h : Term} → IsDone w p (choice-of g h ∷ K) f → IsRedex v (redexed p (p .start) (t .a)) K (plugTerm (choice-of g h) f)
-    unfolding plugTerm frame table rowIn rowOf
+    unfolding plugTerm frame table rowIn rowFor
     leaves-choice {g} {h} d = leaves-one f (choice-of g h) t d refl refl e x y (λ _ _ _ _ m c a g h. of-choice c (d .value) a g h)
 
   -- the cell waits for its second part, whatever its kind
@@ -164,7 +164,7 @@ module _ {w v : List ℕ} (p : Place) {K : List Around} where
   -- a merge of values is done
   pub leaves-merge : (f : Term) {g : Term} (t : Cell) → IsDone w p (merge-right g ∷ K) f → value? g ≡ true → t ≡ cellAt w (p .up) → Wrote w v (p .left) →
       IsCell v (p .left) (t .kind) (t .label) (t .a) (p .left - 1) 0 → IsDone v (closed p (t .c - 1) (t .b)) K (merge g f)
-  unfolding frames frame fromTerm value? table rowIn rowOf
+  unfolding frames frame fromTermIn value? table rowIn rowFor
   leaves-merge f {g} t d h e x y =
       let q = waits-second (d .waits) refl in
       let s : t ≡ record { kind = 22; label = q .l; a = q .a; b = q .u; c = q .c } = e ∙ q .cell .is in

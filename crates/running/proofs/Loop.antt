@@ -8,7 +8,8 @@ use native.Mathlib.Omega.{arith}
 use borrow.Author.Tests.{ltb-false}
 use lib.ListN.{length}
 use Rattle.calculus.specs.Syntax.{Term, size}
-use Rattle.format.specs.Cell.{half}
+use Rattle.format.specs.declared.Version.{Version}
+use Rattle.format.specs.Version.{halfOf}
 use Rattle.format.specs.Book.{sizeLimit}
 use Rattle.answers.specs.Answer as Answer
 use Rattle.answers.specs.Definition.{ended, evaluate}
@@ -25,24 +26,25 @@ use Rattle.running.proofs.Standing.{next-runnable}
 use Rattle.running.proofs.Encoding.{encoded-runnable}
 
 -- the run of e₀ with limit l has come to a term that stands in the work buffer
-pub record Going (l : ℕ) (e₀ : Term) (w : List ℕ) (x : State) : Type 0 where
+pub record Going (u : Version) (l : ℕ) (e₀ : Term) (w : List ℕ) (x : State) : Type 0 where
   pub term : Term
   pub standing : Standing w (x .focus) term
   pub runnable : Runnable term
-  pub left : evaluate half sizeLimit l 0 e₀ ≡ evaluate half sizeLimit (l - x .steps) (x .steps) term
+  pub left : evaluate (halfOf u) sizeLimit l 0 e₀ ≡ evaluate (halfOf u) sizeLimit (l - x .steps) (x .steps) term
 
 -- that of every term that stood there at first, and there was one; both buffers are as long as they were
-pub record AllGoing (l : ℕ) (s₀ w₀ : List ℕ) (x₀ : Focus) (s w : List ℕ) (x : State) : Type 0 where
+pub record AllGoing (u : Version) (l : ℕ) (s₀ w₀ : List ℕ) (x₀ : Focus) (s w : List ℕ) (x : State) : Type 0 where
   pub same : length s ≡ length s₀
   pub long : 32768 ≤ length s
   pub work : length w ≡ 65536
   pub first : FocusReady w₀ x₀
   pub settled : Settled (x .focus)
+  pub version : x .version ≡ u
   pub taken : x .steps ≤ l
-  pub says : (e₀ : Term) → Standing w₀ x₀ e₀ → Runnable e₀ → Going l e₀ w x
+  pub says : (e₀ : Term) → Standing w₀ x₀ e₀ → Runnable e₀ → Going u l e₀ w x
 
-pub going-first : {l n : ℕ} {s t w v : List ℕ} {x : Focus} → StepReady s w n → length t ≡ length s → Starts w v n x →
-    AllGoing l t v x t v (record { focus = x; steps = 0 })
+pub going-first : {u : Version} {l n : ℕ} {s t w v : List ℕ} {x : Focus} → StepReady s w n → length t ≡ length s → Starts w v n x →
+    AllGoing u l t v x t v (record { version = u; focus = x; steps = 0 })
 going-first d k s =
     let h = d .at in
     record {
@@ -51,12 +53,13 @@ going-first d k s =
       work = s .long;
       first = record { term = h .term; standing = s .says (h .term) (h .type) (h .encoded) (h .typed); runnable = encoded-runnable (h .encoded) (h .typed) };
       settled = s .settled;
+      version = refl;
       taken = omega arith;
       says = λ e h t. record { term = e; standing = h; runnable = t; left = rw sub-zero };
     }
 
-module _ {l : ℕ} {s₀ w₀ s w : List ℕ} {x₀ : Focus} {x : State} (g : AllGoing l s₀ w₀ x₀ s w x) where
-  abbrev now : Going l (g .first .term) w x
+module _ {u : Version} {l : ℕ} {s₀ w₀ s w : List ℕ} {x₀ : Focus} {x : State} (g : AllGoing u l s₀ w₀ x₀ s w x) where
+  abbrev now : Going u l (g .first .term) w x
   now = g .says (g .first .term) (g .first .standing) (g .first .runnable)
 
   -- what the next step needs
@@ -64,79 +67,83 @@ module _ {l : ℕ} {s₀ w₀ s w : List ℕ} {x₀ : Focus} {x : State} (g : Al
   going-ready =
       record { long = g .long; ready = record { term = now .term; standing = now .standing; runnable = now .runnable }; settled = g .settled; taken = g .taken }
 
-module _ {l : ℕ} {s₀ w₀ s w v : List ℕ} {x₀ : Focus} {x : State} {r : Turn} (g : AllGoing l s₀ w₀ x₀ s w x) where
+module _ {u : Version} {l : ℕ} {s₀ w₀ s w v : List ℕ} {x₀ : Focus} {x : State} {r : Turn} (g : AllGoing u l s₀ w₀ x₀ s w x) where
+  -- a turn, in the version of the run
+  turn : Steps w v x l r → (e : Term) → Standing w (x .focus) e → Runnable e → TurnOf u v (x .focus) (x .steps) l e r
+  turn o e s t = subst (λ (z : Version). TurnOf z v (x .focus) (x .steps) l e r) (g .version) (o .says e s t)
+
   -- a turn that goes on took one step of those left
-  going-more : {y : State} → Steps half w v x l r → r ≡ Next y → (y .steps ≡ x .steps + 1) × (x .steps < l) × Settled (y .focus)
-  going-more {y} o q = by (o .says (now g .term) (now g .standing) (now g .runnable))
+  going-more : {y : State} → Steps w v x l r → r ≡ Next y → (y .steps ≡ x .steps + 1) × (x .steps < l) × Settled (y .focus) × (y .version ≡ u)
+  going-more {y} o q = by (turn o (now g .term) (now g .standing) (now g .runnable))
     where
-      by : TurnOf half v (x .focus) (x .steps) l (now g .term) r → (y .steps ≡ x .steps + 1) × (x .steps < l) × Settled (y .focus)
+      by : TurnOf u v (x .focus) (x .steps) l (now g .term) r → (y .steps ≡ x .steps + 1) × (x .steps < l) × Settled (y .focus) × (y .version ≡ u)
       by (t-value a c i) = let z : _≡_ {A = ℕ} 0 1 = cc in absurd (omega arith)
       by (t-spent a b c i) = let z : _≡_ {A = ℕ} 0 1 = cc in absurd (omega arith)
       by (t-room a b d f c i) = let z : _≡_ {A = ℕ} 0 1 = cc in absurd (omega arith)
-      by (t-next {y = u} a b d m c j k i) =
-          let z : u ≡ y = cc in
-          (ap (λ (u : State). u .steps) (sym z) ∙ j, b, subst (λ (u : State). Settled (u .focus)) z k)
+      by (t-next {y = n} a b d m c e j k i) =
+          let z : n ≡ y = cc in
+          (ap (λ (n : State). n .steps) (sym z) ∙ j, b, subst (λ (n : State). Settled (n .focus)) z k, ap (λ (n : State). n .version) (sym z) ∙ e)
 
-  pub going-less : {y : State} → Steps half w v x l r → r ≡ Next y → l - y .steps < l - x .steps
+  pub going-less : {y : State} → Steps w v x l r → r ≡ Next y → l - y .steps < l - x .steps
   going-less o q = let m = going-more o q in omega (arith, m .0, m .1)
 
-  pub going-next : {t : List ℕ} {y : State} → length t ≡ length s → length v ≡ length w → Steps half w v x l r → r ≡ Next y → AllGoing l s₀ w₀ x₀ t v y
+  pub going-next : {t : List ℕ} {y : State} → length t ≡ length s → length v ≡ length w → Steps w v x l r → r ≡ Next y → AllGoing u l s₀ w₀ x₀ t v y
   going-next {y = y} a b o q =
       let m = going-more o q in
-      record { same = a ∙ g .same; long = omega (arith, a, g .long); work = b ∙ g .work; first = g .first; settled = m .2; taken = omega (arith, m .0, m .1); says = go }
+      record { same = a ∙ g .same; long = omega (arith, a, g .long); work = b ∙ g .work; first = g .first; settled = m .2; version = m .3; taken = omega (arith, m .0, m .1); says = go }
     where
-      go : (e₀ : Term) → Standing w₀ x₀ e₀ → Runnable e₀ → Going l e₀ v y
-      go e₀ i t = by (o .says (p .term) (p .standing) (p .runnable))
+      go : (e₀ : Term) → Standing w₀ x₀ e₀ → Runnable e₀ → Going u l e₀ v y
+      go e₀ i t = by (turn o (p .term) (p .standing) (p .runnable))
         where
-          p : Going l e₀ w x
+          p : Going u l e₀ w x
           p = g .says e₀ i t
 
-          by : TurnOf half v (x .focus) (x .steps) l (p .term) r → Going l e₀ v y
+          by : TurnOf u v (x .focus) (x .steps) l (p .term) r → Going u l e₀ v y
           by (t-value a c i) = let z : _≡_ {A = ℕ} 0 1 = cc in absurd (omega arith)
           by (t-spent a b c i) = let z : _≡_ {A = ℕ} 0 1 = cc in absurd (omega arith)
           by (t-room a b d f c i) = let z : _≡_ {A = ℕ} 0 1 = cc in absurd (omega arith)
-          by (t-next {f = f} {y = u} a b d m h j k i) =
-              let z : u ≡ y = cc in
+          by (t-next {f = f} {y = n} a b d m h _ j k i) =
+              let z : n ≡ y = cc in
               let c = x .steps in
-              let c′ : y .steps ≡ suc c = ap (λ (u : State). u .steps) (sym z) ∙ j ∙ omega arith in
-              let on : evaluate half sizeLimit (l - c) c (p .term) ≡ evaluate half sizeLimit (l - suc c) (suc c) f =
-              ap (λ (b : ℕ). evaluate half sizeLimit b c (p .term)) (omega arith) ∙ evaluate-step half sizeLimit (l - suc c) c (p .term) f a d m in
+              let c′ : y .steps ≡ suc c = ap (λ (n : State). n .steps) (sym z) ∙ j ∙ omega arith in
+              let on : evaluate (halfOf u) sizeLimit (l - c) c (p .term) ≡ evaluate (halfOf u) sizeLimit (l - suc c) (suc c) f =
+              ap (λ (b : ℕ). evaluate (halfOf u) sizeLimit b c (p .term)) (omega arith) ∙ evaluate-step (halfOf u) sizeLimit (l - suc c) c (p .term) f a d m in
               record {
                 term = f;
-                standing = subst (λ (u : State). Standing v (u .focus) f) z i;
-                runnable = next-runnable (p .runnable) d (ltb-false sizeLimit (size f) m);
-                left = p .left ∙ on ∙ ap (λ (b : ℕ). evaluate half sizeLimit (l - b) b f) (sym c′);
+                standing = subst (λ (n : State). Standing v (n .focus) f) z i;
+                runnable = next-runnable u (p .runnable) d (ltb-false sizeLimit (size f) m);
+                left = p .left ∙ on ∙ ap (λ (b : ℕ). evaluate (halfOf u) sizeLimit (l - b) b f) (sym c′);
               }
 
   -- a turn that ends the run leaves the term where it stands
-  ending-ready : {y : Focus} {z : Stop} → Steps half w v x l r → r ≡ Ended z y → FocusReady v y
-  ending-ready {y} {z} o q = by (o .says (now g .term) (now g .standing) (now g .runnable))
+  ending-ready : {y : Focus} {z : Stop} → Steps w v x l r → r ≡ Ended z y → FocusReady v y
+  ending-ready {y} {z} o q = by (turn o (now g .term) (now g .standing) (now g .runnable))
     where
       at : x .focus ≡ y → Standing v (x .focus) (now g .term) → FocusReady v y
       at e i = record { term = now g .term; standing = subst (λ (d : Focus). Standing v d (now g .term)) e i; runnable = now g .runnable }
 
-      by : TurnOf half v (x .focus) (x .steps) l (now g .term) r → FocusReady v y
+      by : TurnOf u v (x .focus) (x .steps) l (now g .term) r → FocusReady v y
       by (t-value a c i) = let e : x .focus ≡ y = cc in at e i
       by (t-spent a b c i) = let e : x .focus ≡ y = cc in at e i
       by (t-room a b d f c i) = let e : x .focus ≡ y = cc in at e i
-      by (t-next a b d m c j k i) = let z : _≡_ {A = ℕ} 0 1 = cc in absurd (omega arith)
+      by (t-next a b d m c _ j k i) = let z : _≡_ {A = ℕ} 0 1 = cc in absurd (omega arith)
 
-  pub ending-whole : {t : List ℕ} {y : Focus} {z : Stop} → length t ≡ length s → Steps half w v x l r → r ≡ Ended z y → WholeReady t v y
+  pub ending-whole : {t : List ℕ} {y : Focus} {z : Stop} → length t ≡ length s → Steps w v x l r → r ≡ Ended z y → WholeReady t v y
   ending-whole a o q = record { long = omega (arith, a, g .long); ready = ending-ready o q }
 
-  pub going-ends : {y : Focus} {z : Stop} {u : List ℕ} {m : ℕ} → Steps half w v x l r → r ≡ Ended z y → EncodesWhole v u y m →
-      {a : List ℕ} {n : ℕ} → Starts a w₀ n x₀ → Runs half a u n l (record { stop = z; cells = m })
-  going-ends {y} {z} {u} {m} o q d b = record { says = λ e A i t. go e (b .says e A i t) (encoded-runnable i t) }
+  pub going-ends : {y : Focus} {z : Stop} {a₁ : List ℕ} {m : ℕ} → Steps w v x l r → r ≡ Ended z y → EncodesWhole v a₁ y m →
+      {a : List ℕ} {n : ℕ} → Starts a w₀ n x₀ → Runs u a a₁ n l (record { stop = z; cells = m })
+  going-ends {y} {z} {a₁} {m} o q d b = record { says = λ e A i t. go e (b .says e A i t) (encoded-runnable i t) }
     where
-      go : (e₀ : Term) → Standing w₀ x₀ e₀ → Runnable e₀ → RunOf half u l e₀ (record { stop = z; cells = m })
-      go e₀ i t = by (o .says (p .term) (p .standing) (p .runnable))
+      go : (e₀ : Term) → Standing w₀ x₀ e₀ → Runnable e₀ → RunOf u a₁ l e₀ (record { stop = z; cells = m })
+      go e₀ i t = by (turn o (p .term) (p .standing) (p .runnable))
         where
-          p : Going l e₀ w x
+          p : Going u l e₀ w x
           p = g .says e₀ i t
 
-          done : (a : Answer.Stop) → evaluate half sizeLimit (l - x .steps) (x .steps) (p .term) ≡ ended a (x .steps) (p .term) →
+          done : (a : Answer.Stop) → evaluate (halfOf u) sizeLimit (l - x .steps) (x .steps) (p .term) ≡ ended a (x .steps) (p .term) →
               Rattle.answers.specs.Cases.stopAnswer z ≡ Answer.stopped a (x .steps) → x .focus ≡ y → Standing v (x .focus) (p .term) →
-              RunOf half u l e₀ (record { stop = z; cells = m })
+              RunOf u a₁ l e₀ (record { stop = z; cells = m })
           done a b c e i =
               record {
                 stop = a;
@@ -147,20 +154,20 @@ module _ {l : ℕ} {s₀ w₀ s w v : List ℕ} {x₀ : Focus} {x : State} {r : 
                 encoded = d .says (p .term) (subst (λ (f : Focus). Standing v f (p .term)) e i) (p .runnable);
               }
 
-          by : TurnOf half v (x .focus) (x .steps) l (p .term) r → RunOf half u l e₀ (record { stop = z; cells = m })
+          by : TurnOf u v (x .focus) (x .steps) l (p .term) r → RunOf u a₁ l e₀ (record { stop = z; cells = m })
           by (t-value a c i) =
               let b : Value (x .steps) ≡ z = cc in
               let e : x .focus ≡ y = cc in
-              done Answer.value (evaluate-value half sizeLimit (l - x .steps) (x .steps) (p .term) a) (rw (← b)) e i
+              done Answer.value (evaluate-value (halfOf u) sizeLimit (l - x .steps) (x .steps) (p .term) a) (rw (← b)) e i
           by (t-spent a c h i) =
               let b : Spent (x .steps) ≡ z = cc in
               let e : x .focus ≡ y = cc in
               done Answer.spent
-              (ap (λ (n : ℕ). evaluate half sizeLimit n (x .steps) (p .term)) (omega arith) ∙ evaluate-spent half sizeLimit (x .steps) (p .term) a) (rw (← b)) e i
+              (ap (λ (n : ℕ). evaluate (halfOf u) sizeLimit n (x .steps) (p .term)) (omega arith) ∙ evaluate-spent (halfOf u) sizeLimit (x .steps) (p .term) a) (rw (← b)) e i
           by (t-room {f = f} a c h′ f′ h i) =
               let b : Room (x .steps) ≡ z = cc in
               let e : x .focus ≡ y = cc in
               done Answer.room
-              (ap (λ (n : ℕ). evaluate half sizeLimit n (x .steps) (p .term)) (omega arith) ∙ evaluate-room half sizeLimit (l - suc (x .steps)) (x .steps) (p .term) f a h′ f′)
+              (ap (λ (n : ℕ). evaluate (halfOf u) sizeLimit n (x .steps) (p .term)) (omega arith) ∙ evaluate-room (halfOf u) sizeLimit (l - suc (x .steps)) (x .steps) (p .term) f a h′ f′)
               (rw (← b)) e i
-          by (t-next a c h′ f′ h j k i) = let x : _≡_ {A = ℕ} 0 1 = cc in absurd (omega arith)
+          by (t-next a c h′ f′ h _ j k i) = let x : _≡_ {A = ℕ} 0 1 = cc in absurd (omega arith)

@@ -9,6 +9,7 @@ use mathlib.Core.Option.{Option, none, some, orElse, Option·some-injective, Opt
 use Rattle.calculus.specs.Syntax.{Term, unit, size}
 use Rattle.calculus.specs.Decide.{FieldPart, no-part, top-part, more-parts, one-part, fieldPart, value?, typeOf}
 use Rattle.calculus.specs.Evaluate.{next, firstPart, content, topValue, readParts, project}
+use Rattle.format.specs.declared.Version.the-variants.{Two}
 use Rattle.format.specs.Table.{term-sort, refers}
 use Rattle.format.specs.Cell.{Cell}
 use Rattle.format.specs.Terms.{fromTerm}
@@ -21,7 +22,7 @@ use Rattle.projection.specs.Parts.{IsValueFrom, ValueFrom, ContentIs, FindsCont
 use Rattle.projection.specs.declared.Content.{Content}
 use Rattle.projection.specs.declared.Content.the-variants.{Cells, Nothing}
 use Rattle.projection.proofs.Values.{no-cells}
-use Rattle.running.specs.Places.{Standing, doneAt, TopReady, Becomes, MergeAt}
+use Rattle.running.specs.Places.{Standing, doneAt, OnlyBecomes, Becomes, MergeAt}
 use Rattle.running.specs.declared.Place.{Place}
 use Rattle.running.specs.declared.Focus.the-variants.{Redex}
 use Rattle.running.proofs.Entering.{Kind, k-merge, term-kind}
@@ -113,8 +114,8 @@ module _ {w : List ℕ} (p : Place) (t : Cell) (d : MergeAt w p t) where
       sym (project-merge (t .label) (term-kind (q .value) (q .run) (d .merged))) ∙ project-is p t (d .at) half s n
 
   module _ {r : Content} (f : FindsContent w (p .start) (t .a) (t .label) r) where
-    pub none-ready : {half : ℕ} → r ≡ Nothing → TopReady half w p
-    none-ready {half} c = record { ready = d .at .ready; becomes = λ e s _ h n. no-other _ _ (none-taken f (value-from s) c) (parts-are half s n) }
+    pub none-only : (half : ℕ) → r ≡ Nothing → OnlyBecomes half w p unit
+    none-only half c = λ e s _ h n. no-other _ _ (none-taken f (value-from s) c) (parts-are half s n)
 
     module _ {x end : ℕ} (c : r ≡ Cells x end) where
       pub part-range : PartRange p x end
@@ -145,8 +146,8 @@ module _ {w : List ℕ} (p : Place) (t : Cell) (d : MergeAt w p t) where
               let q = field-read p t (d .at) s in
               let z = taken f (value-from s) c in
               let moved = run-shifted (at-run refl refl (omega (arith, z .some)) (z .run)) m in
-              let a = counts (z .run) ∙ ap (λ (n : ℕ). x + n) (term-cells (z .part)) in
-              let b = counts (q .run) ∙ ap (λ (n : ℕ). p .start + n) (term-cells (q .value)) in
+              let a = counts (z .run) ∙ ap (λ (n : ℕ). x + n) (term-cells Two (z .part)) in
+              let b = counts (q .run) ∙ ap (λ (n : ℕ). p .start + n) (term-cells Two (q .value)) in
               reduct-of (q .is) (the-part _ _ (z .is) (parts-are half s n))
               (record {
                 final = z .final;

@@ -14,12 +14,13 @@ use Rattle.calculus.specs.Decide.{value?}
 use Rattle.calculus.specs.Evaluate.{next, project}
 use Rattle.calculus.proofs.Bools.{true-says}
 use Rattle.calculus.proofs.Tests.{value?-says}
-use Rattle.format.specs.Table.{term-sort, refers, rowOf, rowIn, table}
+use Rattle.format.specs.declared.Version.the-variants.{Two}
+use Rattle.format.specs.Table.{term-sort, refers, rowFor, rowIn, table}
 use Rattle.format.specs.Cell.{Cell, cellAt, cellBytes}
 use Rattle.format.specs.Tree.{kindIn}
-use Rattle.format.specs.Terms.{fromTerm}
+use Rattle.format.specs.Terms.{fromTermIn, fromTerm}
 use Rattle.format.proofs.Trees.{term-cells, term-positive}
-use Rattle.format.proofs.Tests.{number}
+use Rattle.format.proofs.Tests.{number-2}
 use Rattle.cells.proofs.Held.{kind-of}
 use Rattle.emission.specs.Runs.{Run, r-unused, r-plain, r-refers}
 use Rattle.emission.proofs.Runs.{nothing, ends, run-within, at-run, parts, run-kind}
@@ -28,7 +29,7 @@ use Rattle.typed_reduction.proofs.Casts.{when-some}
 use Rattle.running.specs.Waiting.{Waits, around}
 use Rattle.running.specs.Contexts.{Around, whole, frames}
 use Rattle.running.specs.Places.{RedexParts, of-anno, of-app, of-fix, of-proj, of-sum, of-choice, Standing, Runnable, doneAt, Becomes, RedexAt}
-use Rattle.running.specs.Places.{SingleCell, top-cell, number-cell, SingleReady, TopReady}
+use Rattle.running.specs.Places.{SingleCell, top-cell, number-cell, SingleReady, AtRedex, BecomesSingle, BecomesTop}
 use Rattle.running.specs.declared.Place.{Place}
 use Rattle.running.specs.declared.Focus.{Focus}
 use Rattle.running.specs.declared.Focus.the-variants.{Redex}
@@ -41,7 +42,7 @@ use Rattle.running.proofs.Ranges.{RedexRange, redex-range, redex-low, S
 -- the size of the whole term: the cells around the focus, and the focus
 pub size-whole : (K : List Around) (f : Term) → size (whole K f) ≡ around (frames K) + size f
 size-whole K f =
-    sym (term-cells (whole K f)) ∙ ap Rattle.format.specs.Tree.cells (sym (framed K f)) ∙ filled (frames K) (fromTerm f) ∙ ap (λ (n : ℕ). around (frames K) + n) (term-cells f)
+    sym (term-cells Two (whole K f)) ∙ ap Rattle.format.specs.Tree.cells (sym (framed K f)) ∙ filled (frames K) (fromTerm f) ∙ ap (λ (n : ℕ). around (frames K) + n) (term-cells Two f)
 
 -- a redex is no value
 pub redex-value : {w : List ℕ} {p : Place} {f : Term} → RedexParts w p f → value? f ≡ false
@@ -126,7 +127,7 @@ pub unchanged : {w : List ℕ} (p : Place) → Kept w w (p .start) (suc (p .root
 unchanged p = record { long = refl; below = λ i h. refl; above = λ i h. refl }
 
 -- a value of one cell, written where the redex begins
-module _ {half : ℕ} {w v : List ℕ} {p : Place} {t : Cell} (d : SingleReady half w p t) (o : v ≡ sets w (8 * p .start) (cellBytes t)) where
+module _ {w v : List ℕ} {p : Place} {t : Cell} (d : SingleReady w p t) (o : v ≡ sets w (8 * p .start) (cellBytes t)) where
   x : Stored w v (p .start) t
   x = stored _ (start-within (d .ready .standing)) o
 
@@ -137,25 +138,32 @@ module _ {half : ℕ} {w v : List ℕ} {p : Place} {t : Cell} (d : SingleReady h
   kept = wrote-kept (x .wrote) (omega arith) (omega (arith, r .start, r .apart, r .right))
 
   single-reduct : {f : Term} {n : ℕ} → SingleCell t f → 1 ≤ n → Reduct v (p .start) (p .start + 1) n f
-  unfolding value? fromTerm table rowIn rowOf size
+  unfolding value? fromTermIn table rowIn rowFor size
   single-reduct (top-cell i) l =
       let y = rw i at (x .there) in
       record { final = refl; run = at-run refl (omega arith) (omega arith) (r-refers y refl refl r-unused r-unused r-unused refl (refl, tt)); small = l }
-  single-reduct (number-cell {b = b} {c = c} i) l =
+  single-reduct (number-cell {a = a} {b = b} {c = c} i) l =
       let y = rw i at (x .there) in
-      let tree = number b c (omega (arith, d .b-fits, ap (λ (c : Cell). c .b) i)) (omega (arith, d .c-fits, ap (λ (c : Cell). c .c) i)) in
-      record { final = refl; run = rw tree (at-run refl (omega arith) (omega arith) (r-refers y refl refl r-unused r-plain r-plain refl (refl, tt))); small = l }
+      let tree =
+      number-2 a b c (omega (arith, d .a-fits, ap (λ (c : Cell). c .a) i)) (omega (arith, d .b-fits, ap (λ (c : Cell). c .b) i))
+      (omega (arith, d .c-fits, ap (λ (c : Cell). c .c) i)) in
+      record { final = refl; run = rw tree (at-run refl (omega arith) (omega arith) (r-refers y refl refl r-plain r-plain r-plain refl (refl, tt))); small = l }
 
-  pub becomes-single : {f : Focus} → f ≡ doneAt p (p .start + 1) → Becomes half w v p f
+  pub becomes-single : {f : Focus} → f ≡ doneAt p (p .start + 1) → BecomesSingle w v p t f
   becomes-single is =
-      becomes-at is (becomes p kept (omega (arith, r .start, r .apart, r .right))
-      (λ e s r h n. subst (Reduct v (p .start) (p .start + 1) (size (s .focus))) (d .becomes e s r h n)
-      (single-reduct (d .single) (omega (arith, term-positive (s .focus), term-cells (s .focus))))))
+      record {
+        says = λ k y c m.
+            becomes-at is (becomes p kept (omega (arith, r .start, r .apart, r .right))
+            (λ e s r h n. subst (Reduct v (p .start) (p .start + 1) (size (s .focus))) (m e s r h n)
+            (single-reduct c (omega (arith, term-positive Two (s .focus), term-cells Two (s .focus))))));
+      }
 
 -- the top value
-pub top-single : {half : ℕ} {w : List ℕ} {p : Place} → TopReady half w p → SingleReady half w p (record { kind = 18; label = 0; a = 0; b = 0; c = 0 })
-top-single d =
-    record { ready = d .ready; a-fits = omega arith; b-fits = omega arith; c-fits = omega arith; value = unit; single = top-cell refl; becomes = d .becomes }
+pub top-single : {w : List ℕ} {p : Place} → AtRedex w p → SingleReady w p (record { kind = 18; label = 0; a = 0; b = 0; c = 0 })
+top-single d = record { ready = d; a-fits = omega arith; b-fits = omega arith; c-fits = omega arith; value = unit; single = top-cell refl }
+
+pub becomes-top : {w v : List ℕ} {p : Place} {r : Focus} → BecomesSingle w v p (record { kind = 18; label = 0; a = 0; b = 0; c = 0 }) r → BecomesTop w v p r
+becomes-top b = record { says = λ h m. b .says h unit (top-cell refl) m }
 
 module _ {w : List ℕ} {start left a : ℕ} (l : ℕ) where
   reduct-top : {v : Term} (h : Term) → Run true w start (refers term-sort) a (fromTerm v) left → Kind 18 v → project l v ≡ some h →
@@ -167,7 +175,7 @@ module _ {w : List ℕ} {start left a : ℕ} (l : ℕ) where
 
   reduct-record : {v : Term} {A : Ty} (h : Term) → Value v A → value? v ≡ true → Run true w start (refers term-sort) a (fromTerm v) left → (cellAt w a .kind ≡ 18 → ⊥) →
       (cellAt w a .kind ≡ 22 → ⊥) → project l v ≡ some h → Reduct w start (left - 1) (size (proj l v)) h
-  unfolding project value? size kindIn fromTerm table rowIn rowOf
+  unfolding project value? size kindIn fromTermIn table rowIn rowFor
   reduct-record h v-unit f r k m n = absurd (k (run-kind r))
   reduct-record h (v-rcd {l = i} {v = x} _) f r k m n =
       let q = parts r refl in

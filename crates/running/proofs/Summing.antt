@@ -11,15 +11,18 @@ use Rattle.calculus.specs.Syntax.{int, Term, lit, sum}
 use Rattle.calculus.specs.Numbers.{hold}
 use Rattle.calculus.specs.Decide.{value?}
 use Rattle.calculus.specs.Evaluate.{next, cast, numberOf, add}
-use Rattle.format.specs.Cell.{Cell, cellAt, half, signed}
-use Rattle.format.specs.Terms.{TermFits}
+use Rattle.format.specs.declared.Version.the-variants.{Two}
+use Rattle.format.specs.Version.{halfOf, stored}
+use Rattle.format.specs.Cell.{Cell, cellAt, signed}
+use Rattle.format.specs.Terms.{WideFits}
 use Rattle.emission.specs.Runs.{RunsTerm}
 use Rattle.emission.proofs.Runs.{at-run}
 use Rattle.emission.proofs.RunParts.{runs-term}
 use Rattle.numbers.specs.Sums.{AddsHeld}
 use Rattle.typed_reduction.specs.Casting.{NumberReady, ReadsNumber}
-use Rattle.running.specs.Places.{RedexParts, of-sum, Standing, Runnable, RedexAt, number-cell, SingleReady}
+use Rattle.running.specs.Places.{RedexParts, of-sum, Standing, Runnable, Becomes, RedexAt, number-cell, OnlyBecomes, SingleReady, BecomesSingle}
 use Rattle.running.specs.declared.Place.{Place}
+use Rattle.running.specs.declared.Focus.{Focus}
 use Rattle.running.specs.declared.Focus.the-variants.{Redex}
 use Rattle.running.proofs.Entering.{Kind, k-sum}
 use Rattle.running.proofs.Ranges.{kind-at}
@@ -37,7 +40,7 @@ record Sides (w : List ℕ) (f : Term) (t : Cell) : Type 0 where
   left-runs : RunsTerm w (t .a) left
   right-runs : RunsTerm w (t .b) right
 
-sides-of : {w : List ℕ} {p : Place} {f : Term} {t : Cell} → Kind 26 f → TermFits f → RedexParts w p f → t ≡ cellAt w (p .root) → Sides w f t
+sides-of : {w : List ℕ} {p : Place} {f : Term} {t : Cell} → Kind 26 f → WideFits f → RedexParts w p f → t ≡ cellAt w (p .root) → Sides w f t
 sides-of {t = t} k-sum g (of-sum {v = v} {u = u} d) e =
     let i = e ∙ d .cell .is in
     record {
@@ -77,8 +80,8 @@ module _ {w : List ℕ} {p : Place} {t : Cell} (d : RedexAt w p t 26) where
   abbrev here : Sides w (d .ready .standing .focus) t
   here = sides (d .ready .standing) (d .ready .runnable)
 
-  abbrev here-read : Readings half (here .left) (here .right) (successor-of p (d .ready .standing) (d .ready .runnable) half .0)
-  here-read = read half (d .ready .standing) (d .ready .runnable) (successor-of p (d .ready .standing) (d .ready .runnable) half .1)
+  abbrev here-read : Readings 0 (here .left) (here .right) (successor-of p (d .ready .standing) (d .ready .runnable) 0 .0)
+  here-read = read 0 (d .ready .standing) (d .ready .runnable) (successor-of p (d .ready .standing) (d .ready .runnable) 0 .1)
 
   pub left-ready : NumberReady w (t .a)
   left-ready = record { at = record { value = here .left; holds = here .left-runs }; reduct = here-read .left; casts = here-read .left-reads }
@@ -86,24 +89,25 @@ module _ {w : List ℕ} {p : Place} {t : Cell} (d : RedexAt w p t 26) where
   pub right-ready : NumberReady w (t .b)
   right-ready = record { at = record { value = here .right; holds = here .right-runs }; reduct = here-read .right; casts = here-read .right-reads }
 
-  pub sum-ready : {x y z : ℕ} → ReadsNumber w (t .a) x → ReadsNumber w (t .b) y → AddsHeld x y half z →
-      SingleReady half w p (record { kind = 17; label = 0; a = 0; b = z % 65536; c = z / 65536 })
+  -- the number z, stored, in one cell
+  abbrev cell-of : ℕ → Cell
+  cell-of z = record { kind = 17; label = 0; a = z % 65536; b = z / 65536 % 65536; c = z / 65536 / 65536 }
+
+  pub sum-ready : {h x y z : ℕ} → AddsHeld x y h z → SingleReady w p (cell-of z)
+  sum-ready {z = z} q =
+      record { ready = d .ready; a-fits = omega arith; b-fits = omega arith; c-fits = omega (arith, q .fits); value = _; single = number-cell refl }
+
+  pub sum-becomes : {h x y z : ℕ} {v : List ℕ} {r : Focus} → ReadsNumber w (t .a) x → ReadsNumber w (t .b) y → AddsHeld x y h z → BecomesSingle w v p (cell-of z) r → Becomes h w v p r
   unfolding numberOf
-  sum-ready {x} {y} {z} f g h =
-      record {
-        ready = d .ready;
-        a-fits = omega arith;
-        b-fits = omega arith;
-        c-fits = omega (arith, h .fits);
-        value = lit (signed half (z % 65536 + 65536 * (z / 65536)));
-        single = number-cell refl;
-        becomes = same;
-      }
+  sum-becomes {h} {x} {y} {z} f g k b = b .says h _ (number-cell refl) same
     where
-      same : (e : Term) (s : Standing w (Redex p) e) → Runnable e → (d : Term) → next half (s .focus) ≡ some d → lit (signed half (z % 65536 + 65536 * (z / 65536))) ≡ d
+      whole-number : stored Two (z % 65536) (z / 65536 % 65536) (z / 65536 / 65536) ≡ z
+      whole-number = omega arith
+
+      same : OnlyBecomes h w p (lit (signed (halfOf Two) (stored Two (z % 65536) (z / 65536 % 65536) (z / 65536 / 65536))))
       same e s r d n =
           let q = sides s r in
-          let a = read half s r n in
+          let a = read h s r n in
           let i = f .says (q .left) (a .left) (q .left-runs) (a .left-reads) in
           let j = g .says (q .right) (a .right) (q .right-runs) (a .right-reads) in
-          ap lit (ap (signed half) (omega arith) ∙ h .says) ∙ (rw (i, j) at (a .is))
+          ap lit (ap (signed (halfOf Two)) whole-number ∙ k .says) ∙ (rw (i, j) at (a .is))

@@ -10,7 +10,8 @@ use borrow.Author.Tests.{lt-ltb, le-ltb}
 use Rattle.calculus.specs.Syntax.{Term, size}
 use Rattle.calculus.specs.Decide.{value?}
 use Rattle.calculus.specs.Evaluate.{next}
-use Rattle.format.specs.Cell.{half}
+use Rattle.format.specs.declared.Version.{Version}
+use Rattle.format.specs.Version.{halfOf}
 use Rattle.format.specs.Book.{sizeLimit}
 use Rattle.answers.specs.declared.Stop.the-variants.{Value, Spent, Room}
 use Rattle.running.specs.Contexts.{Around, whole}
@@ -36,7 +37,7 @@ whole-value s = ap value? (s .is ∙ ap (λ (K : List Around). whole K (s .focus
 redex-none : {w : List ℕ} {p : Place} {e : Term} → Standing w (Redex p) e → value? e ≡ false
 redex-none s = ap value? (s .is) ∙ no-value (s .around) (s .focus) (s .proper) (redex-value (s .at .parts))
 
-pub turn-value : {w : List ℕ} {x : State} {l : ℕ} → Settled (x .focus) → ((p : Place) → x .focus ≡ Redex p → ⊥) → Steps half w w x l (Ended (Value (x .steps)) (x .focus))
+pub turn-value : {w : List ℕ} {x : State} {l : ℕ} → Settled (x .focus) → ((p : Place) → x .focus ≡ Redex p → ⊥) → Steps w w x l (Ended (Value (x .steps)) (x .focus))
 turn-value {w} {x} {l} h n = record { says = λ e s r. t-value (go (x .focus) refl e (s)) refl s }
   where
     go : (y : Focus) → x .focus ≡ y → (e : Term) → Standing w (x .focus) e → value? e ≡ true
@@ -52,49 +53,49 @@ module _ {w : List ℕ} {y : Focus} {p : Place} (q : y ≡ Redex p) where
   pub redex-ready : FocusReady w y → FocusReady w (Redex p)
   redex-ready h = record { term = h .term; standing = at (h .standing); runnable = h .runnable }
 
-  module _ {v : List ℕ} {o : Contracted} (c : Contracts half w v p o) where
-    contracted : {e : Term} (s : Standing w y e) (r : Runnable e) → (g : Term) × (next half e ≡ some g) × ContractsTo w v g o
-    contracted {e} s r = let n = successor half r (redex-none (at s)) in (n .0, n .1, c .says e (n .0) (at s) r (n .1))
+  module _ (u : Version) {v : List ℕ} {o : Contracted} (c : Contracts (halfOf u) w v p o) where
+    contracted : {e : Term} (s : Standing w y e) (r : Runnable e) → (g : Term) × (next (halfOf u) e ≡ some g) × ContractsTo w v g o
+    contracted {e} s r = let n = successor (halfOf u) r (redex-none (at s)) in (n .0, n .1, c .says e (n .0) (at s) r (n .1))
 
     -- what was contracted can settle
     pub contracted-ready : {z : Focus} → FocusReady w y → o ≡ To z → FocusReady v z
     contracted-ready {z} h f = let a = contracted (h .standing) (h .runnable) in by (a .0) (a .1) (a .2)
       where
-        by : (g : Term) → next half (h .term) ≡ some g → ContractsTo w v g o → FocusReady v z
-        by g n (c-to {x = d} u k t) =
+        by : (g : Term) → next (halfOf u) (h .term) ≡ some g → ContractsTo w v g o → FocusReady v z
+        by g n (c-to {x = d} l k t) =
             let i : d ≡ z = cc in
-            record { term = g; standing = subst (λ (d : Focus). Standing v d g) i t; runnable = next-runnable (h .runnable) n u }
+            record { term = g; standing = subst (λ (d : Focus). Standing v d g) i t; runnable = next-runnable u (h .runnable) n l }
         by g n (c-full u k t) = let z : _≡_ {A = ℕ} 0 1 = cc in absurd (omega arith)
 
-pub turn-spent : {w : List ℕ} {x : State} {l : ℕ} {p : Place} → x .focus ≡ Redex p → x .steps ≡ l → Steps half w w x l (Ended (Spent (x .steps)) (Redex p))
+pub turn-spent : {w : List ℕ} {x : State} {l : ℕ} {p : Place} → x .focus ≡ Redex p → x .steps ≡ l → Steps w w x l (Ended (Spent (x .steps)) (Redex p))
 turn-spent {x = x} q h = record { says = λ e s r. t-spent (redex-none (at q s)) h (ap (Ended (Spent (x .steps))) (sym q)) s }
 
-module _ {w v : List ℕ} {x : State} {l : ℕ} {p : Place} {o : Contracted} (q : x .focus ≡ Redex p) (c : Contracts half w v p o) (le : x .steps ≤ l) (ne : x .steps ≡ l → ⊥) where
+module _ {w v : List ℕ} (x : State) {l : ℕ} {p : Place} {o : Contracted} (q : x .focus ≡ Redex p) (c : Contracts (halfOf (x .version)) w v p o) (le : x .steps ≤ l) (ne : x .steps ≡ l → ⊥) where
   h : x .steps < l
   h = omega arith
 
-  pub turn-room : o ≡ Full → Steps half w v x l (Ended (Room (x .steps)) (Redex p))
+  pub turn-room : o ≡ Full → Steps w v x l (Ended (Room (x .steps)) (Redex p))
   turn-room f = record { says = go }
     where
-      go : (e : Term) → Standing w (x .focus) e → Runnable e → TurnOf half v (x .focus) (x .steps) l e (Ended (Room (x .steps)) (Redex p))
-      go e s r = let a = contracted q c s r in by (a .0) (a .1) (a .2)
+      go : (e : Term) → Standing w (x .focus) e → Runnable e → TurnOf (x .version) v (x .focus) (x .steps) l e (Ended (Room (x .steps)) (Redex p))
+      go e s r = let a = contracted q (x .version) c s r in by (a .0) (a .1) (a .2)
         where
-          by : (g : Term) → next half e ≡ some g → ContractsTo w v g o → TurnOf half v (x .focus) (x .steps) l e (Ended (Room (x .steps)) (Redex p))
+          by : (g : Term) → next (halfOf (x .version)) e ≡ some g → ContractsTo w v g o → TurnOf (x .version) v (x .focus) (x .steps) l e (Ended (Room (x .steps)) (Redex p))
           by g n (c-to u z y) = let z : _≡_ {A = ℕ} 0 1 = cc in absurd (omega arith)
           by g n (c-full u z y) =
               t-room (redex-none (at q s)) h n (lt-ltb sizeLimit (size g) u) (ap (Ended (Room (x .steps))) (sym q)) (subst (λ (d : List ℕ). Standing d (x .focus) e) (sym y) s)
 
-  pub turn-next : {y z : Focus} {u : List ℕ} → o ≡ To y → Settles v u y z → Steps half w u x l (Next (record { focus = z; steps = x .steps + 1 }))
+  pub turn-next : {y z : Focus} {u : List ℕ} → o ≡ To y → Settles v u y z → Steps w u x l (Next (record { version = x .version; focus = z; steps = x .steps + 1 }))
   turn-next {y} {z} {u} f t = record { says = go }
     where
-      go : (e : Term) → Standing w (x .focus) e → Runnable e → TurnOf half u (x .focus) (x .steps) l e (Next (record { focus = z; steps = x .steps + 1 }))
-      go e s r = let a = contracted q c s r in by (a .0) (a .1) (a .2)
+      go : (e : Term) → Standing w (x .focus) e → Runnable e → TurnOf (x .version) u (x .focus) (x .steps) l e (Next (record { version = x .version; focus = z; steps = x .steps + 1 }))
+      go e s r = let a = contracted q (x .version) c s r in by (a .0) (a .1) (a .2)
         where
-          by : (g : Term) → next half e ≡ some g → ContractsTo w v g o → TurnOf half u (x .focus) (x .steps) l e (Next (record { focus = z; steps = x .steps + 1 }))
+          by : (g : Term) → next (halfOf (x .version)) e ≡ some g → ContractsTo w v g o → TurnOf (x .version) u (x .focus) (x .steps) l e (Next (record { version = x .version; focus = z; steps = x .steps + 1 }))
           by g n (c-to {x = d} b k m) =
               let i : d ≡ y = cc in
-              t-next (redex-none (at q s)) h n (le-ltb sizeLimit (size g) b) refl refl (t .settled)
-              (t .moves .says g (subst (λ (d : Focus). Standing v d g) i m) (next-runnable r n b))
+              t-next (redex-none (at q s)) h n (le-ltb sizeLimit (size g) b) refl refl refl (t .settled)
+              (t .moves .says g (subst (λ (d : Focus). Standing v d g) i m) (next-runnable (x .version) r n b))
           by g n (c-full b k m) = let z : _≡_ {A = ℕ} 0 1 = cc in absurd (omega arith)
 
 -- the tag of a redex is none of the others'

@@ -7,7 +7,7 @@ use mathlib.Core.Bool.{false}
 use mathlib.Core.List.{List, [], _∷_}
 use mathlib.Core.Option.{some}
 use lib.ListN.{length}
-use Rattle.format.specs.Table.{term-sort, unused, refers, Row, rowOf, rowIn, table}
+use Rattle.format.specs.Table.{term-sort, unused, refers, Row, rowFor, rowOf, rowIn, table}
 use Rattle.format.specs.Cell.{Cell, cellAt}
 use Rattle.format.specs.Tree.{Tree}
 use Rattle.cells.specs.Held.{IsCell, HeldField}
@@ -73,7 +73,7 @@ module _ {w v : List ℕ} {j : ℕ} where
     -- it waited for its first part
     pub restores-first : {x : ℕ} → (j ≡ 0 → ⊥) → (t .c ≡ 0) ⊎ (t .kind ≡ 27) → IsCell v j (t .kind) (t .label) x (t .b) (t .c) → (K : List Around) (f : Tree)
         → Held w j x K f → RestoredTo v j (t .a) (fill (frames K) f)
-    unfolding frames frame table rowIn rowOf
+    unfolding frames frame table rowIn rowFor
     restores-first j0 z c [] f h = absurd (j0 (none-waits (h .waits)))
     restores-first {x} j0 z c (F ∷ K) f h = by z
       where
@@ -96,7 +96,7 @@ module _ {w v : List ℕ} {j : ℕ} where
     -- it waited for its second part
     pub restores-second : {x : ℕ} → (j ≡ 0 → ⊥) → (t .c ≡ 0 → ⊥) → (t .kind ≡ 27 → ⊥) → IsCell v j (t .kind) (t .label) (t .a) x 0 → (K : List Around) (f : Tree)
         → Held w j x K f → RestoredTo v j (t .b) (fill (frames K) f)
-    unfolding frames frame table rowIn rowOf
+    unfolding frames frame table rowIn rowFor
     restores-second j0 z n c [] f h = absurd (j0 (none-waits (h .waits)))
     restores-second {x} j0 z n c (F ∷ K) f h = go n (turned z (waits-there F K h)) h
       where

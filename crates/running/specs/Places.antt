@@ -13,9 +13,11 @@ use Rattle.calculus.specs.Typing.{Typed}
 use Rattle.calculus.specs.Decide.{value?}
 use Rattle.calculus.specs.Evaluate.{next}
 use Rattle.format.specs.Table.{type-sort, term-sort, refers}
-use Rattle.format.specs.Cell.{Cell, cellAt, half, signed}
+use Rattle.format.specs.declared.Version.the-variants.{Two}
+use Rattle.format.specs.Version.{halfOf, stored}
+use Rattle.format.specs.Cell.{Cell, cellAt, signed}
 use Rattle.format.specs.Tree.{Tree}
-use Rattle.format.specs.Terms.{fromType, fromTerm, TermFits}
+use Rattle.format.specs.Terms.{fromType, fromTerm, WideFits}
 use Rattle.format.specs.Book.{sizeLimit}
 use Rattle.cells.specs.Held.{IsCell, HeldField}
 use Rattle.emission.specs.Runs.{Run}
@@ -98,7 +100,7 @@ pub record Standing (w : List ℕ) (x : Focus) (e : Term) : Type 0 where
 pub record Runnable (e : Term) : Type 0 where
   pub type : Ty
   pub typed : Typed [] e type
-  pub fits : TermFits e
+  pub fits : WideFits e
   pub small : size e ≤ sizeLimit
 
 -- Some such term stands there.
@@ -206,6 +208,10 @@ doneAt p left = Done (record { left = left; start = p .start; right = p .root + 
 pub record Becomes (h : ℕ) (w v : List ℕ) (p : Place) (r : Focus) : Type 0 where
   pub says : (e g : Term) → Standing w (Redex p) e → Runnable e → next h e ≡ some g → Standing v r g × (size g ≤ size e)
 
+-- The same, to whatever range sums are held.
+abbrev pub BecomesAny : List ℕ → List ℕ → Place → Focus → Type 0
+BecomesAny w v p r = (h : ℕ) → Becomes h w v p r
+
 -- The focus is a redex.
 abbrev pub AtRedex : List ℕ → Place → Type 0
 AtRedex w p = FocusReady w (Redex p)
@@ -213,22 +219,28 @@ AtRedex w p = FocusReady w (Redex p)
 -- t is the one cell of a value: of the top value, or of a number.
 pub data SingleCell (t : Cell) : Term → Type 0 where
   top-cell : t ≡ record { kind = 18; label = 0; a = 0; b = 0; c = 0 } → SingleCell t unit
-  number-cell : {b c : ℕ} → t ≡ record { kind = 17; label = 0; a = 0; b = b; c = c } → SingleCell t (lit (signed half (b + 65536 * c)))
+  number-cell : {a b c : ℕ} → t ≡ record { kind = 17; label = 0; a = a; b = b; c = c } → SingleCell t (lit (signed (halfOf Two) (stored Two a b c)))
 
--- The redex becomes a value of one cell, t, and nothing else.
-pub record SingleReady (h : ℕ) (w : List ℕ) (p : Place) (t : Cell) : Type 0 where
+-- The redex becomes x and nothing else.
+abbrev pub OnlyBecomes : ℕ → List ℕ → Place → Term → Type 0
+OnlyBecomes h w p x = (e : Term) (s : Standing w (Redex p) e) → Runnable e → (d : Term) → next h (s .focus) ≡ some d → x ≡ d
+
+-- A redex, and the one cell of a value.
+pub record SingleReady (w : List ℕ) (p : Place) (t : Cell) : Type 0 where
   pub ready : AtRedex w p
   pub a-fits : t .a < 65536
   pub b-fits : t .b < 65536
   pub c-fits : t .c < 65536
   pub value : Term
   pub single : SingleCell t value
-  pub becomes : (e : Term) (s : Standing w (Redex p) e) → Runnable e → (d : Term) → next h (s .focus) ≡ some d → value ≡ d
 
--- The redex becomes the top value, and nothing else.
-pub record TopReady (h : ℕ) (w : List ℕ) (p : Place) : Type 0 where
-  pub ready : AtRedex w p
-  pub becomes : (e : Term) (s : Standing w (Redex p) e) → Runnable e → (d : Term) → next h (s .focus) ≡ some d → unit ≡ d
+-- Where the redex becomes the value whose one cell is t, it has become it, to whatever range sums are held.
+pub record BecomesSingle (w v : List ℕ) (p : Place) (t : Cell) (r : Focus) : Type 0 where
+  pub says : (h : ℕ) (x : Term) → SingleCell t x → OnlyBecomes h w p x → Becomes h w v p r
+
+-- The same of the top value.
+pub record BecomesTop (w v : List ℕ) (p : Place) (r : Focus) : Type 0 where
+  pub says : (h : ℕ) → OnlyBecomes h w p unit → Becomes h w v p r
 
 -- A redex whose cell t is of kind k.
 pub record RedexAt (w : List ℕ) (p : Place) (t : Cell) (k : ℕ) : Type 0 where
@@ -257,21 +269,21 @@ pub record FunctionAt (w : List ℕ) (p : Place) (t v y : Cell) : Type 0 where
   pub arrow : y .kind ≡ 3
   pub proper : y .c ≡ 1 → ⊥
 
--- It has become what it becomes in place, or nothing has changed.
-pub data InPlaceBy (h : ℕ) (w v : List ℕ) (p : Place) (r : InPlace) : Type 0 where
-  h-became : {x : Focus} → r ≡ Became x → Becomes h w v p x → InPlaceBy h w v p r
-  h-elsewhere : r ≡ Elsewhere → v ≡ w → InPlaceBy h w v p r
+-- It has become what it becomes in place, to whatever range sums are held, or nothing has changed.
+pub data InPlaceBy (w v : List ℕ) (p : Place) (r : InPlace) : Type 0 where
+  h-became : {x : Focus} → r ≡ Became x → BecomesAny w v p x → InPlaceBy w v p r
+  h-elsewhere : r ≡ Elsewhere → v ≡ w → InPlaceBy w v p r
 
 -- What casting an annotated value in place gives.
-pub record CastsInPlace (h : ℕ) (w v : List ℕ) (p : Place) (r : InPlace) : Type 0 where
-  pub says : InPlaceBy h w v p r
+pub record CastsInPlace (w v : List ℕ) (p : Place) (r : InPlace) : Type 0 where
+  pub says : InPlaceBy w v p r
 
 -- What a redex became is encoded from cell m of s on, before end, all its numbers fitting: a value if the redex was an annotation.
 pub record ContractumAt (s w : List ℕ) (p : Place) (kind m end : ℕ) (K : List Around) (h : Term) : Type 0 where
   pub proper : AllProper K
   pub waits : Waits w (p .up) (p .start) (suc (p .root)) (frames K)
   pub run : Run false s m (refers term-sort) (end - 1) (fromTerm h) end
-  pub fits : TermFits h
+  pub fits : WideFits h
   pub value : kind ≡ 19 → value? h ≡ true
 
 -- Room for it in the work buffer, m cells standing around it.
@@ -321,6 +333,10 @@ pub data ContractsTo (w v : List ℕ) (g : Term) (r : Contracted) : Type 0 where
 -- The redex is contracted.
 pub record Contracts (h : ℕ) (w v : List ℕ) (p : Place) (r : Contracted) : Type 0 where
   pub says : (e g : Term) → Standing w (Redex p) e → Runnable e → next h e ≡ some g → ContractsTo w v g r
+
+-- The same, to whatever range sums are held.
+abbrev pub ContractsAny : List ℕ → List ℕ → Place → Contracted → Type 0
+ContractsAny w v p r = (h : ℕ) → Contracts h w v p r
 
 -- The cell up waits for a tree that is held at child.
 pub record Held (w : List ℕ) (up child : ℕ) (K : List Around) (t : Tree) : Type 0 where

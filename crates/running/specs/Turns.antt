@@ -10,7 +10,9 @@ use Rattle.calculus.specs.Syntax.{Ty, Term, size}
 use Rattle.calculus.specs.Typing.{Typed}
 use Rattle.calculus.specs.Decide.{value?}
 use Rattle.calculus.specs.Evaluate.{next}
-use Rattle.format.specs.Terms.{fromTerm, TermFits}
+use Rattle.format.specs.declared.Version.{Version}
+use Rattle.format.specs.Version.{halfOf}
+use Rattle.format.specs.Terms.{fromTerm, WideFits}
 use Rattle.format.specs.Book.{sizeLimit}
 use Rattle.answers.specs.Answer as Answer
 use Rattle.answers.specs.Answer.{stopped}
@@ -29,7 +31,7 @@ use Rattle.running.specs.declared.End.{End}
 -- The term is encoded in the first n cells of the work buffer, as a tree of its own.
 pub record EncodedTerm (w : List ℕ) (n : ℕ) (e : Term) : Type 0 where
   pub tree : EncodedTree w n (fromTerm e)
-  pub fits : TermFits e
+  pub fits : WideFits e
 
 -- A typed term is encoded so.
 pub record TypedEncoded (w : List ℕ) (n : ℕ) : Type 0 where
@@ -57,20 +59,20 @@ pub record TurnReady (s w : List ℕ) (x : State) (l : ℕ) : Type 0 where
   pub settled : Settled (x .focus)
   pub taken : x .steps ≤ l
 
--- One turn of e, which stands at the focus x, after k steps of at most l: r is the answer, and v the work buffer then; h is half of the range
--- that sums are held to, here and below. "value when the term is one; else spent when exactly the limit has been taken; else no room when the
+-- One turn of e, which stands at the focus x, after k steps of at most l: r is the answer, and v the work buffer then; u is the version of the book, by
+-- which sums are held, here and below. "value when the term is one; else spent when exactly the limit has been taken; else no room when the
 -- successor's size exceeds 4,095"
-pub data TurnOf (h : ℕ) (v : List ℕ) (x : Focus) (k l : ℕ) (e : Term) (r : Turn) : Type 0 where
-  t-value : value? e ≡ true → r ≡ Ended (Value k) x → Standing v x e → TurnOf h v x k l e r
-  t-spent : value? e ≡ false → k ≡ l → r ≡ Ended (Spent k) x → Standing v x e → TurnOf h v x k l e r
-  t-room : {f : Term} → value? e ≡ false → k < l → next h e ≡ some f → ltb sizeLimit (size f) ≡ true → r ≡ Ended (Room k) x → Standing v x e →
-      TurnOf h v x k l e r
-  t-next : {f : Term} {y : State} → value? e ≡ false → k < l → next h e ≡ some f → ltb sizeLimit (size f) ≡ false → r ≡ Next y →
-      y .steps ≡ k + 1 → Settled (y .focus) → Standing v (y .focus) f → TurnOf h v x k l e r
+pub data TurnOf (u : Version) (v : List ℕ) (x : Focus) (k l : ℕ) (e : Term) (r : Turn) : Type 0 where
+  t-value : value? e ≡ true → r ≡ Ended (Value k) x → Standing v x e → TurnOf u v x k l e r
+  t-spent : value? e ≡ false → k ≡ l → r ≡ Ended (Spent k) x → Standing v x e → TurnOf u v x k l e r
+  t-room : {f : Term} → value? e ≡ false → k < l → next (halfOf u) e ≡ some f → ltb sizeLimit (size f) ≡ true → r ≡ Ended (Room k) x → Standing v x e →
+      TurnOf u v x k l e r
+  t-next : {f : Term} {y : State} → value? e ≡ false → k < l → next (halfOf u) e ≡ some f → ltb sizeLimit (size f) ≡ false → r ≡ Next y →
+      y .version ≡ u → y .steps ≡ k + 1 → Settled (y .focus) → Standing v (y .focus) f → TurnOf u v x k l e r
 
 -- One turn of the term that stands there.
-pub record Steps (h : ℕ) (w v : List ℕ) (x : State) (l : ℕ) (r : Turn) : Type 0 where
-  pub says : (e : Term) → Standing w (x .focus) e → Runnable e → TurnOf h v (x .focus) (x .steps) l e r
+pub record Steps (w v : List ℕ) (x : State) (l : ℕ) (r : Turn) : Type 0 where
+  pub says : (e : Term) → Standing w (x .focus) e → Runnable e → TurnOf (x .version) v (x .focus) (x .steps) l e r
 
 -- A term that has its place, and a buffer to encode it in.
 pub record WholeReady (s w : List ℕ) (x : Focus) : Type 0 where
@@ -82,14 +84,14 @@ pub record EncodesWhole (w v : List ℕ) (x : Focus) (r : ℕ) : Type 0 where
   pub says : (e : Term) → Standing w x e → Runnable e → EncodedTerm v r e
 
 -- The whole run of e with limit l: how it ended, by the definition, and the term reached, which is encoded in the work buffer.
-pub record RunOf (h : ℕ) (v : List ℕ) (l : ℕ) (e : Term) (r : End) : Type 0 where
+pub record RunOf (u : Version) (v : List ℕ) (l : ℕ) (e : Term) (r : End) : Type 0 where
   pub stop : Answer.Stop
   pub steps : ℕ
   pub term : Term
-  pub ends : evaluate h sizeLimit l 0 e ≡ ended stop steps term
+  pub ends : evaluate (halfOf u) sizeLimit l 0 e ≡ ended stop steps term
   pub answer : stopAnswer (r .stop) ≡ stopped stop steps
   pub encoded : EncodedTerm v (r .cells) term
 
 -- The whole run of the term encoded there.
-pub record Runs (h : ℕ) (w v : List ℕ) (n l : ℕ) (r : End) : Type 0 where
-  pub says : (e : Term) (A : Ty) → EncodedTerm w n e → Typed [] e A → RunOf h v l e r
+pub record Runs (u : Version) (w v : List ℕ) (n l : ℕ) (r : End) : Type 0 where
+  pub says : (e : Term) (A : Ty) → EncodedTerm w n e → Typed [] e A → RunOf u v l e r

@@ -7,27 +7,26 @@ use cells::Cell;
 use cells::read_cell;
 use cells::write_cell;
 use emission::Emitted;
+use format::Version;
 use layout::encode_in_place;
 use moving::copy;
 use moving::place;
 use moving::shift;
 use numbers::add_held;
+use numbers::half_of;
 use projection::Content;
 use projection::value_part;
 use reduction::emit_contractum;
 use typed_reduction::read_number;
 ghost use mathlib.Core.Path.{_≡_};
 ghost use Prim.Native.Nat.{_<_};
-ghost use Rattle.format.specs.Cell.{half};
+ghost use Rattle.format.specs.Version.{halfOf};
 ghost use Rattle.cells.specs.Coded.{asCell};
 ghost use Rattle.running.specs.Places.{Taking, thirdOf, Descending, Entering, Enters, Leaving, Leaves, WaitingOne, WaitingFirst, WaitingSecond, FocusReady, Settles};
-ghost use Rattle.running.specs.Places.{doneAt, Becomes, SingleReady, TopReady, RedexAt, MergeAt, TopAt, FunctionAt, CastsInPlace};
-ghost use Rattle.running.specs.Places.{Installing, Halving, Installs, Contracting, ContractingAnno, Emitting, Contracts};
+ghost use Rattle.running.specs.Places.{doneAt, Becomes, BecomesAny, AtRedex, SingleReady, BecomesSingle, BecomesTop, RedexAt, MergeAt, TopAt, FunctionAt, CastsInPlace};
+ghost use Rattle.running.specs.Places.{Installing, Halving, Installs, Contracting, ContractingAnno, Emitting, Contracts, ContractsAny};
 ghost use Rattle.running.specs.Places.{Unwinding, Unwinds, RestoreReady, Restores, Rebuilds};
 ghost use Rattle.running.specs.Turns.{StepReady, Starts, TurnReady, Steps, WholeReady, EncodesWhole, Runs};
-
-// Half of the range of numbers, which go from -HALF to HALF - 1.
-const HALF: usize = 2147483648;
 
 // The first left cells are done, those from right on are to come. The focus has the cells from start on among those done, and among those
 // to come the cells up to root. The cell up waits for it; 0: none does.
@@ -50,8 +49,9 @@ pub enum Focus {
     Whole(Place),
 }
 
-// The focus and the steps taken.
+// The version of the book, by which sums are held, the focus and the steps taken.
 pub struct State {
+    pub version: Version,
     pub focus: Focus,
     pub steps: u32,
 }
@@ -297,8 +297,8 @@ fn became(p: Place, left: usize) -> Focus
 
 // A value of one cell, t, takes the place of the redex.
 fn become_single(w: &mut [u8], p: Place, t: Cell) -> Focus
-    requires { ⌜ SingleReady half (now w) p (asCell t) ⌝ }
-    ensures { λ r. ⌜ Becomes half (now (w .entry)) (now (w .exit)) p r ⌝ }
+    requires { ⌜ SingleReady (now w) p (asCell t) ⌝ }
+    ensures { λ r. ⌜ BecomesSingle (now (w .entry)) (now (w .exit)) p (asCell t) r ⌝ }
 {
     write_cell(w, p.start, t);
     became(p, p.start + 1)
@@ -306,8 +306,8 @@ fn become_single(w: &mut [u8], p: Place, t: Cell) -> Focus
 
 // The top value takes the place of the redex.
 fn become_top(w: &mut [u8], p: Place) -> Focus
-    requires { ⌜ TopReady half (now w) p ⌝ }
-    ensures { λ r. ⌜ Becomes half (now (w .entry)) (now (w .exit)) p r ⌝ }
+    requires { ⌜ AtRedex (now w) p ⌝ }
+    ensures { λ r. ⌜ BecomesTop (now (w .entry)) (now (w .exit)) p r ⌝ }
 {
     become_single(
         w,
@@ -323,22 +323,22 @@ fn become_top(w: &mut [u8], p: Place) -> Focus
 }
 
 // A sum of two values, t: both are read under Int, and the number that the sum is held to takes its place.
-fn sum(w: &mut [u8], p: Place, t: Cell) -> Focus
+fn sum(w: &mut [u8], p: Place, t: Cell, version: Version) -> Focus
     requires { ⌜ RedexAt (now w) p (asCell t) 26 ⌝ }
-    ensures { λ r. ⌜ Becomes half (now (w .entry)) (now (w .exit)) p r ⌝ }
+    ensures { λ r. ⌜ Becomes (halfOf version) (now (w .entry)) (now (w .exit)) p r ⌝ }
 {
     let x = read_number(w, t.a);
     let y = read_number(w, t.b);
-    let z = add_held(x, y, HALF);
+    let z = add_held(x, y, half_of(version));
     become_single(
         w,
         p,
         Cell {
             kind: 17,
             label: 0,
-            a: 0,
-            b: z % 65536,
-            c: z / 65536,
+            a: z % 65536,
+            b: z / 65536 % 65536,
+            c: z / 65536 / 65536,
         },
     )
 }
@@ -346,7 +346,7 @@ fn sum(w: &mut [u8], p: Place, t: Cell) -> Focus
 // A field read of a merge, t: the content of the first part that has the field moves to where the merge begins. If no part has it, the top value.
 fn project_merge(w: &mut [u8], p: Place, t: Cell) -> Focus
     requires { ⌜ MergeAt (now w) p (asCell t) ⌝ }
-    ensures { λ r. ⌜ Becomes half (now (w .entry)) (now (w .exit)) p r ⌝ }
+    ensures { λ r. ⌜ BecomesAny (now (w .entry)) (now (w .exit)) p r ⌝ }
 {
     let Content::Cells(x, end) = value_part(w, p.start, t.a, t.label) else {
         return become_top(w, p);
@@ -359,7 +359,7 @@ fn project_merge(w: &mut [u8], p: Place, t: Cell) -> Focus
 // A field read of a value, t: the top value stays, of a record the content, of a merge that of a part.
 fn project(w: &mut [u8], p: Place, t: Cell) -> Focus
     requires { ⌜ RedexAt (now w) p (asCell t) 25 ⌝ }
-    ensures { λ r. ⌜ Becomes half (now (w .entry)) (now (w .exit)) p r ⌝ }
+    ensures { λ r. ⌜ BecomesAny (now (w .entry)) (now (w .exit)) p r ⌝ }
 {
     let v = read_cell(w, t.a);
     if v.kind == 18 {
@@ -374,7 +374,7 @@ fn project(w: &mut [u8], p: Place, t: Cell) -> Focus
 // A value under a top-like type y that is no intersection: the top value.
 fn cast_top(w: &mut [u8], p: Place, t: Cell, y: Cell) -> Focus
     requires { ⌜ TopAt (now w) p (asCell t) (asCell y) ⌝ }
-    ensures { λ r. ⌜ Becomes half (now (w .entry)) (now (w .exit)) p r ⌝ }
+    ensures { λ r. ⌜ BecomesAny (now (w .entry)) (now (w .exit)) p r ⌝ }
 {
     become_top(w, p)
 }
@@ -382,7 +382,7 @@ fn cast_top(w: &mut [u8], p: Place, t: Cell, y: Cell) -> Focus
 // The function v under the function type y: body and input stay, the output's cells come behind them, and the last cell is written anew.
 fn retype(w: &mut [u8], p: Place, t: Cell, v: Cell, y: Cell) -> Focus
     requires { ⌜ FunctionAt (now w) p (asCell t) (asCell v) (asCell y) ⌝ }
-    ensures { λ r. ⌜ Becomes half (now (w .entry)) (now (w .exit)) p r ⌝ }
+    ensures { λ r. ⌜ BecomesAny (now (w .entry)) (now (w .exit)) p r ⌝ }
 {
     let at = v.b + 1;
     let n = y.b - y.a;
@@ -404,7 +404,7 @@ fn retype(w: &mut [u8], p: Place, t: Cell, v: Cell, y: Cell) -> Focus
 // A value under a type, where its reading is short to say: the top value, a number, a function that is no part of a merge.
 fn cast_in_place(w: &mut [u8], p: Place, t: Cell) -> InPlace
     requires { ⌜ RedexAt (now w) p (asCell t) 19 ⌝ }
-    ensures { λ r. ⌜ CastsInPlace half (now (w .entry)) (now (w .exit)) p r ⌝ }
+    ensures { λ r. ⌜ CastsInPlace (now (w .entry)) (now (w .exit)) p r ⌝ }
 {
     let y = read_cell(w, t.b);
     if y.kind == 4 {
@@ -509,7 +509,7 @@ fn install(s: &[u8], w: &mut [u8], p: Place, kind: u8, m: usize, end: usize) -> 
 // the test of emission is that of the whole.
 fn contract_through(s: &mut [u8], w: &mut [u8], p: Place, t: Cell) -> Contracted
     requires { ⌜ Emitting (now s) (now w) p (asCell t) ⌝ }
-    ensures { λ r. ⌜ Contracts half (now (w .entry)) (now (w .exit)) p r ⌝ }
+    ensures { λ r. ⌜ ContractsAny (now (w .entry)) (now (w .exit)) p r ⌝ }
 {
     let m = p.start + 8191 - p.root;
     let Emitted::Next(end) = emit_contractum(w, s, p.root, m) else {
@@ -521,7 +521,7 @@ fn contract_through(s: &mut [u8], w: &mut [u8], p: Place, t: Cell) -> Contracted
 // An annotated value, t.
 fn contract_anno(s: &mut [u8], w: &mut [u8], p: Place, t: Cell) -> Contracted
     requires { ⌜ ContractingAnno (now s) (now w) p (asCell t) ⌝ }
-    ensures { λ r. ⌜ Contracts half (now (w .entry)) (now (w .exit)) p r ⌝ }
+    ensures { λ r. ⌜ ContractsAny (now (w .entry)) (now (w .exit)) p r ⌝ }
 {
     match cast_in_place(w, p, t) {
         InPlace::Became(x) => Contracted::To(x),
@@ -529,16 +529,17 @@ fn contract_anno(s: &mut [u8], w: &mut [u8], p: Place, t: Cell) -> Contracted
     }
 }
 
-fn contract(s: &mut [u8], w: &mut [u8], p: Place) -> Contracted
+// A redex, by its kind; sums are held by the version.
+fn contract(s: &mut [u8], w: &mut [u8], p: Place, version: Version) -> Contracted
     requires { ⌜ Contracting (now s) (now w) p ⌝ }
-    ensures { λ r. ⌜ Contracts half (now (w .entry)) (now (w .exit)) p r ⌝ }
+    ensures { λ r. ⌜ Contracts (halfOf version) (now (w .entry)) (now (w .exit)) p r ⌝ }
 {
     let t = read_cell(w, p.root);
     let kind = t.kind;
     match kind {
         19 => contract_anno(s, w, p, t),
         25 => Contracted::To(project(w, p, t)),
-        26 => Contracted::To(sum(w, p, t)),
+        26 => Contracted::To(sum(w, p, t, version)),
         _ => contract_through(s, w, p, t),
     }
 }
@@ -546,8 +547,9 @@ fn contract(s: &mut [u8], w: &mut [u8], p: Place) -> Contracted
 // One turn: value, then spent, then room. Of s nothing is decided.
 pub fn step(s: &mut [u8], w: &mut [u8], state: State, limit: u32) -> Turn
     requires { ⌜ TurnReady (now s) (now w) state limit ⌝ }
-    ensures { λ r. ⌜ Steps half (now (w .entry)) (now (w .exit)) state limit r ⌝ }
+    ensures { λ r. ⌜ Steps (now (w .entry)) (now (w .exit)) state limit r ⌝ }
 {
+    let version = state.version;
     let focus = state.focus;
     let k = state.steps;
     let Focus::Redex(p) = focus else {
@@ -556,11 +558,12 @@ pub fn step(s: &mut [u8], w: &mut [u8], state: State, limit: u32) -> Turn
     if k == limit {
         return Turn::Ended(Stop::Spent(k), focus);
     }
-    let Contracted::To(x) = contract(s, w, p) else {
+    let Contracted::To(x) = contract(s, w, p, version) else {
         return Turn::Ended(Stop::Room(k), focus);
     };
     let next = settle(w, x);
     Turn::Next(State {
+        version,
         focus: next,
         steps: k + 1,
     })
@@ -657,11 +660,12 @@ pub fn start(s: &mut [u8], w: &mut [u8], n: usize) -> Focus
 }
 
 // Steps until the term is a value, the limit is taken, or there is no room. Of s nothing is decided.
-pub fn run_on(s: &mut [u8], w: &mut [u8], n: usize, limit: u32) -> End
+pub fn run_on(s: &mut [u8], w: &mut [u8], n: usize, limit: u32, version: Version) -> End
     requires { ⌜ StepReady (now s) (now w) n ⌝ }
-    ensures { λ r. ⌜ Runs half (now (w .entry)) (now (w .exit)) n limit r ⌝ }
+    ensures { λ r. ⌜ Runs version (now (w .entry)) (now (w .exit)) n limit r ⌝ }
 {
     let mut state = State {
+        version,
         focus: start(s, w, n),
         steps: 0,
     };

@@ -124,7 +124,7 @@ pub enum Compared {
 fn compare_cells(book: &[u8], i: usize, j: usize) -> Compared
     ensures { λ r. ⌜ ComparesCells (now (book .entry)) i j r ⌝ }
 {
-    let Form::WellFormed(_) = check_form(book) else {
+    let Form::WellFormed(_, _) = check_form(book) else {
         return Compared::Malformed;
     };
     let n = book.len() / 8 - 1;

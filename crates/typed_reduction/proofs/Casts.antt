@@ -13,7 +13,9 @@ use Rattle.calculus.specs.Syntax.{Term, lit, lam, merge, rcd}
 use Rattle.calculus.specs.Subtyping.{TopLike}
 use Rattle.calculus.specs.Decide.{below?}
 use Rattle.calculus.specs.Evaluate.{mergeBoth, castInt, castArrow, castField, cast}
-use Rattle.format.specs.Cell.{cellAt, half, signed}
+use Rattle.format.specs.declared.Version.the-variants.{Two}
+use Rattle.format.specs.Version.{halfOf, stored}
+use Rattle.format.specs.Cell.{cellAt, signed}
 use Rattle.cells.proofs.Held.{lit-at}
 use Rattle.emission.specs.Runs.{RunsTerm}
 use Rattle.emission.proofs.Runs.{holds-term}
@@ -76,7 +78,7 @@ pub record RecordRead (s : List ℕ) (i : ℕ) (f x : Term) (A : Ty) : Type 0 wh
 
 module _ {s : List ℕ} {i : ℕ} {f x : Term} (h : RunsTerm s i f) (n : NoMerge f) where
   -- a number is read as it is
-  pub number-read : cast int f ≡ some x → x ≡ lit (signed half (cellAt s i .b + 65536 * cellAt s i .c))
+  pub number-read : cast int f ≡ some x → x ≡ lit (signed (halfOf Two) (stored Two (cellAt s i .a) (cellAt s i .b) (cellAt s i .c)))
   unfolding castInt
   number-read e =
       let g : castInt f ≡ some x = sym (single-int f n) ∙ e in

@@ -16,8 +16,8 @@ use Rattle.calculus.proofs.Tests.{cast-top}
 use Rattle.format.specs.Cell.{IsBytes, Cell, cellAt}
 use Rattle.format.specs.Table.{type-sort, refers}
 use Rattle.format.specs.Tree.{Tree, raw, node, kindIn}
-use Rattle.format.specs.Terms.{fromType, fromTerm}
-use Rattle.format.proofs.Tests.{number}
+use Rattle.format.specs.Terms.{fromType, fromTermIn, fromTerm}
+use Rattle.format.proofs.Tests.{number-2}
 use Rattle.emission.proofs.Emitting.{fields-fit}
 use Rattle.cells.specs.Held.{HoldsTerm}
 use Rattle.cells.proofs.Held.{top-like, not-top-like, kind-of-held, int-at, held-within}
@@ -52,7 +52,7 @@ record FunctionRuns (s : List ℕ) (t : Cell) (e : Term) (A : Ty) : Type 0 where
   input : Run true s (t .a + 1) (refers type-sort) (t .b) (fromType A) (t .b + 1)
 
 lam-kind : {s : List ℕ} {p : ℕ} {e : Term} {A B : Ty} → HoldsTerm s p (lam e A B) → cellAt s p .kind ≡ 21
-unfolding fromTerm kindIn
+unfolding fromTermIn kindIn
 lam-kind h = kind-of-held h
 
 function-parts : {s : List ℕ} {p : ℕ} {t : Cell} {e : Term} {A B : Ty} → t ≡ cellAt s p → RunsTerm s p (lam e A B) → FunctionRuns s t e A
@@ -74,7 +74,7 @@ pub functions : {s d o : List ℕ} {p a m : ℕ} {r : Emitted} → Each {W = Fun
 functions q = record { says = λ e A B C D h k. q (e, A, B, C, D, h, k) }
 
 pub lam-tree : (e : Term) (A B : Ty) → fromTerm (lam e A B) ≡ node 21 0 (fromTerm e) (fromType A) (fromType B)
-unfolding fromTerm
+unfolding fromTermIn
 lam-tree e A B = refl
 
 module _ {s d : List ℕ} {p a m : ℕ} {t y : Cell} (g : Started s d p a m t y) where
@@ -158,7 +158,7 @@ pub record Split (s d : List ℕ) (v a m : ℕ) (y : Cell) : Type 0 where
   pub ready : CastReady s d v a m
 
 pub merge-tree : (e f : Term) → fromTerm (merge e f) ≡ node 22 0 (fromTerm e) (fromTerm f) (raw 0)
-unfolding fromTerm
+unfolding fromTermIn
 merge-tree e f = refl
 
 module _ {s d : List ℕ} {v a m : ℕ} {y : Cell} (g : Split s d v a m y) where
@@ -269,7 +269,7 @@ pub record RecordPart (s : List ℕ) (i j l : ℕ) (x : Term) : Type 0 where
   pub is : x ≡ rcd l content
 
 pub rcd-tree : (l : ℕ) (e : Term) → fromTerm (rcd l e) ≡ node 24 l (fromTerm e) (raw 0) (raw 0)
-unfolding fromTerm
+unfolding fromTermIn
 rcd-tree l e = refl
 
 -- y is the type's cell, p the part that was found
@@ -296,19 +296,19 @@ module _ {s d : List ℕ} {v a m p : ℕ} {y : Cell} (g : Found s d v a m p y) w
 
   -- a number; t is its cell
   module _ {t : Cell} (at : t ≡ cellAt s p) where
-    pub number-last : LastReady d (record { kind = 17; label = 0; a = 0; b = t .b; c = t .c })
+    pub number-last : LastReady d (record { kind = 17; label = 0; a = t .a; b = t .b; c = t .c })
     number-last =
         let f = fields-fit s p (g .bytes) at in
-        record { long = g .ready .ready .space .long; fits = record { a = omega arith; b = f .1; c = f .2 } }
+        record { long = g .ready .ready .space .long; fits = record { a = f .0; b = f .1; c = f .2 } }
 
-    pub emits-number : {o : List ℕ} {u : Emitted} → y .kind ≡ 1 → Finishes d o m (record { kind = 17; label = 0; a = 0; b = t .b; c = t .c }) u
+    pub emits-number : {o : List ℕ} {u : Emitted} → y .kind ≡ 1 → Finishes d o m (record { kind = 17; label = 0; a = t .a; b = t .b; c = t .c }) u
         → EmitsCast s d o v a m u
     emits-number i q =
         record {
           says = λ e x A h k c.
               let w = by-part h k c in
               let f = fields-fit s p (g .bytes) at in
-              rw (number-read (w .holds) (w .single) (under w (int-at (holds-type k) (rw (g .is) at i))), ← at, number (t .b) (t .c) (f .1) (f .2))
+              rw (number-read (w .holds) (w .single) (under w (int-at (holds-type k) (rw (g .is) at i))), ← at, number-2 (t .a) (t .b) (t .c) (f .0) (f .1) (f .2))
               (emits-leaf (g .ready .ready .space .used) q);
         }
 

@@ -8,6 +8,8 @@ use mathlib.Core.Option.{some}
 use lib.ListN.{length}
 use Rattle.calculus.specs.Syntax.{int, Term}
 use Rattle.calculus.specs.Evaluate.{castInt, cast}
+use Rattle.format.specs.declared.Version.the-variants.{Two}
+use Rattle.format.specs.Version.{halfOf, stored}
 use Rattle.format.specs.Cell.{IsBytes, Cell, cellAt}
 use Rattle.cells.proofs.Held.{lit-at, held-within}
 use Rattle.emission.specs.Runs.{RunsTerm}
@@ -55,9 +57,9 @@ module _ {s : List ℕ} {v : ℕ} {r : Part} (g : NumberReady s v) (f : FindsNum
     pub number-within : 8 * p + 8 ≤ length s
     number-within = held-within (holds-term (by-number (g .at .holds) (g .casts) .holds))
 
-    pub reads-number : {y : Cell} → IsBytes s → y ≡ cellAt s p → ReadsNumber s v (y .b + 65536 * y .c)
+    pub reads-number : {y : Cell} → IsBytes s → y ≡ cellAt s p → ReadsNumber s v (stored Two (y .a) (y .b) (y .c))
     reads-number b is =
         record {
-          fits = let w = fields-fit s p b is in omega (arith, w .1, w .2);
+          fits = let w = fields-fit s p b is in omega (arith, w .0, w .1, w .2);
           says = λ e x h c. let w = by-number h c in rw is (number-read (w .holds) (w .single) (w .casts));
         }

@@ -11,7 +11,7 @@ use Rattle.calculus.proofs.Tests.{cast-arrow, cast-field}
 use Rattle.format.specs.Table.{term-sort}
 use Rattle.format.specs.Cell.{cellAt}
 use Rattle.format.specs.Tree.{kindIn}
-use Rattle.format.specs.Terms.{fromTerm}
+use Rattle.format.specs.Terms.{fromTermIn}
 use Rattle.cells.proofs.Held.{kindOf, kind-of-held}
 use Rattle.cells.proofs.Forms.{form-else, parts-single}
 use Rattle.cells.specs.Held.{HoldsTerm}
@@ -46,5 +46,5 @@ module _ {s : List ℕ} {i : ℕ} {e : Term} (h : HoldsTerm s i e) where
   no-record l f n = form-else e (λ k j. refl) (λ k. refl) (λ k b A B. refl) (λ k. absurd (n (kind-of-held h ∙ k)))
 
   pub no-merge : (cellAt s i .kind ≡ 22 → ⊥) → NoMerge e
-  unfolding fromTerm kindIn
+  unfolding fromTermIn kindIn
   no-merge n f g q = n (kind-of-held h ∙ ap (kindOf term-sort) q)

@@ -6,6 +6,7 @@ use mathlib.Core.Bool.{Bool}
 use mathlib.Core.List.{List}
 use native.Mathlib.Omega.{arith}
 use Rattle.calculus.specs.Syntax.{Ty, inter, field, size-type, Term, merge, rcd, size}
+use Rattle.format.specs.declared.Version.the-variants.{Two}
 use Rattle.format.specs.Table.{type-sort, term-sort, Use}
 use Rattle.format.specs.Cell.{Cell, cellAt}
 use Rattle.format.specs.Tree.{Tree, cells, fieldTree, cellTree, treeAt}
@@ -32,7 +33,7 @@ type-size {s} {i} {A} h = ap cells (sym (fieldTree-lower (treeAt s) (suc i) i ty
 
 pub term-size : {s : List ℕ} {i : ℕ} {e : Term} → RunsTerm s i e → sizeAt s i ≡ size e
 unfolding sizeAt
-term-size {s} {i} {e} h = ap cells (sym (fieldTree-lower (treeAt s) (suc i) i term-sort (omega arith))) ∙ unshares {m = suc i} (omega arith) (h .run) ∙ term-cells e
+term-size {s} {i} {e} h = ap cells (sym (fieldTree-lower (treeAt s) (suc i) i term-sort (omega arith))) ∙ unshares {m = suc i} (omega arith) (h .run) ∙ term-cells Two e
 
 -- ---- what is read further is smaller
 

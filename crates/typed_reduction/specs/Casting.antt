@@ -7,7 +7,9 @@ use mathlib.Core.List.{List}
 use Rattle.calculus.specs.Syntax.{Ty, int, arrow, Term, lit, lam, merge}
 use Rattle.calculus.specs.Subtyping.{Ordinary, TopLike}
 use Rattle.calculus.specs.Evaluate.{cast}
-use Rattle.format.specs.Cell.{half, signed}
+use Rattle.format.specs.declared.Version.the-variants.{Two}
+use Rattle.format.specs.Version.{halfOf}
+use Rattle.format.specs.Cell.{signed}
 use Rattle.format.specs.Terms.{fromTerm}
 use Rattle.emission.specs.Emits.{Space, Emits}
 use Rattle.emission.specs.Runs.{RunsType, RunsTerm}
@@ -106,7 +108,7 @@ pub record NumberReady (s : List ℕ) (v : ℕ) : Type 0 where
   pub reduct : Term
   pub casts : cast int (at .value) ≡ some reduct
 
--- The number that it is read as, stored.
+-- The number that it is read as, stored: "The reader of a number now promises 48 bits".
 pub record ReadsNumber (s : List ℕ) (v r : ℕ) : Type 0 where
-  pub fits : r < 2 * half
-  pub says : (e x : Term) → RunsTerm s v e → cast int e ≡ some x → x ≡ lit (signed half r)
+  pub fits : r < 2 * halfOf Two
+  pub says : (e x : Term) → RunsTerm s v e → cast int e ≡ some x → x ≡ lit (signed (halfOf Two) r)

@@ -178,7 +178,7 @@ fn emit_part(s: &[u8], d: &mut [u8], v: usize, a: usize, m: usize) -> Emitted
             Cell {
                 kind: 17,
                 label: 0,
-                a: 0,
+                a: x.a,
                 b: x.b,
                 c: x.c,
             },
@@ -220,7 +220,7 @@ fn number_part(s: &[u8], v: usize) -> Part
     }
 }
 
-// The number that the value at v is read as under Int, as it is stored.
+// The number that the value at v is read as under Int, as it is stored: 48 bits.
 pub fn read_number(s: &[u8], v: usize) -> usize
     requires { ⌜ NumberReady (now s) v ⌝ }
     ensures { λ r. ⌜ ReadsNumber (now (s .entry)) v r ⌝ }
@@ -229,5 +229,5 @@ pub fn read_number(s: &[u8], v: usize) -> usize
         return 0;
     };
     let x = read_cell(s, p);
-    x.b + 65536 * x.c
+    x.a + 65536 * (x.b + 65536 * x.c)
 }

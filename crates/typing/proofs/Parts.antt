@@ -10,7 +10,8 @@ use lib.ListN.{length}
 use Rattle.calculus.specs.Syntax.{Ty, top, arrow, field}
 use Rattle.calculus.specs.Syntax.{Term, anno, app, lam, merge, fix, rcd, proj, size}
 use Rattle.calculus.specs.Infer.{infer}
-use Rattle.format.specs.Table.{term-sort, refers, Row, table, rowIn, rowOf}
+use Rattle.format.specs.declared.Version.the-variants.{Two as Version·Two}
+use Rattle.format.specs.Table.{term-sort, refers, Row, table, rowIn, rowFor, rowOf}
 use Rattle.format.specs.Cell.{Cell, cellAt}
 use Rattle.format.proofs.Trees.{term-cells, term-positive}
 use Rattle.cells.specs.Held.{HoldsType, HoldsTerm, Same}
@@ -23,7 +24,7 @@ use Rattle.typing.proofs.Paths.{Leads, leads}
 use Rattle.typing.proofs.Answers.{finding, IsFound, typed}
 
 pub size-one : (e : Term) → 1 ≤ size e
-size-one e = omega (arith, term-cells e, term-positive e)
+size-one e = omega (arith, term-cells Version·Two e, term-positive Version·Two e)
 
 -- field f of cell i is the lower cell j, which holds the term e
 pub record Part (s : List ℕ) (i f j : ℕ) (e : Term) : Type 0 where
@@ -96,15 +97,15 @@ one p k w a t = rw p (record { term = t .term; is = t .is; left = record { leads
 -- a term by the kind of its cell
 module _ {s : List ℕ} {i : ℕ} {y : Cell} {e : Term} (p : y ≡ cellAt s i) (h : HoldsTerm s i e) where
   pub anno-of : cellAt s i .kind ≡ 19 → Noted s i y anno e
-  unfolding table rowIn rowOf
+  unfolding table rowIn rowFor
   anno-of k = noted p k refl refl (anno-at h k)
 
   pub app-of : cellAt s i .kind ≡ 20 → Two s i y app e
-  unfolding table rowIn rowOf
+  unfolding table rowIn rowFor
   app-of k = two p k refl refl refl (app-at h k)
 
   pub lam-of : cellAt s i .kind ≡ 21 → Function s i y e
-  unfolding table rowIn rowOf
+  unfolding table rowIn rowFor
   lam-of k = let t = lam-at h k in
       rw p
       (record {
@@ -120,19 +121,19 @@ module _ {s : List ℕ} {i : ℕ} {y : Cell} {e : Term} (p : y ≡ cellAt s i) (
       })
 
   pub merge-of : cellAt s i .kind ≡ 22 → Two s i y merge e
-  unfolding table rowIn rowOf
+  unfolding table rowIn rowFor
   merge-of k = two p k refl refl refl (merge-at h k)
 
   pub fix-of : cellAt s i .kind ≡ 23 → Noted s i y fix e
-  unfolding table rowIn rowOf
+  unfolding table rowIn rowFor
   fix-of k = noted p k refl refl (fix-at h k)
 
   pub rcd-of : cellAt s i .kind ≡ 24 → One s i y rcd e
-  unfolding table rowIn rowOf
+  unfolding table rowIn rowFor
   rcd-of k = one p k refl refl (rcd-at h k)
 
   pub proj-of : cellAt s i .kind ≡ 25 → One s i y proj e
-  unfolding table rowIn rowOf
+  unfolding table rowIn rowFor
   proj-of k = one p k refl refl (proj-at h k)
 
 -- a function type

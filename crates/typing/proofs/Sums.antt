@@ -8,7 +8,7 @@ use Rattle.calculus.specs.Syntax.{Ty, int, Term, size}
 use Rattle.calculus.specs.Infer as Infer
 use Rattle.calculus.specs.Infer.{checked, infer}
 use Rattle.calculus.specs.Decide.{topLike?}
-use Rattle.format.specs.Table.{table, rowIn, rowOf}
+use Rattle.format.specs.Table.{table, rowIn, rowFor}
 use Rattle.format.specs.Cell.{Cell, cellAt}
 use Rattle.format.specs.Book.{fieldIn}
 use Rattle.answers.specs.declared.Refusal.{Refusal}
@@ -54,7 +54,7 @@ pub data Summed : ℕ → ℕ → Type 0 where
 
 all-parts : {s : List ℕ} {n i k w : ℕ} {y : Cell} {Γ : List Ty} {d : Term} → Summed k w → y ≡ cellAt s i → cellAt s i .kind ≡ k → HoldsTerm s i d →
     Remaining s n (n + 1) i y 0 w Γ d
-unfolding table rowIn rowOf infer size
+unfolding table rowIn rowFor infer size
 all-parts {Γ = Γ} sum-parts o k h =
     let v = sum-at h k in
     rw o

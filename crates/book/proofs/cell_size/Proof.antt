@@ -10,7 +10,7 @@ sizes : (c : tie.After-entry-of)
     (c .entry-of .result) (c .before .read-cell .result)
 sizes c =
     let p = c .before .before .before .pre in
-    sized (record { is = c .before .read-cell .ensures; named = record { row = c .entry-of .ensures } }) (p .1 .0) (p .1 .1)
+    sized (record { is = c .before .read-cell .ensures; row = c .entry-of .ensures }) (p .1 .0) (p .1 .1)
 
 read-cell-requires : tie.Need-read-cell-requires
 read-cell-requires c κs = search needs

@@ -1,31 +1,31 @@
 -- `book::check_cell` is rows 5 to 8 of a cell, in their order. Assumes nothing.
 use borrow.Author.Needs.{needs}
 use Rattle.book.proofs.Cells.{kind-unknown, not-zero, not-lower, not-sorted, all-clear, within}
-use Rattle.book.proofs.Fields.{Read}
+use Rattle.book.proofs.Fields.{Read, entry-named}
 use Rattle.book.proofs.check_cell.Statement.{statement}
 use Rattle.book.proofs.check_cell.Tie as tie
 
-read : (c : tie.After-entry-of)
-    → Read (c .before .before .before .args .s .now) (c .before .before .before .args .i) (c .entry-of .result) (c .before .read-cell .result)
-read c = record { is = c .before .read-cell .ensures; named = record { row = c .entry-of .ensures } }
+read : (c : tie.After-entry-for)
+    → Read (c .before .before .before .args .version) (c .before .before .before .args .s .now) (c .before .before .before .args .i) (c .entry-for .result) (c .before .read-cell .result)
+read c = record { is = c .before .read-cell .ensures; row = c .entry-for .ensures }
 
 read-cell-requires : tie.Need-read-cell-requires
 read-cell-requires c κs = search needs
 
-entry-of-requires : tie.Need-entry-of-requires
-entry-of-requires c κs = search needs
+entry-for-requires : tie.Need-entry-for-requires
+entry-for-requires c κs = search needs
 
 returns : tie.Need-returns
 returns c = kind-unknown (read (c .before .before)) (c .if1 .taken)
 
 unnamed-all-requires : tie.Need-unnamed-all-requires
-unnamed-all-requires c κs = read (c .before .before) .named
+unnamed-all-requires c κs = entry-named (read (c .before .before))
 
 returns-2 : tie.Need-returns-2
 returns-2 c = not-zero (read (c .before .before .before .before)) (c .before .before .if1 .left) (c .before .unnamed-all .ensures) (c .if2 .taken)
 
 reference-all-requires : tie.Need-reference-all-requires
-reference-all-requires c κs = read (c .before .before .before .before) .named
+reference-all-requires c κs = entry-named (read (c .before .before .before .before))
 
 returns-3 : tie.Need-returns-3
 returns-3 c =
@@ -35,7 +35,7 @@ returns-3 c =
 sort-all-requires : tie.Need-sort-all-requires
 sort-all-requires c κs =
     let r = read (c .before .before .before .before .before .before) in (
-      r .named,
+      entry-named r,
       within r (c .before .before .before .before .if1 .left) (c .before .before .before .before .before .before .before .before .before .pre)
           (c .before .reference-all .ensures) (c .if3 .left),
     )
@@ -59,7 +59,7 @@ check-cell-spec =
     tie.close
     (tie.spec
     read-cell-requires
-    entry-of-requires
+    entry-for-requires
     returns
     unnamed-all-requires
     returns-2

@@ -8,10 +8,10 @@ use Rattle.book.proofs.check_cells.Statement.{statement}
 use Rattle.book.proofs.check_cells.Tie as tie
 
 abbrev Inv-loop : tie.InvT-loop
-Inv-loop s n i₀ i = (i ≤ n) × (cellsFinding s n 0 ≡ cellsFinding s (n - i) i)
+Inv-loop s n v i₀ i = (i ≤ n) × (cellsFinding v s n 0 ≡ cellsFinding v s (n - i) i)
 
 abbrev μ-loop : tie.MeasureT-loop
-μ-loop s n i₀ i = n - i
+μ-loop s n v i₀ i = n - i
 
 loop-holds : tie.Need-loop-holds Inv-loop μ-loop
 loop-holds c =

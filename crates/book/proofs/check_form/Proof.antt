@@ -19,8 +19,10 @@ passed-4 c =
     (c .before .before .before .before .before .before .before .length-ok .ensures) (c .before .before .before .before .before .before .if1 .left)
     (c .before .before .before .mark-ok .ensures) (c .before .before .if2 .left) (c .before .counted-ok .ensures) (c .if3 .left)
 
-passed-8 : (c : tie.After-enum-told) → cellsForm (c .before .before .before .before .before .before .before .before .before .before .before .before .args .b .now) ≡ none
-passed-8 c = cells-clear (passed-4 (c .before .before .before)) (c .before .before .check-cells .ensures) (c .enum-told .given .1)
+passed-8 : (c : tie.After-enum-told) → cellsForm (c .before .before .before .before .before .before .before .before .before .before .before .before .before .before .args .b .now) ≡ none
+passed-8 c =
+    let at = c .before .before .before in
+    cells-clear (passed-4 (at .before .before)) (at .version-from .ensures) (c .before .before .check-cells .ensures) (c .enum-told .given .1)
 
 length-ok-requires : tie.Need-length-ok-requires
 length-ok-requires c κs = search needs
@@ -67,39 +69,47 @@ returns-3 c =
     (c .before .before .before .before .before .before .before .length-ok .ensures) (c .before .before .before .before .before .before .if1 .left)
     (c .before .before .before .mark-ok .ensures) (c .before .before .if2 .left) (c .before .counted-ok .ensures) (c .if3 .taken)
 
+shared-slice-read-version-from : tie.Need-shared-slice-read-version-from
+shared-slice-read-version-from c = omega (arith, trailer-length (passed (c .before .before .before .before .before .before .before)))
+
+version-from-requires : tie.Need-version-from-requires
+version-from-requires c κs = search needs
+
 check-cells-requires : tie.Need-check-cells-requires
-check-cells-requires c κs = omega (arith, cells-length (passed (c .before .before .before .before .before .before)))
+check-cells-requires c κs = omega (arith, cells-length (passed (c .before .before .before .before .before .before .before .before)))
 
 enum-known-q : tie.Need-enum-known-q
 enum-known-q c = search needs
 
 returns-4 : tie.Need-returns-4
-returns-4 c = cells-bad (passed-4 (c .before .before .before .before)) (c .before .before .before .check-cells .ensures) (c .before .q .given .1)
+returns-4 c =
+    let at = c .before .before .before .before in
+    cells-bad (passed-4 (at .before .before)) (at .version-from .ensures) (c .before .before .before .check-cells .ensures) (c .before .q .given .1)
 
 enum-told : tie.Need-enum-told
 enum-told c = search needs
 
 read-pair-requires : tie.Need-read-pair-requires
-read-pair-requires c κs = omega (arith, trailer-length (passed (c .before .before .before .before .before .before .before .before .before)))
+read-pair-requires c κs = omega (arith, trailer-length (passed (c .before .before .before .before .before .before .before .before .before .before .before)))
 
 check-root-requires : tie.Need-check-root-requires
-check-root-requires c κs = ready (passed-4 (c .before .before .before .before)) (passed-8 (c .before)) (c .read-pair .ensures)
+check-root-requires c κs = ready (passed-4 (c .before .before .before .before .before .before)) (passed-8 (c .before)) (c .read-pair .ensures)
 
 enum-known-q-2 : tie.Need-enum-known-q-2
 enum-known-q-2 c = search needs
 
 returns-5 : tie.Need-returns-5
 returns-5 c =
-    root-bad (passed-4 (c .before .before .before .before .before .before .before .before)) (passed-8 (c .before .before .before .before .before))
-    (c .before .before .before .before .read-pair .ensures) (c .before .before .before .check-root .ensures) (c .before .q2 .given .1)
+    let at = c .before .before .before .before in
+    root-bad (passed-4 (at .before .before .before .before .before .before)) (passed-8 (at .before)) (at .read-pair .ensures) (c .before .before .before .check-root .ensures) (c .before .q2 .given .1)
 
 enum-told-2 : tie.Need-enum-told-2
 enum-told-2 c = search needs
 
 returns-6 : tie.Need-returns-6
 returns-6 c =
-    root-clear (passed-4 (c .before .before .before .before .before .before .before)) (passed-8 (c .before .before .before .before))
-    (c .before .before .before .read-pair .ensures) (c .before .before .check-root .ensures) (c .enum-told2 .given .1)
+    let at = c .before .before .before in
+    root-clear (passed-4 (at .before .before .before .before .before .before)) (passed-8 (at .before)) (at .before .before .before .before .version-from .ensures) (at .read-pair .ensures) (c .before .before .check-root .ensures) (c .enum-told2 .given .1)
 
 pub check-form-spec : {M : Type 1} → statement M
 check-form-spec =
@@ -118,6 +128,8 @@ check-form-spec =
     returns-2
     counted-ok-requires
     returns-3
+    shared-slice-read-version-from
+    version-from-requires
     check-cells-requires
     enum-known-q
     returns-4

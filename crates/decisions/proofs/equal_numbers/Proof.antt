@@ -14,5 +14,8 @@ equal-numbers-spec =
     (λ c κs. held-within (c .before .before .pre .holds-second))
     (λ c. no-answer refl)
     (λ c. no-answer refl)
-    (λ c. let second = c .before .before .before .before .before .before .before .before .before in one-number (second .before .read-cell .ensures) (second .read-cell2 .ensures) (c .before .before .before .before .before .before .before .if1 .left) (c .before .before .before .before .before .if2 .left) (c .before .before .if3 .taken))
-    (λ c. no-answer (ne-eqb _ _ (c .if3 .left))))
+    (λ c. no-answer refl)
+    (λ c. let third = c .before .before .before .before .before in let second = third .before .before .before in
+    one-number (second .before .before .before .before .before .read-cell .ensures) (second .before .before .before .before .read-cell2 .ensures)
+    (second .before .before .if1 .left) (second .if2 .left) (third .if3 .left) (c .before .before .if4 .taken))
+    (λ c. no-answer (ne-eqb _ _ (c .if4 .left))))

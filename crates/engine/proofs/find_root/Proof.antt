@@ -20,12 +20,13 @@ slice-aggregate-load c =
 
 load-requires : tie.Need-load-requires
 load-requires c κs =
-    loadable _ _ (c .before .before .before .before .pre .book .form) (c .before .before .before .before .pre .long)
+    let p = c .before .before .before .before .pre in
+    loadable _ _ (p .book .version) (p .book .form) (p .long)
 
 find-requires : tie.Need-find-requires
 find-requires c κs =
     let p = c .before .before .before .before .before .before .before .before .pre in
-    rw (p .book .root) (ready _ _ (λ i. c .before .before .before .before .before .before .before .shared-slice-known .given i .fits) (p .book .form) (c .before .before .before .load .ensures))
+    rw (p .book .root) (ready _ _ (λ i. c .before .before .before .before .before .before .before .shared-slice-known .given i .fits) (p .book .form) (rw (p .book .version) at (c .before .before .before .load .ensures)))
 
 same-length : tie.Need-same-length
 same-length c = search needs
@@ -34,7 +35,7 @@ returns : tie.Need-returns
 returns c =
     let p = c .before .before .before .before .before .before .before .before .before .before .before .pre .book in
     rw (p .root)
-    (root-found _ _ (λ i. c .before .before .before .before .before .before .before .before .before .before .shared-slice-known .given i .fits) (p .form) (c .before .before .before .before .before .before .load .ensures) (rw (p .root) at (c .before .before .find .ensures)))
+    (root-found _ _ (λ i. c .before .before .before .before .before .before .before .before .before .before .shared-slice-known .given i .fits) (p .form) (rw (p .version) at (c .before .before .before .before .before .before .load .ensures)) (rw (p .root) at (c .before .before .find .ensures)))
 
 pub find-root-spec : {M : Type 1} → statement M
 find-root-spec =

@@ -21,8 +21,8 @@ run-on-requires : tie.Need-run-on-requires
 run-on-requires c κs =
     root-typed (λ i. c .before .before .before .before .before .before .before .before .slice-known .given i .fits) (c .before .before .before .before .before .encode-in-place .ensures) (subst (λ (n : ℕ). 32768 ≤ n) (sym (c .before .before .before .before .before .encode-in-place .kept .0)) scratch) (c .before .before .before .before .before .encode-in-place .kept .1 .0) (c .before .before .before .before .before .before .before .before .before .pre)
 
-close-requires : tie.Need-close-requires
-close-requires c κs =
+close-term-requires : tie.Need-close-term-requires
+close-term-requires c κs =
     end-encoded (λ i. c .before .before .before .before .before .before .before .before .before .before .before .before .before .slice-known .given i .fits) (c .before .before .before .before .before .before .before .before .before .before .encode-in-place .ensures) (c .before .before .before .before .run-on .ensures) (c .before .before .before .before .run-on .kept .1 .0 ∙ c .before .before .before .before .before .before .before .before .before .before .encode-in-place .kept .1 .0) (c .before .before .before .before .before .before .before .before .before .before .before .before .before .before .pre)
 
 same-length : tie.Need-same-length
@@ -30,7 +30,7 @@ same-length c = search needs
 
 returns : tie.Need-returns
 returns c =
-    root-runs (λ i. c .before .before .before .before .before .before .before .before .before .before .before .before .before .before .before .before .slice-known .given i .fits) (c .before .before .before .before .before .before .before .before .before .before .before .before .before .encode-in-place .ensures) (c .before .before .before .before .before .before .before .run-on .ensures) (c .before .before .close .ensures)
+    root-runs (λ i. c .before .before .before .before .before .before .before .before .before .before .before .before .before .before .before .before .slice-known .given i .fits) (c .before .before .before .before .before .before .before .before .before .before .before .before .before .encode-in-place .ensures) (c .before .before .before .before .before .before .before .run-on .ensures) (c .before .before .close-term .ensures)
 
 pub run-root-spec : {M : Type 1} → statement M
 run-root-spec =
@@ -40,6 +40,6 @@ run-root-spec =
     encode-in-place-requires
     slice-aggregate-run-on
     run-on-requires
-    close-requires
+    close-term-requires
     same-length
     returns)

@@ -1,5 +1,5 @@
 -- `engine::run_types` meets its contract. Assumes nothing.
-use Rattle.engine.proofs.Typing.{root-of, run-found, ill-typed-book}
+use Rattle.engine.proofs.Typing.{some-root, run-found, ill-typed-book}
 use borrow.Author.Needs.{needs}
 use Rattle.engine.proofs.run_types.Statement.{statement}
 use Rattle.engine.proofs.run_types.Tie as tie
@@ -18,7 +18,8 @@ enum-told c = search needs
 
 run-root-requires : tie.Need-run-root-requires
 run-root-requires c κs =
-    record { term = _; root = root-of (c .before .before .before .before .before .before .before .before .before .pre) (λ i. c .before .before .before .before .before .before .before .before .shared-slice-known .given i .fits) (c .before .before .before .before .before .find-root .ensures) (c .before .before .before .before .before .find-root .kept .1 .0) (c .before .enum-told .given .1) }
+    let at = c .before .before .before .before .before in
+    some-root (at .before .before .before .before .pre) (λ i. at .before .before .before .shared-slice-known .given i .fits) (at .find-root .ensures) (at .find-root .kept .1 .0) (c .before .enum-told .given .1)
 
 same-length : tie.Need-same-length
 same-length c = search needs

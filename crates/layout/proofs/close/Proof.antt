@@ -4,8 +4,11 @@ use borrow.Author.Needs.{needs}
 use Rattle.layout.proofs.close.Statement.{statement}
 use Rattle.layout.proofs.close.Tie as tie
 
+version-byte-requires : tie.Need-version-byte-requires
+version-byte-requires c κs = search needs
+
 sub-clear : tie.Need-sub-clear
-sub-clear c = c .before .before .pre .encoded .some
+sub-clear c = c .before .before .before .pre .encoded .some
 
 write-cell-requires : tie.Need-write-cell-requires
 write-cell-requires c κs = search needs
@@ -32,12 +35,16 @@ same-length : tie.Need-same-length
 same-length c = search needs
 
 returns : tie.Need-returns
-returns c = record { says = λ t l. closed t (c .before .before .before .before .before .before .before .before .before .pre .work) l (c .before .before .before .before .before .before .write-cell .ensures) (c .before .before .clear .ensures) }
+returns c =
+    let at = c .before .before .before .before .before .before in
+    let start = at .before .before .before .before in
+    record { says = λ t l. closed (start .args .version) (at .before .version-byte .ensures) t (start .pre .work) l (at .write-cell .ensures) (c .before .before .clear .ensures) }
 
 pub close-spec : {M : Type 1} → statement M
 close-spec =
     tie.close
     (tie.spec
+    version-byte-requires
     sub-clear
     write-cell-requires
     add-clear

@@ -2,16 +2,17 @@
 use Prim.Native.Nat.{_≤_, _-_}
 use native.Mathlib.Omega.{arith}
 use mathlib.Core.Path.{_≡_, sym, _∙_}
+use Rattle.format.specs.Widths.{wideCells}
 use Rattle.loading.specs.Loaded.{Loaded}
 use Rattle.loading.proofs.Loading.{loaded-none, loads-next}
 use Rattle.loading.proofs.load.Statement.{statement}
 use Rattle.loading.proofs.load.Tie as tie
 
 abbrev Inv-loop : tie.InvT-loop
-Inv-loop b s₀ n i₀ s i = (i ≤ n) × Loaded b s i
+Inv-loop b s₀ n v i₀ s i = (i ≤ n) × Loaded (wideCells v b) s i
 
 abbrev μ-loop : tie.MeasureT-loop
-μ-loop b s₀ n i₀ s i = n - i
+μ-loop b s₀ n v i₀ s i = n - i
 
 loop-holds : tie.Need-loop-holds Inv-loop μ-loop
 loop-holds c = (omega arith, loaded-none (c .before .before .pre))

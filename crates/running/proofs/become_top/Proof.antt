@@ -1,5 +1,5 @@
 -- `running::become_top` meets its contract. Assumes nothing.
-use Rattle.running.proofs.Projecting.{top-single}
+use Rattle.running.proofs.Projecting.{top-single, becomes-top}
 use borrow.Author.Needs.{needs}
 use Rattle.running.proofs.become_top.Statement.{statement}
 use Rattle.running.proofs.become_top.Tie as tie
@@ -11,7 +11,7 @@ same-length : tie.Need-same-length
 same-length c = search needs
 
 returns : tie.Need-returns
-returns c = search needs
+returns c = becomes-top (c .before .before .become-single .ensures)
 
 pub become-top-spec : {M : Type 1} → statement M
 become-top-spec =

@@ -52,7 +52,7 @@ same-length-5 : tie.Need-same-length-5
 same-length-5 c = search needs
 
 returns-5 : tie.Need-returns-5
-returns-5 c = record { says = h-became refl (becomes-at (c .became .ensures) (search casts-number)) }
+returns-5 c = record { says = h-became refl (λ h. becomes-at (c .became .ensures) (search casts-number)) }
 
 same-length-6 : tie.Need-same-length-6
 same-length-6 c = search needs

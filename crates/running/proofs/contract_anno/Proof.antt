@@ -29,7 +29,7 @@ same-length-3 : tie.Need-same-length-3
 same-length-3 c = search needs
 
 returns-2 : tie.Need-returns-2
-returns-2 c = search still-contracts
+returns-2 c h = still-contracts (c .before .before .before .before .before .before .before .before .before .before .before .cast-in-place .ensures) (c .before .before .before .before .before .before .before .enum-told .given .1) (c .before .before .before .before .contract-through .ensures h)
 
 pub contract-anno-spec : {M : Type 1} → statement M
 contract-anno-spec =

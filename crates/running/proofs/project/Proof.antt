@@ -15,7 +15,7 @@ same-length : tie.Need-same-length
 same-length c = search needs
 
 returns : tie.Need-returns
-returns c = search (becomes-at, projects-top)
+returns c h = search (becomes-at, projects-top)
 
 project-merge-requires : tie.Need-project-merge-requires
 project-merge-requires c κs = search kind-at
@@ -36,7 +36,7 @@ same-length-3 : tie.Need-same-length-3
 same-length-3 c = search needs
 
 returns-3 : tie.Need-returns-3
-returns-3 c = search (becomes-at, projects-record)
+returns-3 c h = search (becomes-at, projects-record)
 
 pub project-spec : {M : Type 1} → statement M
 project-spec =

@@ -2,7 +2,7 @@
 use native.Mathlib.Omega.{arith}
 use Rattle.running.proofs.Ranges.{redex-low}
 use Rattle.running.proofs.Projecting.{becomes-at}
-use Rattle.running.proofs.MergeReads.{merge-value, part-range, part-shift, none-ready, projects-part}
+use Rattle.running.proofs.MergeReads.{merge-value, part-range, part-shift, none-only, projects-part}
 use borrow.Author.Needs.{needs}
 use Rattle.running.proofs.project_merge.Statement.{statement}
 use Rattle.running.proofs.project_merge.Tie as tie
@@ -18,15 +18,16 @@ enum-told c = search needs
 
 become-top-requires : tie.Need-become-top-requires
 become-top-requires c κs =
-    let told = c .before in
-    let asked = told .before .before in
-    none-ready _ _ (asked .before .before .before .pre) (asked .value-part .ensures) (told .enum-told .given .1)
+    c .before .before .before .before .before .before .pre .at .ready
 
 same-length : tie.Need-same-length
 same-length c = search needs
 
 returns : tie.Need-returns
-returns c = search needs
+returns c h =
+    let told = c .before .before .before .before in
+    let asked = told .before .before in
+    c .before .before .become-top .ensures .says h (none-only _ _ (asked .before .before .before .pre) (asked .value-part .ensures) h (told .enum-told .given .1))
 
 sub-n : tie.Need-sub-n
 sub-n c =
@@ -52,7 +53,7 @@ same-length-2 : tie.Need-same-length-2
 same-length-2 c = search needs
 
 returns-2 : tie.Need-returns-2
-returns-2 c =
+returns-2 c h =
     let shifted = c .before .before .before .before in
     let told = shifted .before .before .before in
     let asked = told .before .before in

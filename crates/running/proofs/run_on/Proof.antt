@@ -7,7 +7,7 @@ use Rattle.running.proofs.run_on.Tie as tie
 
 abbrev Inv-loop : tie.InvT-loop
 Inv-loop s₀ w₀ n limit state₀ s w state =
-    AllGoing limit s₀ w₀ (state₀ .focus) s w state
+    AllGoing (state₀ .version) limit s₀ w₀ (state₀ .focus) s w state
 
 abbrev μ-loop : tie.MeasureT-loop
 μ-loop s₀ w₀ n limit state₀ s w state =

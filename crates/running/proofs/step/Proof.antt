@@ -41,8 +41,8 @@ returns-3 c = search turn-room
 settle-requires : tie.Need-settle-requires
 settle-requires c κs = search contracted-ready
 
-add-t21 : tie.Need-add-t21
-add-t21 c = search needs
+add-t22 : tie.Need-add-t22
+add-t22 c = search needs
 
 same-length-3 : tie.Need-same-length-3
 same-length-3 c = search needs
@@ -67,7 +67,7 @@ step-spec =
     same-length-2
     returns-3
     settle-requires
-    add-t21
+    add-t22
     same-length-3
     same-length-4
     returns-4)

@@ -1,7 +1,8 @@
 -- The number that a held value is read as under Int is read exactly. Assumes nothing.
-use Prim.Native.Nat.{_+_, _*_}
 use native.Mathlib.Omega.{arith}
 use borrow.Author.Needs.{needs}
+use Rattle.format.specs.declared.Version.the-variants.{Two}
+use Rattle.format.specs.Version.{stored}
 use Rattle.typed_reduction.specs.Casting.{ReadsNumber}
 use Rattle.typed_reduction.proofs.Numbers.{number-found, number-within, reads-number}
 use Rattle.typed_reduction.proofs.read_number.Statement.{statement}
@@ -14,7 +15,7 @@ at-part c = c .before .before
 number :
     (c : tie.After-read-cell) →
     let at = at-part (c .before .before) .before .before .args in
-    ReadsNumber (at .s .now) (at .v) (c .read-cell .result .b + 65536 * c .read-cell .result .c)
+    ReadsNumber (at .s .now) (at .v) (stored Two (c .read-cell .result .a) (c .read-cell .result .b) (c .read-cell .result .c))
 number c =
     let at-p = c .before .before in
     let at = at-part at-p in
@@ -43,8 +44,26 @@ mul-result c = omega (arith, number (c .before) .fits)
 add-result : tie.Need-add-result
 add-result c = omega (arith, number (c .before .before) .fits)
 
+mul-result-2 : tie.Need-mul-result-2
+mul-result-2 c = omega (arith, number (c .before .before) .fits)
+
+add-result-2 : tie.Need-add-result-2
+add-result-2 c = omega (arith, number (c .before .before .before) .fits)
+
 returns-2 : tie.Need-returns-2
-returns-2 c = number (c .before .before)
+returns-2 c = number (c .before .before .before)
 
 pub read-number-spec : {M : Type 1} → statement M
-read-number-spec = tie.close (tie.spec number-part-requires enum-known-p enum-told returns read-cell-requires mul-result add-result returns-2)
+read-number-spec =
+    tie.close
+    (tie.spec
+    number-part-requires
+    enum-known-p
+    enum-told
+    returns
+    read-cell-requires
+    mul-result
+    add-result
+    mul-result-2
+    add-result-2
+    returns-2)
