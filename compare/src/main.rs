@@ -2,9 +2,10 @@
 //!
 //! `compare [--seed N] [--count N] [--family NAME] [--version N] [--self-test]`
 //!
-//! With `--version 2`, only the books whose trailer has version 2 are compared; with `--version 1`, only the others. Built with the feature `engine`, the engine of the static library is compared; without it, the evaluator with itself. With
-//! `--self-test`, the evaluator is compared with faulty copies of itself, and each fault must be found. The exit status is 0, and the
-//! last line starts with what passed - families, or faults found - only if nothing failed.
+//! With `--version 2`, only the books whose trailer has version 2 are compared; with `--version 1`, only the others. Built with the feature `engine`,
+//! the engine of the static library is compared; without it, the evaluator with itself. With `--self-test`, the evaluator is compared with faulty
+//! copies of itself, and each fault must be found. The exit status is 0, and the last line starts with what passed - families, or faults found -
+//! only if nothing failed.
 
 use compare::comparing::{Comparison, Question};
 use compare::engines::{Engine, Evaluator};
@@ -176,9 +177,11 @@ fn stated_samples(version: Option<u8>) -> usize {
         for side in [&Evaluator(None) as &dyn Engine, engine().as_ref()] {
             let mut work = vec![0xA5; WORK];
             let reply = side.call(sample.call, &sample.book, &mut work);
-            if reply != Ok(sample.answer) || sample.left().is_some_and(|left| !work.starts_with(&left)) {
+            let other_bytes = sample.left().is_some_and(|left| !work.starts_with(&left));
+            if reply != Ok(sample.answer) || other_bytes {
                 failed += 1;
-                println!("FAILED: {}: {} says {reply:?}, the document says {:?}", sample.name, side.name(), sample.answer);
+                let bytes = if other_bytes { ", other bytes" } else { "" };
+                println!("FAILED: {}: {} says {reply:?}{bytes}, the document says {:?}", sample.name, side.name(), sample.answer);
             }
         }
     }

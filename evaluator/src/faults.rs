@@ -236,6 +236,10 @@ pub enum Fault {
     WideSumShortAbove,
     /// A sum of version 2 held one short of the lower end.
     WideSumShortBelow,
+    /// After its first step a run goes on in version 1.
+    LostToVersion1,
+    /// After its first step a run goes on in version 2.
+    LostToVersion2,
     /// Numbers of version 2 called consistent whatever is in field a.
     ConsistentWithoutA,
     /// Whatever is in field b.
@@ -257,7 +261,7 @@ pub enum Fault {
 }
 
 impl Fault {
-    pub const ALL: [Fault; 125] = [
+    pub const ALL: [Fault; 127] = [
         Fault::CovariantInputs,
         Fault::ArgumentUncast,
         Fault::RoomOneEarly,
@@ -374,6 +378,8 @@ impl Fault {
         Fault::WideSumWraps,
         Fault::WideSumShortAbove,
         Fault::WideSumShortBelow,
+        Fault::LostToVersion1,
+        Fault::LostToVersion2,
         Fault::ConsistentWithoutA,
         Fault::ConsistentWithoutB,
         Fault::ConsistentWithoutC,

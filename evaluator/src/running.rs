@@ -247,6 +247,11 @@ impl Machine {
     pub fn step(&mut self, (part, size): (Term, u64)) {
         self.focus = part;
         self.size = size;
+        match current() {
+            Some(Fault::LostToVersion1) => self.version = Version::One,
+            Some(Fault::LostToVersion2) => self.version = Version::Two,
+            _ => {}
+        }
         self.refocus();
     }
 

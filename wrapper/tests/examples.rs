@@ -1,11 +1,11 @@
-//! The example programs, in C and in Rust, print the desk program's lines. The lines that they are compared with are the evaluator's
+//! The desk program, and the example programs in C and in Rust, print the same lines. The lines that they are compared with are the evaluator's
 //! (`evaluator::desk`).
 
 #![cfg(not(library_missing))]
 
 use std::ffi::OsStr;
 use std::path::{Path, PathBuf};
-use std::process::Command;
+use std::process::{Command, Output};
 use std::{env, fs};
 
 const REPOSITORY: &str = concat!(env!("CARGO_MANIFEST_DIR"), "/..");
@@ -13,6 +13,8 @@ const REPOSITORY: &str = concat!(env!("CARGO_MANIFEST_DIR"), "/..");
 const LIBRARY: &str = "target/staticlib/libcerealbank.a";
 const PROGRAM: &str = "target/book";
 const BOOK: &str = "books/hidden_field.book";
+/// The desk program, as `rt` writes it.
+const DESK: &str = "target/bin/desk";
 
 /// README's line for C, without the compiler's name: what compiles the example.
 fn readme_line() -> String {
@@ -51,11 +53,23 @@ fn in_rust() -> PathBuf {
     folder.join("release/examples/book")
 }
 
+/// What a program has written of a book.
+fn written(output: Output, program: &Path, book: &Path) -> String {
+    assert!(output.status.success(), "{} {}: {}", program.display(), book.display(), output.status);
+    String::from_utf8(output.stdout).expect("text")
+}
+
 /// What a program writes when it is given a book.
 fn printed(program: &Path, book: &Path) -> String {
     let output = Command::new(program).arg(book).output().unwrap_or_else(|error| panic!("{}: {error}", program.display()));
-    assert!(output.status.success(), "{} {}: {}", program.display(), book.display(), output.status);
-    String::from_utf8(output.stdout).expect("text")
+    written(output, program, book)
+}
+
+/// What the desk program writes of the book on its standard input.
+fn on_the_desk(book: &Path) -> String {
+    let program = Path::new(REPOSITORY).join(DESK);
+    let output = Command::new(&program).stdin(fs::File::open(book).expect("a book")).output();
+    written(output.unwrap_or_else(|error| panic!("{DESK}, which `rt check desk` builds: {error}")), &program, book)
 }
 
 /// The books of a folder.
@@ -87,5 +101,20 @@ fn both_examples_print_the_lines_of_the_desk_program() {
             let expected = evaluator::desk(&fs::read(&book).expect("a book"));
             assert!(printed(&program, &book) == expected, "{} {}", program.display(), book.display());
         }
+    }
+}
+
+/// A number of 48 bits is printed in three fields: 2^40 less 1.
+#[test]
+fn the_desk_program_prints_the_lines_of_the_evaluator() {
+    let sum =
+        [[17, 0, 0, 0, 0, 0, 0, 1], [17, 0, 255, 255, 255, 255, 255, 255], [26, 0, 0, 0, 1, 0, 0, 0], [240, 2, 3, 0, 2, 0, 0, 0]]
+            .concat();
+    let wide = Path::new(env!("CARGO_TARGET_TMPDIR")).join("wide.book");
+    fs::write(&wide, &sum).expect("a file written");
+    assert_eq!(on_the_desk(&wide), "accepted 1\nvalue 1\n0 17 0 65535 65535 255\n");
+    for book in books() {
+        let expected = evaluator::desk(&fs::read(&book).expect("a book"));
+        assert!(on_the_desk(&book) == expected, "{}", book.display());
     }
 }

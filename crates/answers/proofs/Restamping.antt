@@ -19,7 +19,7 @@ use Rattle.format.specs.Cell.{IsBytes}
 use Rattle.format.specs.Book.{WellFormed, versionOf, rootTerm, termBook}
 use Rattle.format.specs.Widths.{extendedCells, restamp}
 use Rattle.format.proofs.Tests.{formFinding-says}
-use Rattle.format.proofs.Restamping.{restamp-version, restamp-bytes, restamp-well-formed, restamp-rootTerm}
+use Rattle.format.proofs.Restamping.{restamp-count, restamp-root, restamp-extends, restamp-version, restamp-bytes, restamp-well-formed, restamp-rootTerm}
 use Rattle.answers.specs.Answer.{Stop, value, spent, room, stopped, Result, result}
 use Rattle.answers.specs.Engine.{Engine, IsWork, IsLimit, padded}
 use Rattle.answers.specs.Definition.{definition}
@@ -91,6 +91,9 @@ module _ (E : Engine) (d : Demand2 E) (b : List ℕ) (bytes : IsBytes b) (a : Ac
         formed = formed-too;
         version = restamp-version b;
         accepted-too = accepts-too;
+        counted = restamp-count b;
+        cells = restamp-extends b bytes;
+        rooted = restamp-root b;
         root = same-root;
         shows = λ A t w v j k. (
           rw one at (d b bytes .shows A (well-typed .0) t w j),

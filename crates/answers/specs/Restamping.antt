@@ -1,6 +1,6 @@
 -- Document 02, (iv): "Every accepted version 1 book without sums, restamped as version 2 with each number extended by its sign, shows the same type and
 -- takes the same steps." Of any engine E; it follows from demand 2 (proofs/Restamping). Assumes nothing.
-use Prim.Native.Nat.{ℕ}
+use Prim.Native.Nat.{ℕ, _<_}
 use mathlib.Core.Path.{_≡_}
 use mathlib.Core.Logic.{_↔_}
 use mathlib.Core.List.{List, []}
@@ -10,9 +10,9 @@ use Rattle.calculus.specs.Typing.{Typed}
 use Rattle.calculus.specs.Step.{Reaches}
 use Rattle.format.specs.declared.Version.the-variants.{One, Two}
 use Rattle.format.specs.Version.{halfOf}
-use Rattle.format.specs.Cell.{IsBytes}
-use Rattle.format.specs.Book.{WellFormed, versionOf, rootTerm, typeBook, termBook}
-use Rattle.format.specs.Widths.{restamp}
+use Rattle.format.specs.Cell.{IsBytes, cellAt}
+use Rattle.format.specs.Book.{WellFormed, count, rootOf, versionOf, rootTerm, typeBook, termBook}
+use Rattle.format.specs.Widths.{Extends, restamp}
 use Rattle.answers.specs.Answer.{Stop, accepted, stopped, result}
 use Rattle.answers.specs.Engine.{Engine, IsWork, IsLimit, padded}
 use Rattle.answers.specs.Demands.{Accepts}
@@ -33,7 +33,11 @@ pub record RestampedFor (E : Engine) (b : List ℕ) : Type 0 where
   pub formed : WellFormed (restamp b)
   pub version : versionOf (restamp b) ≡ Two
   pub accepted-too : Accepts E (restamp b)
-  -- its root is the same term;
+  -- it has the cells of b, "each number extended by its sign", whether the root reaches it or not, and the same root cell,
+  pub counted : count (restamp b) ≡ count b
+  pub cells : (i : ℕ) → i < count b → Extends (cellAt b i) (cellAt (restamp b) i)
+  pub rooted : rootOf (restamp b) ≡ rootOf b
+  -- which holds the same term;
   pub root : rootTerm (restamp b) ≡ rootTerm b
   -- it "shows the same type", in version 2,
   pub shows : (A : Ty) → Typed [] (rootTerm b) A → (w v : List ℕ) → IsWork w → IsWork v →

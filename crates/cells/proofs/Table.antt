@@ -1,18 +1,19 @@
--- The code's table of kinds is the format's: one test over the 256 kinds in each version, which antt computes, and what it says of each kind.
+-- The code's table of kinds is the format's, with a line of its own for version 1's number: tests over the 256 kinds, which antt computes, and what they say of each kind.
 -- Assumes nothing.
-use Prim.Native.Nat.{ℕ, zero, suc, _+_, _*_, _/_, _%_, _<_}
+use Prim.Native.Nat.{ℕ, zero, suc, _+_, _*_, _<_}
 use native.Mathlib.Decide.{decLt}
 use native.Mathlib.Omega.{arith}
 use mathlib.Core.Path.{_≡_, refl}
-use mathlib.Core.List.{List, [], _∷_, _++_}
+use mathlib.Core.List.{List, [], _∷_}
+use mathlib.Core.Bool.{cond}
 use mathlib.Core.Option.{Option}
 use borrow.Author.Tests.{ne-eqb}
+use lib.Dec.{eqb, lit<}
 use lib.ListN.{getD}
 use Rattle.format.specs.declared.Version.{Version}
 use Rattle.format.specs.declared.Version.the-variants.{One, Two}
-use Rattle.format.specs.Table.{Sort, type-sort, term-sort, Use, unused, plain, refers, Row, table, rowIn, rowFor}
-use Rattle.cells.specs.declared.Entry.{Entry}
-use Rattle.cells.specs.Coded.{rowFrom, placeOf, placeFor, entryFrom}
+use Rattle.format.specs.Table.{Sort, type-sort, term-sort, Use, unused, plain, refers, Row, table, rowIn, rowFor, rowOf}
+use Rattle.cells.specs.Coded.{rowFrom, placeOf, entryFrom}
 
 -- f of the kinds below n
 abbrev run : (ℕ → Option Row) → ℕ → List (Option Row)
@@ -36,30 +37,32 @@ useDigit (refers o) = sortDigit o
 abbrev line : Row → ℕ
 line r = (((sortDigit (r .sort) * 8 + useDigit (r .label)) * 8 + useDigit (r .a)) * 8 + useDigit (r .b)) * 8 + useDigit (r .c)
 
-abbrev lines : List Row → List ℕ
+abbrev pub lines : List Row → List ℕ
 lines [] = []
 lines (r ∷ rs) = line r ∷ lines rs
 
--- The code's table: unknown kinds, version 2's rows, and version 1's for a number.
-abbrev pub allLines : List ℕ
-allLines = 0 ∷ (lines (table Two) ++ (getD (lines (table One)) 6 0 ∷ []))
-
-abbrev coded : Version → List ℕ → ℕ → ℕ → Option Row
-coded v xs d k = rowFrom k (entryFrom (getD xs (placeFor v k) d))
+abbrev coded : List ℕ → ℕ → ℕ → Option Row
+coded xs d k = rowFrom k (entryFrom (getD xs (placeOf k) d))
 
 -- the lines xs stand for the rows of all kinds
-abbrev Right : Version → List ℕ → ℕ → Type 0
-Right v xs d = run (coded v xs d) 256 ≡ run (rowFor v) 256
+abbrev pub Right : List ℕ → ℕ → Type 0
+Right xs d = run (coded xs d) 256 ≡ run rowOf 256
 
-right : (v : Version) → Right v allLines 0
+pub right-at : (xs : List ℕ) (d : ℕ) → Right xs d → (k x : ℕ) → x ≡ placeOf k → k < 256
+    → rowFrom k (entryFrom (getD xs x d)) ≡ rowOf k
+right-at xs d q k x e h = rw e (at (coded xs d) rowOf 256 q k h)
+
+-- version 1 has another line for a number, n
+abbrev inOne : ℕ → ℕ → Option Row
+inOne n k = cond (eqb k 17) (rowFrom k (entryFrom n)) (rowOf k)
+
+one-at : (k : ℕ) → k < 256 → inOne (getD (lines (table One)) 6 0) k ≡ rowFor One k
 unfolding rowFor rowIn table
-right One = refl
-right Two = refl
+one-at k h = at (inOne (getD (lines (table One)) 6 0)) (rowFor One) 256 refl k h
 
-pub right-at : (v : Version) (k x : ℕ) → x ≡ placeFor v k → k < 256 → rowFrom k (entryFrom (getD allLines x 0)) ≡ rowFor v k
-right-at v k x e h = rw e (at (coded v allLines 0) (rowFor v) 256 (right v) k h)
+pub number-of-one : rowFrom 17 (entryFrom (getD (lines (table One)) 6 0)) ≡ rowFor One 17
+number-of-one = one-at 17 (lit< tt)
 
--- only a number's place is by the version
-pub place-other : (v : Version) (k : ℕ) → (k ≡ 17 → ⊥) → placeFor v k ≡ placeOf k
-place-other One k n = rw (ne-eqb k 17 n)
-place-other Two k n = refl
+pub other-row : (v : Version) (k : ℕ) → (k ≡ 17 → ⊥) → k < 256 → rowOf k ≡ rowFor v k
+other-row One k n h = rw (ne-eqb k 17 n) at (one-at k h)
+other-row Two k n h = refl

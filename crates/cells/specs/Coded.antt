@@ -1,10 +1,8 @@
 -- The code's structs as the format's records, and its table of kinds as numbers. Assumes nothing.
 use Prim.Native.Nat.{ℕ, zero, suc, _-_, _/_, _%_, _<_}
 use mathlib.Core.Bool.{cond}
-use lib.Dec.{ltb, eqb}
+use lib.Dec.{ltb}
 use mathlib.Core.Option.{Option, none, some}
-use Rattle.format.specs.declared.Version.{Version}
-use Rattle.format.specs.declared.Version.the-variants.{One, Two}
 use Rattle.format.specs.Cell as Format
 use Rattle.format.specs.Table.{Sort, type-sort, term-sort, Use, unused, plain, refers, Row}
 use Rattle.cells.specs.declared.Cell.{Cell}
@@ -46,11 +44,6 @@ rowFrom k e = rowWith k e (sortOf (e .sort))
 -- Where the code's table has a kind: 1 to 5 after the line for the unknown ones, then 16 to 27.
 abbrev pub placeOf : ℕ → ℕ
 placeOf k = cond (ltb k 1) 0 (cond (ltb k 6) k (cond (ltb k 16) 0 (cond (ltb k 28) (k - 10) 0)))
-
--- For books of version 1 a number has a line of its own, behind the others.
-abbrev pub placeFor : Version → ℕ → ℕ
-placeFor One k = cond (eqb k 17) 18 (placeOf k)
-placeFor Two k = placeOf k
 
 -- A line of the table, an octal digit for each of sort, label, a, b and c, as an entry.
 abbrev pub entryFrom : ℕ → Entry

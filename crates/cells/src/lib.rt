@@ -7,7 +7,7 @@ ghost use lib.ListN.{length};
 ghost use lib.Seq.{sets};
 ghost use Rattle.format.specs.Cell.{pair, cellAt, cellBytes};
 ghost use Rattle.format.specs.Table.{rowFor, rowOf, inside};
-ghost use Rattle.cells.specs.Coded.{asCell, CellFits, placeOf, placeFor, entryFrom, useOf, rowFrom};
+ghost use Rattle.cells.specs.Coded.{asCell, CellFits, placeOf, entryFrom, useOf, rowFrom};
 ghost use Rattle.cells.specs.Held.{labelBy};
 
 // A cell: kind, label and the fields a, b, c.
@@ -103,7 +103,7 @@ const C_TYPE: u16 = 0o2;
 
 const C_TERM: u16 = 0o3;
 
-const TABLE: [u16; 19] = [
+const TABLE: [u16; 18] = [
     // every other kind
     0,
     // 1, 2: Int, Top
@@ -139,9 +139,10 @@ const TABLE: [u16; 19] = [
     TERM + A_TERM + B_TERM,
     // 27: choice, a tested, b for zero, c for anything else
     TERM + A_TERM + B_TERM + C_TERM,
-    // 17 in version 1: number, in b and c
-    TERM + B_NUMBER + C_NUMBER,
 ];
+
+// 17 in books of version 1: number, in b and c
+const NUMBER_OF_ONE: u16 = TERM + B_NUMBER + C_NUMBER;
 
 // The place of a kind in the table.
 fn place(kind: u8) -> usize
@@ -151,19 +152,6 @@ fn place(kind: u8) -> usize
         1..=5 => wide(kind),
         16..=27 => wide(kind) - 10,
         _ => 0,
-    }
-}
-
-// The place of a kind in the table, for books of this version.
-fn place_for(version: Version, kind: u8) -> usize
-    ensures { λ r. ⌜ (r ≡ placeFor version kind) × (r < 19) ⌝ }
-{
-    if kind != 17 {
-        return place(kind);
-    }
-    match version {
-        Version::One => 18,
-        Version::Two => 7,
     }
 }
 
@@ -191,7 +179,13 @@ pub fn entry_of(kind: u8) -> Entry
 pub fn entry_for(version: Version, kind: u8) -> Entry
     ensures { λ r. ⌜ rowFrom kind r ≡ rowFor version kind ⌝ }
 {
-    entry_at(TABLE[place_for(version, kind)])
+    if kind != 17 {
+        return entry_of(kind);
+    }
+    match version {
+        Version::One => entry_at(NUMBER_OF_ONE),
+        Version::Two => entry_of(kind),
+    }
 }
 
 // The label of a cell whose row has this use of it: 0 if the row does not name it.

@@ -3,7 +3,7 @@ use Prim.Native.Nat.{ℕ, _+_, _%_, _<_, _≤_}
 use mathlib.Core.Path.{_≡_, refl, sym, ap, subst, _∙_}
 use mathlib.Core.Bool.{Bool, true, false}
 use mathlib.Core.Option.{Option, none, some}
-use mathlib.Core.List.{List, [], _∷_}
+use mathlib.Core.List.{List, []}
 use native.Mathlib.Omega.{arith}
 use lib.Dec.{T, eqb}
 use lib.ListN.{length}
@@ -15,7 +15,7 @@ use Rattle.calculus.proofs.Inference.{infer-says}
 use Rattle.calculus.proofs.Typing.{typed-size}
 use Rattle.format.specs.Cell.{IsBytes}
 use Rattle.format.specs.Book.{Finding, formFinding, lengthOk}
-use Rattle.format.specs.Book.{versionOf, rootOf, trailerAt, follow, rootTerm, WellFormed}
+use Rattle.format.specs.Book.{versionOf, rootOf, trailerAt, rootTerm, WellFormed}
 use Rattle.format.proofs.Findings.{by-rows}
 use Rattle.format.proofs.Tests.{formFinding-says, rootTerm-small}
 use Rattle.format.proofs.Paths.{follow-down}

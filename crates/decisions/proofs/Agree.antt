@@ -1,6 +1,6 @@
 -- Consistency of two held terms, by the kinds of their cells: what it asks of the parts, and what it answers outright.
 -- Assumes nothing.
-use Prim.Native.Nat.{ℕ, _+_}
+use Prim.Native.Nat.{ℕ, _+_, _*_, _<_}
 use mathlib.Core.Path.{_≡_, refl, sym, ap, ap₂, subst, _∙_}
 use mathlib.Core.Logic.{_⊎_, inl, inr, ⊎-elim, Iff·trans}
 use mathlib.Core.Bool.{Bool, true, false, not, _&&_, _||_, and-false, decide}
@@ -16,6 +16,7 @@ use Rattle.format.specs.Table.{type-sort, term-sort}
 use Rattle.format.specs.Cell.{IsBytes, Cell, cellAt}
 use Rattle.format.specs.Tree.{kindIn}
 use Rattle.format.specs.Terms.{fromTermIn}
+use Rattle.format.proofs.Tests.{cell-fits}
 use Rattle.cells.specs.Held.{HoldsTerm}
 use Rattle.cells.proofs.Held.{lit-at, unit-at, lam-at, merge-at, rcd-at, kindOf, kind-of-held}
 use Rattle.cells.proofs.Forms.{NoValue, fold-else, parts-else}
@@ -213,17 +214,31 @@ module _ {s : List ℕ} {i j : ℕ} {x y : Cell} {p : Bool} (w : Whenever (Holds
         d;
   }
 
--- a no says nothing; two numbers whose fields b and c are the same are one number
+-- a no says nothing; two numbers whose three fields are the same are one number
 pub no-answer : {s : List ℕ} {i j : ℕ} {r : Bool} → r ≡ false → Agreeing s i j r
 no-answer e = record { says = λ t. absurd (subst T (sym t ∙ e) tt) }
 
-pub one-number : {s : List ℕ} {i j : ℕ} {x y : Cell} → x ≡ cellAt s i → y ≡ cellAt s j → x .kind ≡ 17 → y .kind ≡ 17 → x .a ≡ y .a → x .b ≡ y .b → Agreeing s i j (eqb (x .c) (y .c))
-one-number {x = x} {y = y} p q m n a b = record {
-  says = λ t. let c = eqb-true (x .c) (y .c) t in record {
-    says = λ e f h k.
-        let u = lit-at h (rw p at m) in
-        let v = lit-at k (rw q at n) in
-        let one : f ≡ e = v ∙ rw (← p, ← q, a, b, c) refl ∙ sym u in
-        rw (one, u) (sym (rw two-numbers (T-true (decide-says (sameInteger _ _)) refl)));
-  };
+-- the fields of a cell fit their bytes
+abbrev pub Fit : Cell → Type 0
+Fit x = (x .b < 65536) × (x .c < 65536)
+
+pub cell-fit : (s : List ℕ) (i : ℕ) {x : Cell} → IsBytes s → x ≡ cellAt s i → Fit x
+cell-fit s i y e = let f = cell-fits s y i in rw e (f .2, f .3)
+
+pub one-number : {s : List ℕ} {i j : ℕ} {x y : Cell} → IsBytes s → x ≡ cellAt s i → y ≡ cellAt s j → x .kind ≡ 17 → y .kind ≡ 17 → x .a ≡ y .a →
+    Agreeing s i j (eqb (x .b + 65536 * x .c) (y .b + 65536 * y .c))
+one-number {s} {i} {j} {x} {y} o p q m n a = record {
+  says = λ t.
+      let z = eqb-true (x .b + 65536 * x .c) (y .b + 65536 * y .c) t in
+      let f = cell-fit s i o p in
+      let g = cell-fit s j o q in
+      let b : x .b ≡ y .b = omega (arith, f .0, g .0, z) in
+      let c : x .c ≡ y .c = omega (arith, f .0, g .0, z) in
+      record {
+        says = λ e f h k.
+            let u = lit-at h (rw p at m) in
+            let v = lit-at k (rw q at n) in
+            let one : f ≡ e = v ∙ rw (← p, ← q, a, b, c) refl ∙ sym u in
+            rw (one, u) (sym (rw two-numbers (T-true (decide-says (sameInteger _ _)) refl)));
+      };
 }

@@ -209,7 +209,7 @@ fn equal_numbers(s: &[u8], i: usize, j: usize) -> bool
     if x.a != y.a {
         return false;
     }
-    x.b == y.b && x.c == y.c
+    x.b + 65536 * x.c == y.b + 65536 * y.c
 }
 
 // The left side is split first, then the right. Of two halves the one that is no merge is asked first, and the walk goes on with the other.

@@ -73,14 +73,16 @@ versions :
 unfolding table rowIn rowFor cellAt cellBytes cells fieldTree cellTree unshareWithin treeAt firstBad rowFault cellFault cellsFinding rootFinding cellsForm formFinding trailer
 versions = refl
 
--- "restamped as version 2 with each number extended by its sign": -5, and 2147483647
+-- "restamped as version 2 with each number extended by its sign": -5, and 2147483647; and the top value with -5 and a sum beside it, which the root does not reach
 restamped :
     map restamp
     ((17 ∷ 0 ∷ 0 ∷ 0 ∷ 251 ∷ 255 ∷ 255 ∷ 255 ∷ 240 ∷ 1 ∷ 1 ∷ 0 ∷ 0 ∷ 0 ∷ 0 ∷ 0 ∷ [])
     ∷ (17 ∷ 0 ∷ 0 ∷ 0 ∷ 255 ∷ 255 ∷ 255 ∷ 127 ∷ 240 ∷ 1 ∷ 1 ∷ 0 ∷ 0 ∷ 0 ∷ 0 ∷ 0 ∷ [])
+    ∷ (top ++ cell 17 0 0 65531 65535 ++ cell 26 0 1 1 0 ++ trailer One 3 0)
     ∷ [])
     ≡ ((17 ∷ 0 ∷ 251 ∷ 255 ∷ 255 ∷ 255 ∷ 255 ∷ 255 ∷ 240 ∷ 2 ∷ 1 ∷ 0 ∷ 0 ∷ 0 ∷ 0 ∷ 0 ∷ [])
     ∷ (17 ∷ 0 ∷ 255 ∷ 255 ∷ 255 ∷ 127 ∷ 0 ∷ 0 ∷ 240 ∷ 2 ∷ 1 ∷ 0 ∷ 0 ∷ 0 ∷ 0 ∷ 0 ∷ [])
+    ∷ (top ++ cell 17 0 65531 65535 65535 ++ cell 26 0 1 1 0 ++ trailer Two 3 0)
     ∷ [])
 unfolding cellAt cellBytes extendedCells restamp trailer
 restamped = refl

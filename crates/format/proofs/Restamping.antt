@@ -1,26 +1,26 @@
 -- A book restamped as version 2, "each number extended by its sign": its cells and trees are the book's own, so extended; a well-formed version 1 book
 -- stays well-formed and has the same root term. Assumes nothing.
-use Prim.Native.Nat.{ℕ, zero, suc, _+_, _*_, _/_, _≤_, _<_}
+use Prim.Native.Nat.{ℕ, zero, suc, _+_, _*_, _-_, _/_, _≤_, _<_}
 use native.Mathlib.Nat.{add-zero, zero-add}
 use native.Mathlib.Omega.{arith}
 use mathlib.Core.Path.{_≡_, refl, sym, ap, _∙_, subst}
-use mathlib.Core.Bool.{Bool, true, false}
+use mathlib.Core.Bool.{Bool, true, false, true≢false}
 use mathlib.Core.Option.{Option, none, some, Option·some-injective}
 use mathlib.Core.List.{List, [], _++_, append-nil}
-use borrow.Author.Tests.{eqb-true}
+use borrow.Author.Tests.{eqb-true, ltb-true, ltb-false, lt-ltb, le-ltb}
 use lib.Dec.{eqb, ltb, lit<, lit≤}
 use lib.ListN.{length, length-append}
 use Rattle.calculus.specs.Syntax.{Term, var, lit, unit, anno, app, lam, merge, fix, rcd, proj, sum, choice}
 use Rattle.calculus.proofs.Bools.{by-test}
 use Rattle.format.specs.declared.Version.{Version}
 use Rattle.format.specs.declared.Version.the-variants.{One, Two}
-use Rattle.format.specs.Version.{halfOf}
+use Rattle.format.specs.Version.{halfOf, stored}
 use Rattle.format.specs.Table.{Sort, term-sort, Use, unused, plain, refers, Row, table, rowIn, rowFor, rowOf}
-use Rattle.format.specs.Cell.{IsBytes, byte, Cell, cellAt, cellBytes}
+use Rattle.format.specs.Cell.{IsBytes, byte, Cell, cellAt, cellBytes, signed}
 use Rattle.format.specs.Tree.{Tree, fieldTree, cellTree, treeAt}
 use Rattle.format.specs.Terms.{fromTerm, plainOf, toTermIn, TermFits, WideFits}
 use Rattle.format.specs.Book.{count, rootOf, versionOf, hasSort, cellFault, leadsTo, WellFormedCells, WellFormed, rootTerm, trailer}
-use Rattle.format.specs.Widths.{signField, extended, extendedCells, restamp, wideCell, wideCells}
+use Rattle.format.specs.Widths.{signField, extended, Extends, extendedCells, restamp, wideCell, wideCells}
 use Rattle.format.proofs.Trees.{term-cells, term-back}
 use Rattle.format.proofs.Unsharing.{cellTree-same, treeAt-cell}
 use Rattle.format.proofs.Tests.{FieldOk, Each, each, cellFault-says, cell-looser, cell-fits, rootTerm-tree, rootTerm-fits, rootTerm-small}
@@ -70,6 +70,30 @@ sign-fits c = by-test (λ x. x < 65536) (ltb c 32768) (λ h. lit< tt) (λ h. lit
 
 pub extended-kind : (t : Cell) → extended t .kind ≡ t .kind
 extended-kind t = by-kind (λ x. x .kind ≡ t .kind) t (λ e. refl) (λ e. refl)
+
+-- Extended by its sign, a number is the same number.
+same-number : (b c : ℕ) → b < 65536 → c < 65536 → signed (halfOf Two) (stored Two b c (signField c)) ≡ signed (halfOf One) (stored One 0 b c)
+unfolding signed
+same-number b c f g = go (ltb c 32768) refl
+  where
+    go : (x : Bool) → ltb c 32768 ≡ x → signed (halfOf Two) (stored Two b c (signField c)) ≡ signed (halfOf One) (stored One 0 b c)
+    go true e =
+        let l : c < 32768 = ltb-true c 32768 e in
+        let n : b + 65536 * (c + 65536 * 0) ≡ b + 65536 * c = omega arith in
+        rw (e, n, lt-ltb (b + 65536 * c) 140737488355328 (omega arith), lt-ltb (b + 65536 * c) 2147483648 (omega arith))
+    go false e =
+        let l : 32768 ≤ c = ltb-false c 32768 e in
+        let m : 281474976710656 - suc (b + 65536 * (c + 65536 * 65535)) ≡ 4294967296 - suc (b + 65536 * c) = omega arith in
+        rw (e, le-ltb (b + 65536 * (c + 65536 * 65535)) 140737488355328 (omega arith), le-ltb (b + 65536 * c) 2147483648 (omega arith), m)
+
+eqb-differs : {k : ℕ} → k ≡ 17 → ¬ (eqb k 17 ≡ false)
+eqb-differs e f = true≢false (rw e at f)
+
+extends : (t : Cell) → t .b < 65536 → t .c < 65536 → Extends t (extended t)
+extends t f g =
+    by-kind (Extends t) t
+    (λ e. record { kind = refl; label = refl; number = λ _. same-number (t .b) (t .c) f g; other = λ n. absurd (n e) })
+    (λ e. record { kind = refl; label = refl; number = λ k. absurd (eqb-differs k e); other = λ _. refl })
 
 field-widened : (g : ℕ → Tree) (i : ℕ) (u : Use) (x : ℕ) → fieldTree (λ j. widened One (g j)) i u x ≡ widened One (fieldTree g i u x)
 unfolding fieldTree widened
@@ -176,6 +200,9 @@ module _ (s : List ℕ) where
   pub restamp-cell : (i : ℕ) → i < count s → cellAt (restamp s) i ≡ extended (cellAt s i)
   unfolding restamp
   restamp-cell i h = extended-cell s (trailer Two (count s) (rootOf s)) (count s) i h
+
+  pub restamp-extends : IsBytes s → (i : ℕ) → i < count s → Extends (cellAt s i) (cellAt (restamp s) i)
+  restamp-extends y i h = let f = cell-fits s y i in rw (restamp-cell i h) (extends (cellAt s i) (f .2) (f .3))
 
   restamp-trailer : cellAt (restamp s) (count (restamp s)) ≡ record { kind = 0xf0; label = 2; a = count s; b = rootOf s; c = 0 }
   unfolding restamp trailer cellBytes

@@ -1,16 +1,16 @@
 -- Types and terms as trees: sizes agree, and a tree made of a type or a term is that type or term again. Assumes nothing.
-use Prim.Native.Nat.{ℕ, _+_, _*_, _/_, _%_, _≤_}
+use Prim.Native.Nat.{ℕ, _≤_}
 use mathlib.Core.Path.{_≡_, refl, ap, _∙_}
 use native.Mathlib.Omega.{arith}
 use Rattle.calculus.specs.Syntax.{Ty, int, top, arrow, inter, field}
 use Rattle.calculus.specs.Syntax.{Term, var, lit, unit, anno, app, lam, merge, fix, rcd, proj, sum, choice, size, size-type}
 use Rattle.format.specs.declared.Version.{Version}
 use Rattle.format.specs.declared.Version.the-variants.{One, Two}
-use Rattle.format.specs.Version.{halfOf, stored}
+use Rattle.format.specs.Version.{halfOf}
 use Rattle.format.specs.Cell.{signed, unsigned}
 use Rattle.format.specs.Tree.{cells}
 use Rattle.format.specs.Terms.{fromType, numberTree, fromTermIn, plainOf, toType, toTermIn, TermFits}
-use Rattle.format.proofs.Numbers.{signed-unsigned, unsigned-fits}
+use Rattle.format.proofs.Numbers.{signed-unsigned}
 
 pub type-cells : (A : Ty) → cells (fromType A) ≡ size-type A
 unfolding cells fromType size-type

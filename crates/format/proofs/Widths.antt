@@ -1,5 +1,5 @@
 -- A version's numbers in the one form that they have outside of books, and back. Assumes nothing.
-use Prim.Native.Nat.{ℕ, suc, _+_, _*_, _-_, _/_, _%_, _≤_, _<_}
+use Prim.Native.Nat.{suc, _+_, _*_, _-_, _/_, _%_, _<_}
 use mathlib.Core.Path.{_≡_, refl, ap, _∙_}
 use mathlib.Core.Bool.{cond, true, false}
 use native.Mathlib.Omega.{arith}
@@ -14,7 +14,7 @@ use Rattle.format.specs.declared.Version.the-variants.{One, Two}
 use Rattle.format.specs.Version.{halfOf}
 use Rattle.format.specs.Cell.{unsigned}
 use Rattle.format.specs.Tree.{Tree, raw, node}
-use Rattle.format.specs.Terms.{fromType, numberTree, fromTermIn, fromTerm, plainOf, TypeFits, TermFits}
+use Rattle.format.specs.Terms.{fromType, fromTermIn, fromTerm, plainOf, TermFits}
 use Rattle.format.specs.Widths.{signField}
 
 -- A tree of a book as it is outside of books: version 1's numbers extended.

@@ -1,5 +1,5 @@
 -- Types and terms as trees, and back: one line a row of the table of kinds; a number by the version of the book. Assumes nothing.
-use Prim.Native.Nat.{ℕ, _+_, _*_, _-_, _/_, _%_, _<_}
+use Prim.Native.Nat.{ℕ, _-_, _/_, _%_, _<_}
 use mathlib.Core.List.{[], _∷_}
 use lib.ListN.{getD}
 use lib.Signed.{mag}

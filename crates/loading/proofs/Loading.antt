@@ -2,16 +2,16 @@
 use Prim.Native.Nat.{ℕ, zero, suc, _+_, _*_, _≤_, _<_}
 use native.Mathlib.Omega.{arith}
 use mathlib.Core.Path.{_≡_, refl, ap, _∙_, sym}
-use mathlib.Core.Bool.{Bool, true, false}
-use mathlib.Core.Logic.{_⊎_, inl, inr}
-use mathlib.Core.Option.{some, Option·some-injective, Option·none-ne-some}
+use mathlib.Core.Bool.{Bool, true, false, not}
+use mathlib.Core.Logic.{_⊎_, inl, inr, ⊎-elim}
+use mathlib.Core.Option.{some}
 use mathlib.Core.List.{List}
-use lib.Dec.{T}
+use lib.Dec.{T, ltb, ltb→lt, nltb→le}
 use lib.ListN.{length}
 use lib.Seq.{sets}
 use Rattle.format.specs.declared.Version.{Version}
 use Rattle.format.specs.declared.Version.the-variants.{Two}
-use Rattle.format.specs.Table.{type-sort, term-sort, Use, unused, plain, refers, Row, table, rowOf}
+use Rattle.format.specs.Table.{Sort, type-sort, term-sort, Use, unused, plain, refers, Row, table, rowOf}
 use Rattle.format.specs.Cell.{IsBytes, Cell, cellAt, cellBytes}
 use Rattle.format.specs.Tree.{Tree, treeAt}
 use Rattle.format.specs.Terms.{toType}
@@ -19,9 +19,8 @@ use Rattle.format.specs.Book.{lowerOf, leadsTo}
 use Rattle.format.specs.Widths.{wideCell, wideCells}
 use Rattle.format.proofs.Restamping.{wide-cell, wide-sound, wide-bytes}
 use Rattle.format.proofs.Tests.{CellOk, cellFault-says, sortIs-says, cell-fits}
-use Rattle.cells.specs.Coded.{CellFits, rowFrom}
+use Rattle.cells.specs.Coded.{CellFits}
 use Rattle.cells.specs.declared.Cell.{Cell as Struct}
-use Rattle.cells.specs.declared.Entry.{Entry}
 use Rattle.cells.specs.Held.{mark, MarkIs, HeldField, f-unused, f-refers, Same}
 use Rattle.cells.proofs.Held.{mark-one, same-cell, same-field, row-passes, Written, written}
 use Rattle.cells.proofs.Unshared.{more, fields}
@@ -90,33 +89,38 @@ loaded-more {b} {s} {s′} {i} {c} k l w q m =
       leads = more (l .leads) (λ f. ap (λ (t : Cell). leadsTo i t f) (w .there .is) ∙ leads-third i (cellAt b i) c (k .row) (k .found) q f);
     }
 
--- the sort of an entry of the code's table
-type-row : (k : ℕ) (y : Entry) (r : Row) → rowFrom k y ≡ some r → y .sort ≡ 2 → r .sort ≡ type-sort
-type-row k y r e q = sym (ap (λ (x : Row). x .sort) (Option·some-injective _ r (rw q at e)))
+-- the kinds below 16 are types, the others terms
+abbrev sorted? : Row → Bool
+sorted? r = elim (r .sort) [ type-sort ↦ ltb (r .kind) 16 | term-sort ↦ not (ltb (r .kind) 16) ]
 
-term-row : (k : ℕ) (y : Entry) (r : Row) → rowFrom k y ≡ some r → (y .sort ≡ 2 → ⊥) → r .sort ≡ term-sort
-term-row k y r e u = go (y .sort) refl
+by-kind : (k : ℕ) (r : Row) → rowOf k ≡ some r → ((k < 16) × (r .sort ≡ type-sort)) ⊎ ((16 ≤ k) × (r .sort ≡ term-sort))
+unfolding table
+by-kind k r e = let v = row-passes sorted? tt k r e in rw (v .0) (go (r .sort) refl (v .1))
   where
-    go : (n : ℕ) → y .sort ≡ n → r .sort ≡ term-sort
-    go zero q = absurd (Option·none-ne-some r (rw q at e))
-    go (suc zero) q = absurd (Option·none-ne-some r (rw q at e))
-    go (suc (suc zero)) q = absurd (u q)
-    go (suc (suc (suc n))) q = sym (ap (λ (x : Row). x .sort) (Option·some-injective _ r (rw q at e)))
+    go : (o : Sort) → r .sort ≡ o → T (elim (r .sort) [ type-sort ↦ ltb (r .kind) 16 | term-sort ↦ not (ltb (r .kind) 16) ]) →
+        ((r .kind < 16) × (r .sort ≡ type-sort)) ⊎ ((16 ≤ r .kind) × (r .sort ≡ term-sort))
+    go type-sort q t = inl (ltb→lt (r .kind) 16 (rw q at t), q)
+    go term-sort q t = inr (nltb→le (r .kind) 16 (rw q at t), q)
 
--- Cell i of the book c before it is written: t as it was read and widened, y its row as the code found it.
-pub record Read (v : Version) (c s : List ℕ) (i : ℕ) (x t : Cell) (y : Entry) : Type 0 where
+type-row : (k : ℕ) (r : Row) → rowOf k ≡ some r → k < 16 → r .sort ≡ type-sort
+type-row k r e h = ⊎-elim (λ x. x .1) (λ x. absurd (omega (arith, x .0, h))) (by-kind k r e)
+
+term-row : (k : ℕ) (r : Row) → rowOf k ≡ some r → 16 ≤ k → r .sort ≡ term-sort
+term-row k r e h = ⊎-elim (λ x. absurd (omega (arith, x .0, h))) (λ x. x .1) (by-kind k r e)
+
+-- Cell i of the book c before it is written: t as it was read and widened.
+pub record Read (v : Version) (c s : List ℕ) (i : ℕ) (x t : Cell) : Type 0 where
   pub next : LoadsNext c s i v
   pub own : x ≡ cellAt c i
   pub cell : t ≡ wideCell v x
-  pub row : rowFrom (t .kind) y ≡ rowOf (t .kind)
   pub bytes : IsBytes c
 
 -- What field c is to hold.
-pub data NewThird (s : List ℕ) (t : Cell) (y : Entry) (c : ℕ) : Type 0 where
-  of-type : y .sort ≡ 2 → c ≡ markBy s t (t .kind) → NewThird s t y c
-  of-term : (y .sort ≡ 2 → ⊥) → c ≡ t .c → NewThird s t y c
+pub data NewThird (s : List ℕ) (t : Cell) (c : ℕ) : Type 0 where
+  of-type : t .kind < 16 → c ≡ markBy s t (t .kind) → NewThird s t c
+  of-term : 16 ≤ t .kind → c ≡ t .c → NewThird s t c
 
-module _ {v : Version} {c₀ s : List ℕ} {i : ℕ} {x t : Cell} {y : Entry} (n : Read v c₀ s i x t y) where
+module _ {v : Version} {c₀ s : List ℕ} {i : ℕ} {x t : Cell} (n : Read v c₀ s i x t) where
   abbrev b : List ℕ
   b = wideCells v c₀
 
@@ -126,41 +130,41 @@ module _ {v : Version} {c₀ s : List ℕ} {i : ℕ} {x t : Cell} {y : Entry} (n
   ok : CellOk Two b i
   ok = cellFault-says Two b i .0 (wide-sound v c₀ (n .next .count) (n .next .cells) i (n .next .within) (n .next .sound))
 
-  row : rowFrom (t .kind) y ≡ some (ok .row)
-  row = n .row ∙ ap (λ (x : Cell). rowOf (x .kind)) cell ∙ ok .found
+  row : rowOf (t .kind) ≡ some (ok .row)
+  row = ap (λ (x : Cell). rowOf (x .kind)) cell ∙ ok .found
 
-  type-cell : y .sort ≡ 2 → Names s i type-sort t (treeAt b i)
+  type-cell : t .kind < 16 → Names s i type-sort t (treeAt b i)
   type-cell q =
-      rw cell record { row = ok .row; found = ok .found; sort = type-row (t .kind) y (ok .row) row q; fields = fields ok (n .next .done .held) }
+      rw cell record { row = ok .row; found = ok .found; sort = type-row (t .kind) (ok .row) row q; fields = fields ok (n .next .done .held) }
 
-  type-marked : {c : ℕ} → y .sort ≡ 2 → c ≡ markBy s t (t .kind) → c ≡ mark (toType (treeAt b i))
+  type-marked : {c : ℕ} → t .kind < 16 → c ≡ markBy s t (t .kind) → c ≡ mark (toType (treeAt b i))
   type-marked q h = h ∙ marked (t .kind) (type-cell q) refl
 
-  pub ready : y .sort ≡ 2 → MarkReady s t
+  pub ready : t .kind < 16 → MarkReady s t
   ready q = mark-ready (type-cell q)
 
   fields-fit : (t .label < 256) × (t .a < 65536) × (t .b < 65536) × (t .c < 65536)
   fields-fit = rw cell (cell-fits b (wide-bytes v c₀ (n .bytes)) i)
 
-  third-fits : {c : ℕ} → NewThird s t y c → c < 65536
+  third-fits : {c : ℕ} → NewThird s t c → c < 65536
   third-fits (of-type q h) = omega (arith, mark-one (toType (treeAt b i)), type-marked q h)
   third-fits (of-term q h) = rw h (fields-fit .3)
 
-  third-kept : {c : ℕ} → NewThird s t y c → Kept (ok .row .c) c (cellAt b i .c)
-  third-kept (of-type q h) = inl (type-third (cellAt b i .kind) (ok .row) (ok .found) (type-row (t .kind) y (ok .row) row q))
+  third-kept : {c : ℕ} → NewThird s t c → Kept (ok .row .c) c (cellAt b i .c)
+  third-kept (of-type q h) = inl (type-third (cellAt b i .kind) (ok .row) (ok .found) (type-row (t .kind) (ok .row) row q))
   third-kept (of-term q h) = inr (h ∙ ap (λ (x : Cell). x .c) cell)
 
-  third-marked : {c : ℕ} → NewThird s t y c → MarkIs (ok .row .sort) c (treeAt b i)
-  third-marked (of-type q h) = rw (type-row (t .kind) y (ok .row) row q) (type-marked q h)
-  third-marked (of-term q h) = rw (term-row (t .kind) y (ok .row) row q) tt
+  third-marked : {c : ℕ} → NewThird s t c → MarkIs (ok .row .sort) c (treeAt b i)
+  third-marked (of-type q h) = rw (type-row (t .kind) (ok .row) row q) (type-marked q h)
+  third-marked (of-term q h) = rw (term-row (t .kind) (ok .row) row q) tt
 
   pub room : 8 * i + 8 ≤ length s
   room = omega (arith, n .next .done .long, n .next .few)
 
-  pub fits : {z : Struct} → z .a ≡ t .a → z .b ≡ t .b → NewThird s t y (z .c) → CellFits z
+  pub fits : {z : Struct} → z .a ≡ t .a → z .b ≡ t .b → NewThird s t (z .c) → CellFits z
   fits p q h = record { a = rw p (fields-fit .1); b = rw q (fields-fit .2); c = third-fits h }
 
-  pub loaded : {s′ : List ℕ} {c : ℕ} → NewThird s t y c
+  pub loaded : {s′ : List ℕ} {c : ℕ} → NewThird s t c
       → s′ ≡ sets s (8 * i) (cellBytes (record { kind = t .kind; label = t .label; a = t .a; b = t .b; c = c })) → Loaded b s′ (i + 1)
   loaded h g =
       let w = rw cell at (written _ room g) in

@@ -1,7 +1,6 @@
 // Loads the cells of a book into a buffer: each cell as it stands, but that a number of version 1 is extended to 48 bits, and that field c of a type
 // cell, which no type names, says whether the type is top-like. One ascending loop: what a cell refers to stands below it.
 use cells::Cell;
-use cells::entry_of;
 use cells::read_cell;
 use cells::write_cell;
 use format::Version;
@@ -12,6 +11,9 @@ ghost use Rattle.format.specs.Widths.{wideCells};
 ghost use Rattle.cells.specs.Coded.{asCell};
 ghost use Rattle.loading.specs.Loaded.{Loadable, Loaded, LoadsNext};
 ghost use Rattle.loading.specs.Marks.{MarkReady, markBy};
+
+// Types are the kinds below this one.
+const FIRST_TERM: u8 = 16;
 
 // The mark of the type of a cell, from the marks of the cells it refers to.
 pub fn mark_of(s: &[u8], t: Cell) -> usize
@@ -40,7 +42,7 @@ fn load_cell(b: &[u8], s: &mut [u8], i: usize, version: Version)
     ensures { λ _. ⌜ Loaded (wideCells version (now (b .entry))) (now (s .exit)) (i + 1) ⌝ }
 {
     let t = widen(version, read_cell(b, i));
-    let c = if entry_of(t.kind).sort == 2 {
+    let c = if t.kind < FIRST_TERM {
         mark_of(s, t)
     } else {
         t.c

@@ -39,13 +39,12 @@ pub record AllGoing (u : Version) (l : ℕ) (s₀ w₀ : List ℕ) (x₀ : Focus
   pub work : length w ≡ 65536
   pub first : FocusReady w₀ x₀
   pub settled : Settled (x .focus)
-  pub version : x .version ≡ u
   pub taken : x .steps ≤ l
   pub says : (e₀ : Term) → Standing w₀ x₀ e₀ → Runnable e₀ → Going u l e₀ w x
 
-pub going-first : {u : Version} {l n : ℕ} {s t w v : List ℕ} {x : Focus} → StepReady s w n → length t ≡ length s → Starts w v n x →
-    AllGoing u l t v x t v (record { version = u; focus = x; steps = 0 })
-going-first d k s =
+pub going-first : (u : Version) {l n : ℕ} {s t w v : List ℕ} {x : Focus} → StepReady s w n → length t ≡ length s → Starts w v n x →
+    AllGoing u l t v x t v (record { focus = x; steps = 0 })
+going-first u d k s =
     let h = d .at in
     record {
       same = refl;
@@ -53,7 +52,6 @@ going-first d k s =
       work = s .long;
       first = record { term = h .term; standing = s .says (h .term) (h .type) (h .encoded) (h .typed); runnable = encoded-runnable (h .encoded) (h .typed) };
       settled = s .settled;
-      version = refl;
       taken = omega arith;
       says = λ e h t. record { term = e; standing = h; runnable = t; left = rw sub-zero };
     }
@@ -68,32 +66,28 @@ module _ {u : Version} {l : ℕ} {s₀ w₀ s w : List ℕ} {x₀ : Focus} {x : 
       record { long = g .long; ready = record { term = now .term; standing = now .standing; runnable = now .runnable }; settled = g .settled; taken = g .taken }
 
 module _ {u : Version} {l : ℕ} {s₀ w₀ s w v : List ℕ} {x₀ : Focus} {x : State} {r : Turn} (g : AllGoing u l s₀ w₀ x₀ s w x) where
-  -- a turn, in the version of the run
-  turn : Steps w v x l r → (e : Term) → Standing w (x .focus) e → Runnable e → TurnOf u v (x .focus) (x .steps) l e r
-  turn o e s t = subst (λ (z : Version). TurnOf z v (x .focus) (x .steps) l e r) (g .version) (o .says e s t)
-
   -- a turn that goes on took one step of those left
-  going-more : {y : State} → Steps w v x l r → r ≡ Next y → (y .steps ≡ x .steps + 1) × (x .steps < l) × Settled (y .focus) × (y .version ≡ u)
-  going-more {y} o q = by (turn o (now g .term) (now g .standing) (now g .runnable))
+  going-more : {y : State} → Steps u w v x l r → r ≡ Next y → (y .steps ≡ x .steps + 1) × (x .steps < l) × Settled (y .focus)
+  going-more {y} o q = by (o .says (now g .term) (now g .standing) (now g .runnable))
     where
-      by : TurnOf u v (x .focus) (x .steps) l (now g .term) r → (y .steps ≡ x .steps + 1) × (x .steps < l) × Settled (y .focus) × (y .version ≡ u)
+      by : TurnOf u v (x .focus) (x .steps) l (now g .term) r → (y .steps ≡ x .steps + 1) × (x .steps < l) × Settled (y .focus)
       by (t-value a c i) = let z : _≡_ {A = ℕ} 0 1 = cc in absurd (omega arith)
       by (t-spent a b c i) = let z : _≡_ {A = ℕ} 0 1 = cc in absurd (omega arith)
       by (t-room a b d f c i) = let z : _≡_ {A = ℕ} 0 1 = cc in absurd (omega arith)
-      by (t-next {y = n} a b d m c e j k i) =
+      by (t-next {y = n} a b d m c j k i) =
           let z : n ≡ y = cc in
-          (ap (λ (n : State). n .steps) (sym z) ∙ j, b, subst (λ (n : State). Settled (n .focus)) z k, ap (λ (n : State). n .version) (sym z) ∙ e)
+          (ap (λ (n : State). n .steps) (sym z) ∙ j, b, subst (λ (n : State). Settled (n .focus)) z k)
 
-  pub going-less : {y : State} → Steps w v x l r → r ≡ Next y → l - y .steps < l - x .steps
+  pub going-less : {y : State} → Steps u w v x l r → r ≡ Next y → l - y .steps < l - x .steps
   going-less o q = let m = going-more o q in omega (arith, m .0, m .1)
 
-  pub going-next : {t : List ℕ} {y : State} → length t ≡ length s → length v ≡ length w → Steps w v x l r → r ≡ Next y → AllGoing u l s₀ w₀ x₀ t v y
+  pub going-next : {t : List ℕ} {y : State} → length t ≡ length s → length v ≡ length w → Steps u w v x l r → r ≡ Next y → AllGoing u l s₀ w₀ x₀ t v y
   going-next {y = y} a b o q =
       let m = going-more o q in
-      record { same = a ∙ g .same; long = omega (arith, a, g .long); work = b ∙ g .work; first = g .first; settled = m .2; version = m .3; taken = omega (arith, m .0, m .1); says = go }
+      record { same = a ∙ g .same; long = omega (arith, a, g .long); work = b ∙ g .work; first = g .first; settled = m .2; taken = omega (arith, m .0, m .1); says = go }
     where
       go : (e₀ : Term) → Standing w₀ x₀ e₀ → Runnable e₀ → Going u l e₀ v y
-      go e₀ i t = by (turn o (p .term) (p .standing) (p .runnable))
+      go e₀ i t = by (o .says (p .term) (p .standing) (p .runnable))
         where
           p : Going u l e₀ w x
           p = g .says e₀ i t
@@ -102,7 +96,7 @@ module _ {u : Version} {l : ℕ} {s₀ w₀ s w v : List ℕ} {x₀ : Focus} {x 
           by (t-value a c i) = let z : _≡_ {A = ℕ} 0 1 = cc in absurd (omega arith)
           by (t-spent a b c i) = let z : _≡_ {A = ℕ} 0 1 = cc in absurd (omega arith)
           by (t-room a b d f c i) = let z : _≡_ {A = ℕ} 0 1 = cc in absurd (omega arith)
-          by (t-next {f = f} {y = n} a b d m h _ j k i) =
+          by (t-next {f = f} {y = n} a b d m h j k i) =
               let z : n ≡ y = cc in
               let c = x .steps in
               let c′ : y .steps ≡ suc c = ap (λ (n : State). n .steps) (sym z) ∙ j ∙ omega arith in
@@ -116,8 +110,8 @@ module _ {u : Version} {l : ℕ} {s₀ w₀ s w v : List ℕ} {x₀ : Focus} {x 
               }
 
   -- a turn that ends the run leaves the term where it stands
-  ending-ready : {y : Focus} {z : Stop} → Steps w v x l r → r ≡ Ended z y → FocusReady v y
-  ending-ready {y} {z} o q = by (turn o (now g .term) (now g .standing) (now g .runnable))
+  ending-ready : {y : Focus} {z : Stop} → Steps u w v x l r → r ≡ Ended z y → FocusReady v y
+  ending-ready {y} {z} o q = by (o .says (now g .term) (now g .standing) (now g .runnable))
     where
       at : x .focus ≡ y → Standing v (x .focus) (now g .term) → FocusReady v y
       at e i = record { term = now g .term; standing = subst (λ (d : Focus). Standing v d (now g .term)) e i; runnable = now g .runnable }
@@ -126,17 +120,17 @@ module _ {u : Version} {l : ℕ} {s₀ w₀ s w v : List ℕ} {x₀ : Focus} {x 
       by (t-value a c i) = let e : x .focus ≡ y = cc in at e i
       by (t-spent a b c i) = let e : x .focus ≡ y = cc in at e i
       by (t-room a b d f c i) = let e : x .focus ≡ y = cc in at e i
-      by (t-next a b d m c _ j k i) = let z : _≡_ {A = ℕ} 0 1 = cc in absurd (omega arith)
+      by (t-next a b d m c j k i) = let z : _≡_ {A = ℕ} 0 1 = cc in absurd (omega arith)
 
-  pub ending-whole : {t : List ℕ} {y : Focus} {z : Stop} → length t ≡ length s → Steps w v x l r → r ≡ Ended z y → WholeReady t v y
+  pub ending-whole : {t : List ℕ} {y : Focus} {z : Stop} → length t ≡ length s → Steps u w v x l r → r ≡ Ended z y → WholeReady t v y
   ending-whole a o q = record { long = omega (arith, a, g .long); ready = ending-ready o q }
 
-  pub going-ends : {y : Focus} {z : Stop} {a₁ : List ℕ} {m : ℕ} → Steps w v x l r → r ≡ Ended z y → EncodesWhole v a₁ y m →
+  pub going-ends : {y : Focus} {z : Stop} {a₁ : List ℕ} {m : ℕ} → Steps u w v x l r → r ≡ Ended z y → EncodesWhole v a₁ y m →
       {a : List ℕ} {n : ℕ} → Starts a w₀ n x₀ → Runs u a a₁ n l (record { stop = z; cells = m })
   going-ends {y} {z} {a₁} {m} o q d b = record { says = λ e A i t. go e (b .says e A i t) (encoded-runnable i t) }
     where
       go : (e₀ : Term) → Standing w₀ x₀ e₀ → Runnable e₀ → RunOf u a₁ l e₀ (record { stop = z; cells = m })
-      go e₀ i t = by (turn o (p .term) (p .standing) (p .runnable))
+      go e₀ i t = by (o .says (p .term) (p .standing) (p .runnable))
         where
           p : Going u l e₀ w x
           p = g .says e₀ i t
@@ -170,4 +164,4 @@ module _ {u : Version} {l : ℕ} {s₀ w₀ s w v : List ℕ} {x₀ : Focus} {x 
               done Answer.room
               (ap (λ (n : ℕ). evaluate (halfOf u) sizeLimit n (x .steps) (p .term)) (omega arith) ∙ evaluate-room (halfOf u) sizeLimit (l - suc (x .steps)) (x .steps) (p .term) f a h′ f′)
               (rw (← b)) e i
-          by (t-next a c h′ f′ h _ j k i) = let x : _≡_ {A = ℕ} 0 1 = cc in absurd (omega arith)
+          by (t-next a c h′ f′ h j k i) = let x : _≡_ {A = ℕ} 0 1 = cc in absurd (omega arith)

@@ -37,7 +37,7 @@ whole-value s = ap value? (s .is ∙ ap (λ (K : List Around). whole K (s .focus
 redex-none : {w : List ℕ} {p : Place} {e : Term} → Standing w (Redex p) e → value? e ≡ false
 redex-none s = ap value? (s .is) ∙ no-value (s .around) (s .focus) (s .proper) (redex-value (s .at .parts))
 
-pub turn-value : {w : List ℕ} {x : State} {l : ℕ} → Settled (x .focus) → ((p : Place) → x .focus ≡ Redex p → ⊥) → Steps w w x l (Ended (Value (x .steps)) (x .focus))
+pub turn-value : {u : Version} {w : List ℕ} {x : State} {l : ℕ} → Settled (x .focus) → ((p : Place) → x .focus ≡ Redex p → ⊥) → Steps u w w x l (Ended (Value (x .steps)) (x .focus))
 turn-value {w} {x} {l} h n = record { says = λ e s r. t-value (go (x .focus) refl e (s)) refl s }
   where
     go : (y : Focus) → x .focus ≡ y → (e : Term) → Standing w (x .focus) e → value? e ≡ true
@@ -67,35 +67,35 @@ module _ {w : List ℕ} {y : Focus} {p : Place} (q : y ≡ Redex p) where
             record { term = g; standing = subst (λ (d : Focus). Standing v d g) i t; runnable = next-runnable u (h .runnable) n l }
         by g n (c-full u k t) = let z : _≡_ {A = ℕ} 0 1 = cc in absurd (omega arith)
 
-pub turn-spent : {w : List ℕ} {x : State} {l : ℕ} {p : Place} → x .focus ≡ Redex p → x .steps ≡ l → Steps w w x l (Ended (Spent (x .steps)) (Redex p))
+pub turn-spent : {u : Version} {w : List ℕ} {x : State} {l : ℕ} {p : Place} → x .focus ≡ Redex p → x .steps ≡ l → Steps u w w x l (Ended (Spent (x .steps)) (Redex p))
 turn-spent {x = x} q h = record { says = λ e s r. t-spent (redex-none (at q s)) h (ap (Ended (Spent (x .steps))) (sym q)) s }
 
-module _ {w v : List ℕ} (x : State) {l : ℕ} {p : Place} {o : Contracted} (q : x .focus ≡ Redex p) (c : Contracts (halfOf (x .version)) w v p o) (le : x .steps ≤ l) (ne : x .steps ≡ l → ⊥) where
+module _ (u : Version) {w v : List ℕ} {x : State} {l : ℕ} {p : Place} {o : Contracted} (q : x .focus ≡ Redex p) (c : Contracts (halfOf u) w v p o) (le : x .steps ≤ l) (ne : x .steps ≡ l → ⊥) where
   h : x .steps < l
   h = omega arith
 
-  pub turn-room : o ≡ Full → Steps w v x l (Ended (Room (x .steps)) (Redex p))
+  pub turn-room : o ≡ Full → Steps u w v x l (Ended (Room (x .steps)) (Redex p))
   turn-room f = record { says = go }
     where
-      go : (e : Term) → Standing w (x .focus) e → Runnable e → TurnOf (x .version) v (x .focus) (x .steps) l e (Ended (Room (x .steps)) (Redex p))
-      go e s r = let a = contracted q (x .version) c s r in by (a .0) (a .1) (a .2)
+      go : (e : Term) → Standing w (x .focus) e → Runnable e → TurnOf u v (x .focus) (x .steps) l e (Ended (Room (x .steps)) (Redex p))
+      go e s r = let a = contracted q u c s r in by (a .0) (a .1) (a .2)
         where
-          by : (g : Term) → next (halfOf (x .version)) e ≡ some g → ContractsTo w v g o → TurnOf (x .version) v (x .focus) (x .steps) l e (Ended (Room (x .steps)) (Redex p))
+          by : (g : Term) → next (halfOf u) e ≡ some g → ContractsTo w v g o → TurnOf u v (x .focus) (x .steps) l e (Ended (Room (x .steps)) (Redex p))
           by g n (c-to u z y) = let z : _≡_ {A = ℕ} 0 1 = cc in absurd (omega arith)
           by g n (c-full u z y) =
               t-room (redex-none (at q s)) h n (lt-ltb sizeLimit (size g) u) (ap (Ended (Room (x .steps))) (sym q)) (subst (λ (d : List ℕ). Standing d (x .focus) e) (sym y) s)
 
-  pub turn-next : {y z : Focus} {u : List ℕ} → o ≡ To y → Settles v u y z → Steps w u x l (Next (record { version = x .version; focus = z; steps = x .steps + 1 }))
-  turn-next {y} {z} {u} f t = record { says = go }
+  pub turn-next : {y z : Focus} {a : List ℕ} → o ≡ To y → Settles v a y z → Steps u w a x l (Next (record { focus = z; steps = x .steps + 1 }))
+  turn-next {y} {z} {a} f t = record { says = go }
     where
-      go : (e : Term) → Standing w (x .focus) e → Runnable e → TurnOf (x .version) u (x .focus) (x .steps) l e (Next (record { version = x .version; focus = z; steps = x .steps + 1 }))
-      go e s r = let a = contracted q (x .version) c s r in by (a .0) (a .1) (a .2)
+      go : (e : Term) → Standing w (x .focus) e → Runnable e → TurnOf u a (x .focus) (x .steps) l e (Next (record { focus = z; steps = x .steps + 1 }))
+      go e s r = let k = contracted q u c s r in by (k .0) (k .1) (k .2)
         where
-          by : (g : Term) → next (halfOf (x .version)) e ≡ some g → ContractsTo w v g o → TurnOf (x .version) u (x .focus) (x .steps) l e (Next (record { version = x .version; focus = z; steps = x .steps + 1 }))
+          by : (g : Term) → next (halfOf u) e ≡ some g → ContractsTo w v g o → TurnOf u a (x .focus) (x .steps) l e (Next (record { focus = z; steps = x .steps + 1 }))
           by g n (c-to {x = d} b k m) =
               let i : d ≡ y = cc in
-              t-next (redex-none (at q s)) h n (le-ltb sizeLimit (size g) b) refl refl refl (t .settled)
-              (t .moves .says g (subst (λ (d : Focus). Standing v d g) i m) (next-runnable (x .version) r n b))
+              t-next (redex-none (at q s)) h n (le-ltb sizeLimit (size g) b) refl refl (t .settled)
+              (t .moves .says g (subst (λ (d : Focus). Standing v d g) i m) (next-runnable u r n b))
           by g n (c-full b k m) = let z : _≡_ {A = ℕ} 0 1 = cc in absurd (omega arith)
 
 -- the tag of a redex is none of the others'

@@ -68,11 +68,11 @@ pub data TurnOf (u : Version) (v : List ℕ) (x : Focus) (k l : ℕ) (e : Term) 
   t-room : {f : Term} → value? e ≡ false → k < l → next (halfOf u) e ≡ some f → ltb sizeLimit (size f) ≡ true → r ≡ Ended (Room k) x → Standing v x e →
       TurnOf u v x k l e r
   t-next : {f : Term} {y : State} → value? e ≡ false → k < l → next (halfOf u) e ≡ some f → ltb sizeLimit (size f) ≡ false → r ≡ Next y →
-      y .version ≡ u → y .steps ≡ k + 1 → Settled (y .focus) → Standing v (y .focus) f → TurnOf u v x k l e r
+      y .steps ≡ k + 1 → Settled (y .focus) → Standing v (y .focus) f → TurnOf u v x k l e r
 
 -- One turn of the term that stands there.
-pub record Steps (w v : List ℕ) (x : State) (l : ℕ) (r : Turn) : Type 0 where
-  pub says : (e : Term) → Standing w (x .focus) e → Runnable e → TurnOf (x .version) v (x .focus) (x .steps) l e r
+pub record Steps (u : Version) (w v : List ℕ) (x : State) (l : ℕ) (r : Turn) : Type 0 where
+  pub says : (e : Term) → Standing w (x .focus) e → Runnable e → TurnOf u v (x .focus) (x .steps) l e r
 
 -- A term that has its place, and a buffer to encode it in.
 pub record WholeReady (s w : List ℕ) (x : Focus) : Type 0 where

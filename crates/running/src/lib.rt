@@ -49,9 +49,8 @@ pub enum Focus {
     Whole(Place),
 }
 
-// The version of the book, by which sums are held, the focus and the steps taken.
+// The focus and the steps taken. The version of the book, by which sums are held, goes with it.
 pub struct State {
-    pub version: Version,
     pub focus: Focus,
     pub steps: u32,
 }
@@ -545,11 +544,10 @@ fn contract(s: &mut [u8], w: &mut [u8], p: Place, version: Version) -> Contracte
 }
 
 // One turn: value, then spent, then room. Of s nothing is decided.
-pub fn step(s: &mut [u8], w: &mut [u8], state: State, limit: u32) -> Turn
+pub fn step(s: &mut [u8], w: &mut [u8], state: State, limit: u32, version: Version) -> Turn
     requires { ⌜ TurnReady (now s) (now w) state limit ⌝ }
-    ensures { λ r. ⌜ Steps (now (w .entry)) (now (w .exit)) state limit r ⌝ }
+    ensures { λ r. ⌜ Steps version (now (w .entry)) (now (w .exit)) state limit r ⌝ }
 {
-    let version = state.version;
     let focus = state.focus;
     let k = state.steps;
     let Focus::Redex(p) = focus else {
@@ -563,7 +561,6 @@ pub fn step(s: &mut [u8], w: &mut [u8], state: State, limit: u32) -> Turn
     };
     let next = settle(w, x);
     Turn::Next(State {
-        version,
         focus: next,
         steps: k + 1,
     })
@@ -665,12 +662,11 @@ pub fn run_on(s: &mut [u8], w: &mut [u8], n: usize, limit: u32, version: Version
     ensures { λ r. ⌜ Runs version (now (w .entry)) (now (w .exit)) n limit r ⌝ }
 {
     let mut state = State {
-        version,
         focus: start(s, w, n),
         steps: 0,
     };
     loop {
-        match step(s, w, state, limit) {
+        match step(s, w, state, limit, version) {
             Turn::Next(next) => {
                 state = next;
             }

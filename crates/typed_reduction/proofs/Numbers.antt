@@ -9,7 +9,7 @@ use lib.ListN.{length}
 use Rattle.calculus.specs.Syntax.{int, Term}
 use Rattle.calculus.specs.Evaluate.{castInt, cast}
 use Rattle.format.specs.declared.Version.the-variants.{Two}
-use Rattle.format.specs.Version.{halfOf, stored}
+use Rattle.format.specs.Version.{stored}
 use Rattle.format.specs.Cell.{IsBytes, Cell, cellAt}
 use Rattle.cells.proofs.Held.{lit-at, held-within}
 use Rattle.emission.specs.Runs.{RunsTerm}

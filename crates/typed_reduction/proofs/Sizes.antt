@@ -8,7 +8,6 @@ use native.Mathlib.Omega.{arith}
 use Rattle.calculus.specs.Syntax.{Ty, inter, field, size-type, Term, merge, rcd, size}
 use Rattle.format.specs.declared.Version.the-variants.{Two}
 use Rattle.format.specs.Table.{type-sort, term-sort, Use}
-use Rattle.format.specs.Cell.{Cell, cellAt}
 use Rattle.format.specs.Tree.{Tree, cells, fieldTree, cellTree, treeAt}
 use Rattle.format.proofs.Unsharing.{fieldTree-lower, treeAt-cell}
 use Rattle.format.proofs.Trees.{type-cells, term-cells}

@@ -1,5 +1,5 @@
 -- `book::version_from` meets its contract. Assumes nothing.
-use mathlib.Core.Path.{refl, sym}
+use mathlib.Core.Path.{refl}
 use borrow.Author.Tests.{ne-eqb}
 use Rattle.book.proofs.version_from.Statement.{statement}
 use Rattle.book.proofs.version_from.Tie as tie

@@ -1,26 +1,38 @@
--- `cells::entry_for` meets its contract: the table's rule by one computed test. Assumes nothing.
+-- `cells::entry_for` meets its contract. Assumes nothing.
 use native.Mathlib.Omega.{arith}
+use mathlib.Core.Path.{_∙_}
 use Rattle.format.specs.Table.{table}
-use Rattle.cells.proofs.Table.{right-at}
+use Rattle.cells.proofs.Table.{number-of-one, other-row}
 use borrow.Author.Needs.{needs}
 use Rattle.cells.proofs.entry_for.Statement.{statement}
 use Rattle.cells.proofs.entry_for.Tie as tie
 
-place-for-requires : tie.Need-place-for-requires
-place-for-requires c κs = search needs
+entry-of-requires : tie.Need-entry-of-requires
+entry-of-requires c κs = search needs
 
-mul-entry-at : tie.Need-mul-entry-at
-mul-entry-at c = search needs
+returns : tie.Need-returns
+returns c =
+    let at = c .before .before .args in
+    c .entry-of .ensures ∙ other-row (at .version) (at .kind) (c .before .if1 .taken) (omega arith)
 
-array-read-entry-at : tie.Need-array-read-entry-at
-array-read-entry-at c = search needs
+enum-told : tie.Need-enum-told
+enum-told c = search needs
 
 entry-at-requires : tie.Need-entry-at-requires
 entry-at-requires c κs = search needs
 
-returns : tie.Need-returns
+enum-told-2 : tie.Need-enum-told-2
+enum-told-2 c = search needs
+
+entry-of-requires-2 : tie.Need-entry-of-requires-2
+entry-of-requires-2 c κs = search needs
+
+returns-2 : tie.Need-returns-2
 unfolding table
-returns c = rw (c .entry-at .ensures) (right-at (c .before .before .args .version) (c .before .before .args .kind) _ (c .before .place-for .ensures .0) (omega arith))
+returns-2 c = rw (c .entry-at .ensures, c .before .enum-told .given .1, c .before .before .before .if1 .left) number-of-one
+
+returns-3 : tie.Need-returns-3
+returns-3 c = rw (c .before .enum-told2 .given .1) (c .entry-of2 .ensures)
 
 pub entry-for-spec : {M : Type 1} → statement M
-entry-for-spec = tie.close (tie.spec place-for-requires mul-entry-at array-read-entry-at entry-at-requires returns)
+entry-for-spec = tie.close (tie.spec entry-of-requires returns enum-told entry-at-requires enum-told-2 entry-of-requires-2 returns-2 returns-3)

@@ -1,5 +1,4 @@
 -- `layout::close_term` meets its contract. Assumes nothing.
-use native.Mathlib.Omega.{arith}
 use Rattle.layout.proofs.Encoded.{narrowed-some, closes-narrowed, wide-some, closes-wide}
 use borrow.Author.Needs.{needs}
 use Rattle.layout.proofs.close_term.Statement.{statement}

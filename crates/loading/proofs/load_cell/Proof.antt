@@ -7,26 +7,18 @@ use Rattle.loading.proofs.Loading.{Read, NewThird, of-type, of-term, re
 use Rattle.loading.proofs.load_cell.Statement.{statement}
 use Rattle.loading.proofs.load_cell.Tie as tie
 
--- the cell and its row, once both are read
-read : (c : tie.After-entry-of) →
-    let w = c .before in
-    let at = w .before .before .before .before .args in
-    Read (at .version) (at .b .now) (at .s .now) (at .i) (asCell (w .before .read-cell .result)) (asCell (w .widen .result)) (c .entry-of .result)
+-- the cell, once it is read
+read : (c : tie.After-widen) →
+    let at = c .before .before .before .before .args in
+    Read (at .version) (at .b .now) (at .s .now) (at .i) (asCell (c .before .read-cell .result)) (asCell (c .widen .result))
 read c =
-    let w = c .before in
-    let at = w .before .before .before in
-    record {
-      next = at .before .pre;
-      own = w .before .read-cell .ensures;
-      cell = w .widen .ensures;
-      row = c .entry-of .ensures;
-      bytes = λ j. at .shared-slice-known .given j .fits;
-    }
+    let at = c .before .before .before in
+    record { next = at .before .pre; own = c .before .read-cell .ensures; cell = c .widen .ensures; bytes = λ j. at .shared-slice-known .given j .fits }
 
 -- its field c, once it is found
 third : (c : tie.Joined1) →
     let at = c .before .before in
-    NewThird (at .before .before .before .before .before .args .s .now) (asCell (at .before .widen .result)) (at .entry-of .result) (c .if1 .c)
+    NewThird (at .before .before .before .before .args .s .now) (asCell (at .widen .result)) (c .if1 .c)
 third c =
     ⊎-elim (λ w. of-type (w .0 .taken) (rw (w .3) (w .2 .ensures))) (λ w. of-term (w .0 .left) (rw (w .1))) (c .if1 .came)
 
@@ -35,9 +27,6 @@ read-cell-requires c κs = search needs
 
 widen-requires : tie.Need-widen-requires
 widen-requires c κs = search needs
-
-entry-of-requires : tie.Need-entry-of-requires
-entry-of-requires c κs = search needs
 
 mark-of-requires : tie.Need-mark-of-requires
 mark-of-requires c κs = ready (read (c .before .before .before)) (c .before .if1 .taken)
@@ -55,4 +44,4 @@ returns c =
 pub load-cell-spec : {M : Type 1} → statement M
 load-cell-spec =
     tie.close
-    (tie.spec read-cell-requires widen-requires entry-of-requires mark-of-requires write-cell-requires same-length returns)
+    (tie.spec read-cell-requires widen-requires mark-of-requires write-cell-requires same-length returns)

@@ -6,11 +6,11 @@ use Rattle.running.proofs.run_on.Statement.{statement}
 use Rattle.running.proofs.run_on.Tie as tie
 
 abbrev Inv-loop : tie.InvT-loop
-Inv-loop s₀ w₀ n limit state₀ s w state =
-    AllGoing (state₀ .version) limit s₀ w₀ (state₀ .focus) s w state
+Inv-loop s₀ w₀ n limit version state₀ s w state =
+    AllGoing version limit s₀ w₀ (state₀ .focus) s w state
 
 abbrev μ-loop : tie.MeasureT-loop
-μ-loop s₀ w₀ n limit state₀ s w state =
+μ-loop s₀ w₀ n limit version state₀ s w state =
     limit - state .steps
 
 start-requires : tie.Need-start-requires Inv-loop μ-loop
