@@ -56,7 +56,7 @@ fn the_stated_answers_are_given() {
 }
 
 /// The faults of one version, or of telling them apart.
-const FAULTS: [Fault; 32] = [
+const FAULTS: [Fault; 34] = [
     Fault::OlderVersions,
     Fault::ThirdVersion,
     Fault::VersionZero,
@@ -80,6 +80,8 @@ const FAULTS: [Fault; 32] = [
     Fault::WideSumWraps,
     Fault::WideSumShortAbove,
     Fault::WideSumShortBelow,
+    Fault::LostToVersion1,
+    Fault::LostToVersion2,
     Fault::ConsistentWithoutA,
     Fault::ConsistentWithoutB,
     Fault::ConsistentWithoutC,
