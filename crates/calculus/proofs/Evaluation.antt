@@ -13,7 +13,7 @@ use Rattle.calculus.specs.Syntax.{Value, v-lit, v-unit, v-lam, v-merge, 
 use Rattle.calculus.specs.Numbers.{hold}
 use Rattle.calculus.specs.TypedReduction.{Cast}
 use Rattle.calculus.specs.Fields.{HasField, f-here, f-left, f-right}
-use Rattle.calculus.specs.Typing.{Typed, t-anno, t-app, t-rcd, t-proj, t-sum, t-choice}
+use Rattle.calculus.specs.Typing.{Typed, HasType, t-anno, t-app, t-rcd, t-proj, t-sum, t-choice}
 use Rattle.calculus.specs.Step.{Step, s-app-left, s-app-right, s-merge-left, s-merge-right, s-anno, s-rcd, s-proj, s-cast, s-beta}
 use Rattle.calculus.specs.Step.{s-app-unit, s-proj-unit, s-proj-rcd, s-proj-part, s-proj-none, s-fix, s-sum-left, s-sum-right, s-sum, s-choice-first, s-choice}
 use Rattle.calculus.specs.Decide.{topLike?, FieldPart, no-part, top-part, more-parts, one-part, fieldPart, value?, typeOf}
@@ -141,47 +141,43 @@ content-some (f-here {l} {A} v n) = rw (typeOf-says v, T-true {b = eqb l l && no
 content-some (f-left f) = some-left _ (content-some f)
 content-some (f-right f) = some-right _ (content-some f)
 
--- e has a type
-abbrev HasType : Term → Type 0
-HasType e = (A : Ty) × Typed [] e A
-
--- the parts that run have one too
-anno-typed : {e : Term} {A : Ty} → HasType (anno e A) → HasType e
+-- the parts of a typed term that run are typed too
+pub anno-typed : {e : Term} {A : Ty} → HasType [] (anno e A) → HasType [] e
 anno-typed (B, t-anno t b) = (_, t)
 
-app-typed : {e f : Term} → HasType (app e f) → HasType e × HasType f
+app-typed : {e f : Term} → HasType [] (app e f) → HasType [] e × HasType [] f
 app-typed (A, t-app t a u b) = ((_, t), (_, u))
 
-merge-typed : {e f : Term} → HasType (merge e f) → HasType e × HasType f
+merge-typed : {e f : Term} → HasType [] (merge e f) → HasType [] e × HasType [] f
 merge-typed (A, t) = let (B, C, u, w) = typed-halves t in ((B, u), (C, w))
 
-rcd-typed : {l : ℕ} {e : Term} → HasType (rcd l e) → HasType e
+pub rcd-typed : {l : ℕ} {e : Term} → HasType [] (rcd l e) → HasType [] e
 rcd-typed (A, t-rcd t) = (_, t)
 
-proj-typed : {l : ℕ} {e : Term} → HasType (proj l e) → HasType e
+proj-typed : {l : ℕ} {e : Term} → HasType [] (proj l e) → HasType [] e
 proj-typed (A, t-proj t p) = (_, t)
 
-sum-typed : {e f : Term} → HasType (sum e f) → HasType e × HasType f
+sum-typed : {e f : Term} → HasType [] (sum e f) → HasType [] e × HasType [] f
 sum-typed (A, t-sum t b u c) = ((_, t), (_, u))
 
-choice-typed : {e f g : Term} → HasType (choice e f g) → HasType e
+choice-typed : {e f g : Term} → HasType [] (choice e f g) → HasType [] e
 choice-typed (A, t-choice t b u c s a) = (_, t)
 
 -- there is an answer, and if e has a type, it is f
 data Meets (e f : Term) : Option Term → Type 0 where
-  meets : {g : Term} → (HasType e → g ≡ f) → Meets e f (some g)
+  meets : {g : Term} → (HasType [] e → g ≡ f) → Meets e f (some g)
 
 answer-of : {e f : Term} {r : Option Term} → Meets e f r → (g : Term) × (r ≡ some g)
 answer-of (meets {g} p) = (g, refl)
 
-met : {e f : Term} {r : Option Term} → Meets e f r → HasType e → r ≡ some f
+met : {e f : Term} {r : Option Term} → Meets e f r → HasType [] e → r ≡ some f
 met (meets p) t = ap some (p t)
 
 -- of e, from a part d
-meets-part : {d e f : Term} {r : Option Term} → (HasType e → HasType d) → Meets d f r → Meets e f r
+meets-part : {d e f : Term} {r : Option Term} → (HasType [] e → HasType [] d) → Meets d f r → Meets e f r
 meets-part k (meets p) = meets (λ t. p (k t))
 
-meets-within : {d e f : Term} {r : Option Term} (F : Term → Term) → (HasType e → HasType d) → Meets d f r → Meets e (F f) (Option·map F r)
+meets-within : {d e f : Term} {r : Option Term} (F : Term → Term) → (HasType [] e → HasType [] d) → Meets d f r → Meets e (F f) (Option·map F r)
 meets-within F k (meets p) = meets (λ t. ap F (p (k t)))
 
 cast-meets : {v x : Term} {A : Ty} → Cast v A x → Meets v x (cast A v)

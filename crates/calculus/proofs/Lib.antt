@@ -18,4 +18,5 @@ pub mod Evaluation
 pub mod Chain
 pub mod Sums
 pub mod WithoutSums
+pub mod Order
 pub mod Agreement

@@ -88,7 +88,7 @@ typed-unique (t-sum s b s′ c) (t-sum t d t′ e) = refl
 typed-unique (t-choice s b s′ c s″ a) (t-choice t d t′ e t″ f) = refl
 
 -- two parts of one term, and three
-closed-both : (k : ℕ) (e f : Term) → T (closed? k e && closed? k f) ↔ (T (closed? k e) × T (closed? k f))
+pub closed-both : (k : ℕ) (e f : Term) → T (closed? k e && closed? k f) ↔ (T (closed? k e) × T (closed? k f))
 closed-both k e f = T-and (closed? k e) (closed? k f)
 
 closed-three : (k : ℕ) (e f g : Term) → T (closed? k e && closed? k f && closed? k g) ↔ ((T (closed? k e) × T (closed? k f)) × T (closed? k g))

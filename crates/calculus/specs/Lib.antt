@@ -14,3 +14,4 @@ pub mod Infer
 pub mod RefusalPaths
 pub mod Evaluate
 pub mod Agreement
+pub mod Order
