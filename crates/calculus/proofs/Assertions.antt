@@ -19,7 +19,7 @@ use Rattle.calculus.specs.Disjointness.{d-heads, d-arrow}
 use Rattle.calculus.specs.TypedReduction.{Cast, c-lit, c-top, c-arrow, c-left, c-right, c-both}
 use Rattle.calculus.specs.Consistency.{Consistent, ConsistentByList, k-disjoint}
 use Rattle.calculus.specs.Fields.{o-left, o-right, f-here, f-left, f-right}
-use Rattle.calculus.specs.Typing.{p-one, p-none, Typed, t-lit, t-anno, t-merge, t-mergev, t-rcd, t-proj}
+use Rattle.calculus.specs.Typing.{there, p-one, p-none, Typed, t-lit, t-var, t-anno, t-lam, t-merge, t-mergev, t-rcd, t-proj}
 use Rattle.calculus.specs.Step.{Step, s-app-left, s-app-right, s-merge-left, s-merge-right, s-anno, s-rcd, s-cast, s-beta, s-proj, s-proj-part, s-proj-none, s-sum-left, s-sum-right, s-sum, s-choice-first, s-choice}
 use Rattle.calculus.specs.Decide.{topLike?, bothParts, fieldPart, belowWithin, below?, disjointInt, disjointArrow, disjointField, disjoint?, value?, typeOf, closed?}
 use Rattle.calculus.specs.Decide.{sameUnder, sameInteger, sameType, sameTerm, eachPart, consistentLit, consistentLam, consistentRcd, consistent?}
@@ -480,3 +480,59 @@ chooses-first-only : {h : ℕ} (f : Term) → Step h chooses-first f → f ≡ a
 unfolding chosen
 chooses-first-only f (s-choice-first s) = absurd (stays (v-merge v-lit (v-rcd v-lit)) s)
 chooses-first-only f (s-choice (c-left v o c-lit)) = refl
+
+-- ---- Left and right: document 02, (v).
+
+-- 1,,{1=2}
+abbrev number-first : Term
+number-first = merge (number 1) (record-of 1 2)
+
+-- {1=2},,1
+abbrev record-first : Term
+record-first = merge (record-of 1 2) (number 1)
+
+-- Int & {1:Int}
+abbrev int-first : Ty
+int-first = inter int (field 1 int)
+
+-- {1:Int} & Int
+abbrev field-first : Ty
+field-first = inter (field 1 int) int
+
+-- λ.#1 : Int→Int, which has a variable of a binder around it
+abbrev open-function : Term
+open-function = lam (var 1) int int
+
+orders-found :
+    -- 1,,{1=2} and {1=2},,1 : the type has its parts in the same order as the value
+    (infer [] number-first ≡ found int-first)
+    × (infer [] record-first ≡ found field-first)
+    -- under Int & {1:Int} and {1:Int} & Int : the reading has its parts in the order of the type, whichever the value has
+    × (cast int-first number-first ≡ some number-first)
+    × (cast int-first record-first ≡ some number-first)
+    × (cast field-first number-first ≡ some record-first)
+    × (cast field-first record-first ≡ some record-first)
+    -- (1,,{1=2}),,{2=3} and 1,,({1=2},,{2=3})
+    × (infer [] (merge number-first (record-of 2 3)) ≡ found (inter int-first (field 2 int)))
+    × (infer [] (merge (number 1) (merge (record-of 1 2) (record-of 2 3))) ≡ found (inter int (inter (field 1 int) (field 2 int))))
+    -- (1,,{1=2}),,1 and 1,,({1=2},,1) : consistent, not disjoint
+    × (infer [] (merge number-first (number 1)) ≡ found (inter int-first int))
+    × (infer [] (merge (number 1) record-first) ≡ found (inter int field-first))
+    -- (1,,{1=2}),,2 and 1,,({1=2},,2) : the first and the last part are not consistent, though each is with the part between
+    × Refused (merge number-first (number 2)) conflict
+    × Refused (merge (number 1) (merge (record-of 1 2) (number 2))) conflict
+    -- λ.((1,,1),,(λ.#1)) and λ.(1,,(1,,(λ.#1))) : a value that is not closed is not regrouped
+    × (infer (int ∷ []) (merge (merge (number 1) (number 1)) open-function) ≡ found (inter (inter int int) (arrow int int)))
+    × (infer (int ∷ []) (merge (number 1) (merge (number 1) open-function)) ≡ refused conflict [])
+unfolding infer lookup checked labelled merged mergeable? below? belowWithin topLike? size-type disjoint? disjointInt disjointArrow disjointField value? closed? consistent? eachPart consistentLit consistentRcd decide sameInteger sameUnder ℕ-discrete cast mergeBoth firstPart orElse castInt castField
+orders-found = (refl, refl, refl, refl, refl, refl, refl, refl, refl, refl, refl, refl, refl, refl)
+
+-- No rule types the last: the two numbers are not disjoint, and the function is not closed.
+open-not-closed : (A : Ty) → ¬ Typed [] open-function A
+open-not-closed A (t-lam (t-var (there l)) b) = elim l [ ]
+
+open-untyped : (A : Ty) → ¬ Typed (int ∷ []) (merge (number 1) (merge (number 1) open-function)) A
+open-untyped A (t-merge t-lit (t-merge t-lit u e) d) = d int b-int (b-left b-int)
+open-untyped A (t-merge t-lit (t-mergev v w t u k) d) = open-not-closed _ u
+open-untyped A (t-mergev v w t (t-merge s u d) k) = open-not-closed _ u
+open-untyped A (t-mergev v w t (t-mergev p q s u m) k) = open-not-closed _ u

@@ -1,18 +1,21 @@
 -- Left and right don't matter: a value and the same reordered are typed together and read alike. Assumes nothing.
 use Prim.Native.Nat.{ℕ}
 use native.Mathlib.Omega.{arith}
-use mathlib.Core.Path.{_≡_, _∙_, subst⁻¹}
+use mathlib.Core.Path.{_≡_, refl, sym, _∙_, ap, ap₂, subst₂, subst⁻¹}
 use mathlib.Core.Logic.{_↔_}
-use mathlib.Core.List.{List, []}
+use mathlib.Core.List.{List, [], _∷_, _++_, List·Permᴰ as Permutation, List·Permᴰ·nil, List·Permᴰ·cons, List·Permᴰ·swap, List·Permᴰ·trans}
 use lib.Dec.{T}
-use Rattle.calculus.specs.Syntax.{Ty, size-type, Term, anno, merge, rcd, size, Value, v-merge, v-rcd}
+use Rattle.calculus.specs.Syntax.{Ty, size-type, Value, v-merge, v-rcd}
+use Rattle.calculus.specs.Syntax.{Term, var, lit, unit, anno, app, lam, merge, fix, rcd, proj, sum, choice, size}
+use Rattle.calculus.specs.Subtyping.{Below}
 use Rattle.calculus.specs.TypedReduction.{Cast, c-rcd}
 use Rattle.calculus.specs.Consistency.{Consistent}
 use Rattle.calculus.specs.Typing.{HasType, t-anno, t-mergev, t-rcd}
 use Rattle.calculus.specs.Step.{Step, s-anno, s-cast}
 use Rattle.calculus.specs.Decide.{closed?}
-use Rattle.calculus.specs.Order.{Reordered, swapped, to-right, to-left, in-half, in-record, and-then, SameValue, OrderFree}
-use Rattle.calculus.proofs.TypedReduction.{Proper, ProperCast, p-rcd, p-left, p-right, cast-proper, cast-below, cast-lift, cast-left, cast-right, below-cast}
+use Rattle.calculus.specs.Order.{Reordered, swapped, to-right, to-left, in-half, in-record, unmoved, and-then, parts, EveryOrder, SameValue, OrderFree}
+use Rattle.calculus.proofs.Subtyping.{below-refl}
+use Rattle.calculus.proofs.TypedReduction.{value-unique, Proper, ProperCast, p-rcd, p-left, p-right, cast-proper, cast-below, cast-lift, cast-left, cast-right, below-cast}
 use Rattle.calculus.proofs.Consistency.{consistent-sym, consistent-halves, consistent-merge, list→consistent}
 use Rattle.calculus.proofs.Typing.{closed-both, typed-closed, typed-weaken, typed-strengthen}
 use Rattle.calculus.proofs.Soundness.{value-typed, typed-halves, halves-consistent, cast-unique, value-no-step}
@@ -24,7 +27,102 @@ reordered-sym to-right = to-left
 reordered-sym to-left = to-right
 reordered-sym (in-half r) = in-half (reordered-sym r)
 reordered-sym (in-record r) = in-record (reordered-sym r)
+reordered-sym unmoved = unmoved
 reordered-sym (and-then r s) = and-then (reordered-sym s) (reordered-sym r)
+
+-- ---- every order of the parts
+
+-- in the left half of a merge
+in-left : {u v w : Term} → Reordered v w → Reordered (merge v u) (merge w u)
+in-left r = and-then swapped (and-then (in-half r) swapped)
+
+-- parts merged, to the right
+chain : Term → List Term → Term
+chain e [] = e
+chain e (f ∷ l) = merge e (chain f l)
+
+-- two lists that are merged so to values that are reorderings of each other, or that are both empty
+Alike : List Term → List Term → Type 0
+Alike [] [] = Unit {0}
+Alike [] (f ∷ m) = ⊥
+Alike (e ∷ l) [] = ⊥
+Alike (e ∷ l) (f ∷ m) = Reordered (chain e l) (chain f m)
+
+alike-cons : (e : Term) (l m : List Term) → Alike l m → Alike (e ∷ l) (e ∷ m)
+unfolding Alike chain
+alike-cons e [] [] a = unmoved
+alike-cons e [] (g ∷ m) a = absurd a
+alike-cons e (f ∷ l) [] a = absurd a
+alike-cons e (f ∷ l) (g ∷ m) a = in-half a
+
+alike-swap : (e f : Term) (l : List Term) → Alike (e ∷ f ∷ l) (f ∷ e ∷ l)
+unfolding Alike chain
+alike-swap e f [] = swapped
+alike-swap e f (g ∷ l) = and-then to-left (and-then (in-left swapped) to-right)
+
+alike-trans : (l m n : List Term) → Alike l m → Alike m n → Alike l n
+unfolding Alike
+alike-trans [] [] n a b = b
+alike-trans [] (f ∷ m) n a b = absurd a
+alike-trans (e ∷ l) [] n a b = absurd a
+alike-trans (e ∷ l) (f ∷ m) [] a b = absurd b
+alike-trans (e ∷ l) (f ∷ m) (g ∷ n) a b = and-then a b
+
+permuted : {l m : List Term} → Permutation l m → Alike l m
+unfolding Alike
+permuted List·Permᴰ·nil = tt
+permuted (List·Permᴰ·cons {a} {l₁} {l₂} e p) = rw (← e) (alike-cons a l₁ l₂ (permuted p))
+permuted (List·Permᴰ·swap {a} {b} {l} e f) = rw (← e, ← f) (alike-swap a b l)
+permuted (List·Permᴰ·trans {l₁} {l₂} {l₃} p q) = alike-trans l₁ l₂ l₃ (permuted p) (permuted q)
+
+-- a merge of two such values, as one
+joined : (e : Term) (l : List Term) (f : Term) (m : List Term) → Reordered (merge (chain e l) (chain f m)) (chain e (l ++ f ∷ m))
+unfolding chain
+joined e [] f m = unmoved
+joined e (g ∷ l) f m = and-then to-right (in-half (joined g l f m))
+
+-- a value is a reordering of its parts, merged so
+record Listed (v : Term) : Type 0 where
+  first : Term
+  rest : List Term
+  lists : parts v ≡ first ∷ rest
+  chained : Reordered v (chain first rest)
+
+one-part : {v : Term} → parts v ≡ v ∷ [] → Listed v
+unfolding chain
+one-part {v} e = record { first = v; rest = []; lists = e; chained = unmoved }
+
+listed : (v : Term) → Listed v
+listed (var n) = one-part refl
+listed (lit i) = one-part refl
+listed unit = one-part refl
+listed (anno e A) = one-part refl
+listed (app e f) = one-part refl
+listed (lam e A B) = one-part refl
+listed (merge e f) =
+    let l = listed e in
+    let m = listed f in
+    record {
+      first = l .first;
+      rest = l .rest ++ m .first ∷ m .rest;
+      lists = ap₂ _++_ (l .lists) (m .lists);
+      chained = and-then (in-left (l .chained)) (and-then (in-half (m .chained)) (joined (l .first) (l .rest) (m .first) (m .rest)));
+    }
+listed (fix e A) = one-part refl
+listed (rcd l e) = one-part refl
+listed (proj l e) = one-part refl
+listed (sum e f) = one-part refl
+listed (choice e f g) = one-part refl
+
+pub every-order : EveryOrder
+unfolding Alike
+every-order v w p =
+    let l = listed v in
+    let m = listed w in
+    let a : Alike (l .first ∷ l .rest) (m .first ∷ m .rest) = permuted (subst₂ Permutation (l .lists) (m .lists) p) in
+    and-then (l .chained) (and-then a (reordered-sym (m .chained)))
+
+-- ---- what reordering keeps
 
 -- a value reordered is one, and shows a type of the same size
 pub reordered-value : {v w : Term} {A : Ty} → Reordered v w → Value v A → (B : Ty) × Value w B × (size-type B ≡ size-type A)
@@ -34,6 +132,7 @@ reordered-value to-right (v-merge (v-merge u v) w) = (_, v-merge u (v-merge v w)
 reordered-value to-left (v-merge u (v-merge v w)) = (_, v-merge (v-merge u v) w, omega arith)
 reordered-value (in-half r) (v-merge u v) = let (B, w, e) = reordered-value r v in (_, v-merge u w, omega arith)
 reordered-value (in-record r) (v-rcd v) = let (B, w, e) = reordered-value r v in (_, v-rcd w, omega arith)
+reordered-value unmoved v = (_, v, refl)
 reordered-value (and-then r s) v = let (B, w, e) = reordered-value r v in let (C, u, d) = reordered-value s w in (C, u, d ∙ e)
 
 -- and is of the same size
@@ -44,6 +143,7 @@ reordered-size to-right = omega arith
 reordered-size to-left = omega arith
 reordered-size (in-half r) = let e = reordered-size r in omega arith
 reordered-size (in-record r) = let e = reordered-size r in omega arith
+reordered-size unmoved = refl
 reordered-size (and-then r s) = reordered-size s ∙ reordered-size r
 
 -- what a merge of v and w reads, u reads, if u reads what v reads and what w reads
@@ -75,6 +175,7 @@ reordered-reads (in-half r) (v-merge u v) =
     read-either (v-merge u w) (λ A x. cast-left w) (λ A x c. cast-right u (reordered-reads r v A x c))
 reordered-reads (in-record r) (v-rcd v) =
     cast-lift (v-rcd (reordered-value r v .1)) (λ A p x c. read-content (reordered-reads r v) p (cast-proper p c))
+reordered-reads unmoved v = λ A x c. c
 reordered-reads (and-then r s) v = λ A x c. reordered-reads s (reordered-value r v .1) A x (reordered-reads r v A x c)
 
 -- a merge of values is typed exactly if both are, and they are consistent
@@ -111,6 +212,7 @@ reordered-typed (in-half r) (v-merge u v) t =
     let w = reordered-value r v .1 in
     merge-types u w .1 (tu, reordered-typed r v tv, λ A x y c d. k A x y c (reordered-reads (reordered-sym r) w A y d))
 reordered-typed (in-record r) (v-rcd v) t = (_, t-rcd (reordered-typed r v (rcd-typed t) .1))
+reordered-typed unmoved v t = t
 reordered-typed (and-then r s) v t = reordered-typed s (reordered-value r v .1) (reordered-typed r v t)
 
 -- ---- the promise
@@ -121,6 +223,12 @@ closed-typed {Γ} c t = (t .0, typed-strengthen [] Γ (t .1) c)
 
 under : {Γ : List Ty} {v : Term} → HasType [] v → HasType Γ v
 under {Γ} t = (t .0, typed-weaken (t .1) Γ)
+
+-- the type of a value is below that of the same reordered
+types-below : {v w : Term} {A B : Ty} → Reordered v w → Value v A → Value w B → Below A B
+types-below {B = B} r v w =
+    let (x, c) = below-cast w (below-refl B) in
+    cast-below (reordered-reads (reordered-sym r) w B x c) v
 
 -- a closed value, reordered, is closed
 reordered-closed : {v w : Term} → Reordered v w → T (closed? 0 v) → T (closed? 0 w)
@@ -136,6 +244,7 @@ reordered-closed (to-left {u} {v} {w}) c =
     closed-both 0 (merge u v) w .1 (closed-both 0 u v .1 (x, y), z)
 reordered-closed (in-half {u} {v} {w} r) c = let (a, b) = closed-both 0 u v .0 c in closed-both 0 u w .1 (a, reordered-closed r b)
 reordered-closed (in-record r) c = reordered-closed r c
+reordered-closed unmoved c = c
 reordered-closed (and-then r s) c = reordered-closed s (reordered-closed r c)
 
 module _ (Γ : List Ty) {v w : Term} {D : Ty} (p : Value v D) (c : T (closed? 0 v)) (r : Reordered v w) where
@@ -159,6 +268,11 @@ module _ (Γ : List Ty) {v w : Term} {D : Ty} (p : Value v D) (c : T (closed? 0 
         equal = λ t A x y e d. cast-unique (to t .1) (reordered-reads r p A x e) d;
         only = λ t A x y. cast-unique (closed-typed c t .1);
         only-other = λ t A x y. cast-unique (to t .1);
+        types = λ A B t u.
+            let x = value-typed t p in
+            let y = value-typed u other in
+            let (C, z, e) = reordered-value r x in
+            (types-below r x y, types-below (reordered-sym r) y x, sym e ∙ ap size-type (value-unique z y));
       }
 
 pub order-free : OrderFree

@@ -3,11 +3,12 @@
 use Prim.Native.Nat.{ℕ}
 use mathlib.Core.Path.{_≡_}
 use mathlib.Core.Logic.{_↔_}
-use mathlib.Core.List.{List}
+use mathlib.Core.List.{List, [], _∷_, _++_, List·Permᴰ as Permutation}
 use lib.Dec.{T}
-use Rattle.calculus.specs.Syntax.{Ty, Term, merge, rcd, IsValue}
+use Rattle.calculus.specs.Syntax.{Ty, size-type, Term, merge, rcd, IsValue, foldParts}
+use Rattle.calculus.specs.Subtyping.{Below}
 use Rattle.calculus.specs.TypedReduction.{Cast}
-use Rattle.calculus.specs.Typing.{HasType}
+use Rattle.calculus.specs.Typing.{Typed, HasType}
 use Rattle.calculus.specs.Decide.{closed?}
 
 -- Reordered v w: w is v
@@ -17,10 +18,19 @@ pub data Reordered : Term → Term → Type 0 where
   -- or three merged values regrouped", either way;
   to-right : {u v w : Term} → Reordered (merge (merge u v) w) (merge u (merge v w))
   to-left : {u v w : Term} → Reordered (merge u (merge v w)) (merge (merge u v) w)
-  -- with its right half reordered so (its left half: `swapped` before and after), or the content of a record; and one after the other.
+  -- so in the right half of a merge (in the left: `swapped` before and after), or in a record; not at all; and one after the other.
   in-half : {u v w : Term} → Reordered v w → Reordered (merge u v) (merge u w)
   in-record : {l : ℕ} {v w : Term} → Reordered v w → Reordered (rcd l v) (rcd l w)
+  unmoved : {v : Term} → Reordered v v
   and-then : {u v w : Term} → Reordered u v → Reordered v w → Reordered u w
+
+-- The parts of a value that are no merges, as they are listed.
+abbrev pub parts : Term → List Term
+parts = foldParts (λ e. e ∷ []) _++_
+
+-- Every order of the parts is a reordering, however they are grouped.
+abbrev pub EveryOrder : Type 0
+EveryOrder = (v w : Term) → Permutation (parts v) (parts w) → Reordered v w
 
 -- What is promised of a value v and of w, the same reordered, under the binders Γ.
 pub record SameValue (Γ : List Ty) (v w : Term) : Type 0 where
@@ -33,6 +43,8 @@ pub record SameValue (Γ : List Ty) (v w : Term) : Type 0 where
   -- there is only one of each.
   pub only : HasType Γ v → (A : Ty) (x y : Term) → Cast v A x → Cast v A y → x ≡ y
   pub only-other : HasType Γ v → (A : Ty) (x y : Term) → Cast w A x → Cast w A y → x ≡ y
+  -- The types are not the same, `A & B` and `B & A`, but each is below the other, and they are of one size.
+  pub types : (A B : Ty) → Typed Γ v A → Typed Γ w B → Below A B × Below B A × (size-type A ≡ size-type B)
 
 -- The promise: "For a closed value that is a merge", and for a record of one.
 abbrev pub OrderFree : Type 0
