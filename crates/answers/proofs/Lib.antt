@@ -7,3 +7,4 @@ pub mod Demands
 pub mod Impostors
 pub mod Cases
 pub mod Restamping
+pub mod Order

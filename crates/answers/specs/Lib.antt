@@ -3,6 +3,7 @@ pub mod Engine
 pub mod Definition
 pub mod Demands
 pub mod Restamping
+pub mod Order
 pub mod Impostors
 pub mod Samples
 pub mod Cases

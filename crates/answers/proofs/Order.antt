@@ -1,0 +1,229 @@
+-- An engine that obeys demand 2 ignores the order in which the parts of a value are listed. Assumes nothing.
+use Prim.Native.Nat.{ℕ, suc, _≤_}
+use mathlib.Core.Path.{_≡_, refl, sym, _∙_, ap, subst, subst⁻¹}
+use mathlib.Core.Logic.{_↔_, _≢_}
+use mathlib.Core.List.{List, [], append-cancel-right}
+use native.Mathlib.Omega.{arith}
+use lib.ListN.{length}
+use Rattle.calculus.specs.Syntax.{Ty, size-type, Term, anno, size, IsValue}
+use Rattle.calculus.specs.Typing.{Typed, HasType}
+use Rattle.calculus.specs.Step.{Step, Reaches, r-zero, r-suc}
+use Rattle.calculus.specs.Order.{Reordered, SameValue}
+use Rattle.calculus.proofs.TypedReduction.{cast-to}
+use Rattle.calculus.proofs.Typing.{typed-closed}
+use Rattle.calculus.proofs.Soundness.{value-no-step}
+use Rattle.calculus.proofs.Order.{reordered-sym, reordered-value, reordered-size, order-free, anno-step, anno-reordered, step-reordered}
+use Rattle.format.specs.declared.Version.{Version}
+use Rattle.format.specs.Version.{halfOf}
+use Rattle.format.specs.Cell.{IsBytes}
+use Rattle.format.specs.Terms.{TermFits, fromTermIn}
+use Rattle.format.specs.Book.{sizeLimit, WellFormed, versionOf, rootTerm, termBook}
+use Rattle.format.proofs.Trees.{term-cells}
+use Rattle.format.proofs.Tests.{rootTerm-fits, rootTerm-small}
+use Rattle.format.proofs.RoundTrip.{book-length, term-round-trip}
+use Rattle.answers.specs.Answer.{Stop, value, spent, room, accepted, stopped, stepsOf, Result, result}
+use Rattle.answers.specs.Engine.{Engine, IsWork, IsLimit, padded}
+use Rattle.answers.specs.Demands.{Accepts, StopsBy, TakesSteps, Demand2}
+use Rattle.answers.specs.Order.{Values, Annotated, annotated, Books, SameReading, IgnoresOrder}
+use Rattle.answers.proofs.Demands.{runs-unique}
+
+-- ---- the roots
+
+values-sym : {e f : Term} → Values e f → Values f e
+values-sym (v, r) = (let x = reordered-value r (v .1) in (x .0, x .1), reordered-sym r)
+
+annotated-sym : {e f : Term} → Annotated e f → Annotated f e
+annotated-sym (annotated p) = annotated (values-sym p)
+
+-- the promise of the calculus, of a typed value
+same : {e f : Term} → Values e f → HasType [] e → SameValue [] e f
+same {e} {f} p t = order-free [] e f (p .0) (typed-closed (t .1)) (p .1)
+
+values-typed : {e f : Term} → Values e f → HasType [] e → HasType [] f
+values-typed p t = same p t .accepted .0 t
+
+annotated-typed : {e f : Term} → Annotated e f → HasType [] e → HasType [] f
+annotated-typed (annotated p) t = anno-reordered (p .0 .1) (p .1) t
+
+annotated-size : {e f : Term} → Annotated e f → size f ≡ size e
+unfolding size
+annotated-size (annotated p) = let h = reordered-size (p .1) in omega arith
+
+no-value : {e f : Term} → Annotated e f → ¬ IsValue e
+no-value (annotated p) v = elim (v .1) [ ]
+
+-- an annotated value becomes a value, and so does the other
+annotated-step : {h : ℕ} {e f g : Term} (k : ℕ) → Annotated e f → HasType [] e → Step h e g → IsValue g × Step k f g
+annotated-step k (annotated p) t s = (cast-to (anno-step (p .0 .1) s), step-reordered (p .0 .1) (p .1) k t s)
+
+-- ---- the terms that two such books reach
+
+-- after n steps the one is at g and the other at d: both at the root, or at one value
+data Abreast (e f : Term) : ℕ → Term → Term → Type 0 where
+  at-roots : Abreast e f 0 e f
+  at-value : {g : Term} → IsValue g → Abreast e f 1 g g
+
+-- where the other is, at its range, when the one is at g
+record Follows (k : ℕ) (e f : Term) (n : ℕ) (g : Term) : Type 0 where
+  other : Term
+  abreast : Abreast e f n g other
+  reached : Reaches k n f other
+
+follows-step : {h n : ℕ} {e f g d g′ : Term} (k : ℕ) → Annotated e f → HasType [] e → Abreast e f n g d → Step h g g′ → Follows k e f (suc n) g′
+follows-step k p t at-roots s = let (v, u) = annotated-step k p t s in record { other = _; abreast = at-value v; reached = r-suc r-zero u }
+follows-step k p t (at-value v) s = absurd (value-no-step (v .1) s)
+
+follows : {h n : ℕ} {e f g : Term} (k : ℕ) → Annotated e f → HasType [] e → Reaches h n e g → Follows k e f n g
+follows k p t r-zero = record { other = _; abreast = at-roots; reached = r-zero }
+follows k p t (r-suc r s) = follows-step k p t (follows k p t r .abreast) s
+
+abreast-size : {e f g d : Term} {n : ℕ} → Annotated e f → Abreast e f n g d → size d ≡ size g
+abreast-size p at-roots = annotated-size p
+abreast-size p (at-value v) = refl
+
+-- after a step they are at one term, before it each is at its root
+abreast-after : {e f g d : Term} {n : ℕ} → Abreast e f n g d → n ≢ 0 → g ≡ d
+abreast-after at-roots i = absurd (i refl)
+abreast-after (at-value v) i = refl
+
+abreast-before : {e f g d : Term} {n : ℕ} → Abreast e f n g d → n ≡ 0 → (g ≡ e) × (d ≡ f)
+abreast-before at-roots i = (refl, refl)
+abreast-before (at-value v) i = absurd (omega arith)
+
+-- the other stops for the same reason
+other-why : {n : ℕ} {e f g d : Term} (h k : ℕ) → Annotated e f → HasType [] e → (s : Stop) (l : ℕ) → Abreast e f n g d → StopsBy h s l n g → StopsBy k s l n d
+other-why h k p t value l at-roots w = absurd (no-value p w)
+other-why h k p t value l (at-value v) w = w
+other-why h k p t spent l at-roots w = (no-value (annotated-sym p), w .1)
+other-why h k p t spent l (at-value v) w = absurd (w .0 v)
+other-why h k p t room l at-roots w = (no-value (annotated-sym p), w .1, (w .2 .0, annotated-step k p t (w .2 .1) .1, w .2 .2))
+other-why h k p t room l (at-value v) w = absurd (w .0 v)
+
+-- so that a run of the one is a run of the other, but for the root
+module _ {u : Version} {e f : Term} {l : ℕ} {r : Result} (v : Version) (p : Annotated e f) (t : HasType [] e) (x : TakesSteps u e l r) where
+  behind : Follows (halfOf v) e f (x .steps) (x .term)
+  behind = follows (halfOf v) p t (x .reached)
+
+  other-small : (n : ℕ) (d : Term) → n ≤ x .steps → Reaches (halfOf v) n f d → size d ≤ sizeLimit
+  other-small n d i q =
+      let o = follows (halfOf u) (annotated-sym p) (annotated-typed p t) q in
+      omega (arith, abreast-size (annotated-sym p) (o .abreast), x .small n (o .other) i (o .reached))
+
+  other-run : TakesSteps v f l (result (stopped (x .stop) (x .steps)) (padded (termBook v (behind .other))))
+  other-run =
+      record {
+        stop = x .stop;
+        steps = x .steps;
+        term = behind .other;
+        says = refl;
+        taken = x .taken;
+        reached = behind .reached;
+        small = other-small;
+        why = other-why (halfOf u) (halfOf v) p t (x .stop) l (behind .abreast) (x .why);
+      }
+
+-- ---- their bytes
+
+-- terms of one size that are encoded alike are the same
+encoded-alike : (v : Version) (e f : Term) → TermFits (halfOf v) e → TermFits (halfOf v) f → size e ≤ sizeLimit → size f ≡ size e →
+    padded (termBook v e) ≡ padded (termBook v f) → e ≡ f
+unfolding padded
+encoded-alike v e f x y h s q =
+    let n : length (termBook v f) ≡ length (termBook v e) = omega (arith, book-length v (fromTermIn v e), book-length v (fromTermIn v f), term-cells v e, term-cells v f) in
+    let z : termBook v e ≡ termBook v f = append-cancel-right (termBook v e) (termBook v f) _ (rw n at q) in
+    sym (term-round-trip v e x h .decodes) ∙ ap rootTerm z ∙ term-round-trip v f y (omega arith) .decodes
+
+-- ---- the promise
+
+module _ (E : Engine) (d : Demand2 E) where
+  -- accepted is typed
+  accepted-typed : (b : List ℕ) → IsBytes b → Accepts E b → HasType [] (rootTerm b)
+  accepted-typed b y a = d b y .accepts .0 a .1
+
+  -- of two books, if a type of the one gives one of the other
+  accepted-too : (b c : List ℕ) → IsBytes b → IsBytes c → WellFormed c → (HasType [] (rootTerm b) → HasType [] (rootTerm c)) → Accepts E b → Accepts E c
+  accepted-too b c y z g f a = d c z .accepts .1 (g, f (accepted-typed b y a))
+
+  accepted-together : {R : Term → Term → Type 0} {b c : List ℕ} → Books R b c → (HasType [] (rootTerm b) → HasType [] (rootTerm c)) →
+      (HasType [] (rootTerm c) → HasType [] (rootTerm b)) → Accepts E b ↔ Accepts E c
+  accepted-together {b = b} {c = c} p f g = (
+    accepted-too b c (p .bytes .0) (p .bytes .1) (p .formed .1) f,
+    accepted-too c b (p .bytes .1) (p .bytes .0) (p .formed .0) g,
+  )
+
+  accepts-values : (b c : List ℕ) → Books Values b c → Accepts E b ↔ Accepts E c
+  accepts-values b c p = accepted-together p (values-typed (p .roots)) (values-typed (values-sym (p .roots)))
+
+  accepts-annotated : (b c : List ℕ) → Books Annotated b c → Accepts E b ↔ Accepts E c
+  accepts-annotated b c p = accepted-together p (annotated-typed (p .roots)) (annotated-typed (annotated-sym (p .roots)))
+
+  same-answer : (b c : List ℕ) → Books Values b c → Accepts E b → (w x : List ℕ) → IsWork w → IsWork x → E .check b w .answer ≡ E .check c x .answer
+  same-answer b c p a w x j k =
+      let t = accepted-typed b (p .bytes .0) a in
+      let u = values-typed (p .roots) t in
+      let one : E .check b w .answer ≡ accepted (size-type (t .0)) =
+      ap (λ (r : Result). r .answer) (d b (p .bytes .0) .shows (t .0) (p .formed .0) (t .1) w j) in
+      let other : E .check c x .answer ≡ accepted (size-type (u .0)) =
+      ap (λ (r : Result). r .answer) (d c (p .bytes .1) .shows (u .0) (p .formed .1) (u .1) x k) in
+      one ∙ ap accepted (same (p .roots) t .types (t .0) (u .0) (t .1) (u .1) .2) ∙ sym other
+
+  module _ (b c : List ℕ) (p : Books Annotated b c) (a : Accepts E b) (w x : List ℕ) (l : ℕ) (j : IsWork w) (k : IsWork x) (i : IsLimit l) where
+    typed : HasType [] (rootTerm b)
+    typed = accepted-typed b (p .bytes .0) a
+
+    one : TakesSteps (versionOf b) (rootTerm b) l (E .run b w l)
+    one = d b (p .bytes .0) .runs a w l j i
+
+    abbrev after : Follows (halfOf (versionOf c)) (rootTerm b) (rootTerm c) (one .steps) (one .term)
+    after = behind (versionOf c) (p .roots) typed one
+
+    other : E .run c x l ≡ result (stopped (one .stop) (one .steps)) (padded (termBook (versionOf c) (after .other)))
+    other =
+        runs-unique (annotated-typed (p .roots) typed .1)
+        (d c (p .bytes .1) .runs (accepts-annotated b c p .0 a) x l k i)
+        (other-run (versionOf c) (p .roots) typed one)
+
+    steps : stepsOf (E .run b w l .answer) ≡ one .steps
+    steps = ap (λ (r : Result). stepsOf (r .answer)) (one .says)
+
+    -- the bytes of both, by where they are
+    left-one : E .run b w l .left ≡ padded (termBook (versionOf b) (one .term))
+    left-one = ap (λ (r : Result). r .left) (one .says)
+
+    left-other : E .run c x l .left ≡ padded (termBook (versionOf c) (after .other))
+    left-other = ap (λ (r : Result). r .left) other
+
+    taken-alike : stepsOf (E .run b w l .answer) ≢ 0 → versionOf b ≡ versionOf c → E .run b w l .left ≡ E .run c x l .left
+    taken-alike n e = left-one ∙ rw (e, abreast-after (after .abreast) (λ z. n (steps ∙ z))) (sym left-other)
+
+    at-roots-both : stepsOf (E .run b w l .answer) ≡ 0 →
+        (E .run b w l .left ≡ padded (termBook (versionOf b) (rootTerm b))) × (E .run c x l .left ≡ padded (termBook (versionOf c) (rootTerm c)))
+    at-roots-both n =
+        let (g, e) = abreast-before (after .abreast) (sym steps ∙ n) in
+        (left-one ∙ ap (λ (f : Term). padded (termBook (versionOf b) f)) g, left-other ∙ ap (λ (f : Term). padded (termBook (versionOf c) f)) e)
+
+    roots-differ : stepsOf (E .run b w l .answer) ≡ 0 → versionOf b ≡ versionOf c → rootTerm b ≢ rootTerm c → E .run b w l .left ≢ E .run c x l .left
+    roots-differ n e u q =
+        let (y, z) = at-roots-both n in
+        let v = versionOf c in
+        let fits : TermFits (halfOf v) (rootTerm b) = rw (← e) (rootTerm-fits b (p .bytes .0) (p .formed .0)) in
+        let h : padded (termBook v (rootTerm b)) ≡ padded (termBook v (rootTerm c)) = rw e at (sym y ∙ q ∙ z) in
+        u (encoded-alike v (rootTerm b) (rootTerm c) fits (rootTerm-fits c (p .bytes .1) (p .formed .1)) (rootTerm-small b (p .bytes .0) (p .formed .0)) (annotated-size (p .roots)) h)
+
+    same-reading : SameReading (versionOf b) (versionOf c) (rootTerm b) (rootTerm c) (E .run b w l) (E .run c x l)
+    same-reading =
+        record {
+          answer = ap (λ (r : Result). r .answer) (one .says) ∙ sym (ap (λ (r : Result). r .answer) other);
+          bytes = taken-alike;
+          untaken = at-roots-both;
+          differ = roots-differ;
+        }
+
+pub ignores-order : (E : Engine) → Demand2 E → IgnoresOrder E
+ignores-order E d =
+    record {
+      accepts = accepts-values E d;
+      answers = same-answer E d;
+      together = accepts-annotated E d;
+      runs = same-reading E d;
+    }

@@ -1,0 +1,51 @@
+-- Document 02, (v), "of the engine through" the calculus: books that list the parts of a value in two orders. Of any engine E; it follows from demand 2 and from
+-- `OrderFree` of the calculus (proofs/Order). Assumes nothing.
+use Prim.Native.Nat.{ℕ}
+use mathlib.Core.Path.{_≡_}
+use mathlib.Core.Logic.{_↔_, _≢_}
+use mathlib.Core.List.{List}
+use Rattle.calculus.specs.Syntax.{Ty, Term, anno, IsValue}
+use Rattle.calculus.specs.Order.{Reordered}
+use Rattle.format.specs.declared.Version.{Version}
+use Rattle.format.specs.Cell.{IsBytes}
+use Rattle.format.specs.Book.{WellFormed, versionOf, rootTerm, termBook}
+use Rattle.answers.specs.Answer.{stepsOf, Result}
+use Rattle.answers.specs.Engine.{Engine, IsWork, IsLimit, padded}
+use Rattle.answers.specs.Demands.{Accepts}
+
+-- The roots of two books, unshared: a value and the same reordered;
+abbrev pub Values : Term → Term → Type 0
+Values e f = IsValue e × Reordered e f
+
+-- or both annotated with one type.
+pub data Annotated : Term → Term → Type 0 where
+  annotated : {v w : Term} {A : Ty} → Values v w → Annotated (anno v A) (anno w A)
+
+-- Two books past row 10 with such roots. (Rows 2 to 9 are about bytes; row 10 says the same of both, for they are of one size.)
+pub record Books (R : Term → Term → Type 0) (b c : List ℕ) : Type 0 where
+  pub bytes : IsBytes b × IsBytes c
+  pub formed : WellFormed b × WellFormed c
+  pub roots : R (rootTerm b) (rootTerm c)
+
+-- Runs of two annotated books e and f, of the versions u and v, with one limit: the answers and bytes x and y.
+pub record SameReading (u v : Version) (e f : Term) (x y : Result) : Type 0 where
+  -- The answer is the same.
+  pub answer : x .answer ≡ y .answer
+  -- "both readings are .. equal": where a step is taken, all bytes are the same, if the books are of one version.
+  pub bytes : stepsOf (x .answer) ≢ 0 → u ≡ v → x .left ≡ y .left
+  -- Where none is taken - under limit 0, or because the reading has no room - the roots themselves are encoded,
+  pub untaken : stepsOf (x .answer) ≡ 0 → (x .left ≡ padded (termBook u e)) × (y .left ≡ padded (termBook v f))
+  -- and differ if they are not the same.
+  pub differ : stepsOf (x .answer) ≡ 0 → u ≡ v → e ≢ f → x .left ≢ y .left
+
+-- The promise.
+pub record IgnoresOrder (E : Engine) : Type 0 where
+  -- "it is accepted exactly when the original is",
+  pub accepts : (b c : List ℕ) → Books Values b c → Accepts E b ↔ Accepts E c
+  -- with the same answer. (The types encoded have their parts in the two orders.)
+  pub answers : (b c : List ℕ) → Books Values b c → Accepts E b → (w x : List ℕ) → IsWork w → IsWork x → E .check b w .answer ≡ E .check c x .answer
+  -- "Once accepted, under every type both readings are possible together
+  pub together : (b c : List ℕ) → Books Annotated b c → Accepts E b ↔ Accepts E c
+  -- and equal."
+  pub runs : (b c : List ℕ) → Books Annotated b c → Accepts E b → (w x : List ℕ) (limit : ℕ) → IsWork w → IsWork x → IsLimit limit →
+      SameReading (versionOf b) (versionOf c) (rootTerm b) (rootTerm c) (E .run b w limit) (E .run c x limit)
