@@ -177,7 +177,7 @@ fn sample(line: &str, definitions: &str) -> (Vec<u8>, Option<u32>, Answer, Vec<u
 #[test]
 fn the_samples_of_the_definitions_are_answered_as_they_say() {
     let definitions = text("crates/answers/specs/Samples.antt");
-    for list in ["samples", "fieldReads", "sumsAndChoices", "bodies", "wideNumbers"] {
+    for list in ["samples", "fieldReads", "sumsAndChoices", "bodies", "wideNumbers", "orders"] {
         let (_, lines) = definitions.split_once(&format!("\n{list} =\n")).expect("the list");
         let lines: Vec<&str> =
             lines.lines().map_while(|line| line.trim().trim_start_matches("∷ ").strip_prefix("sample ")).collect();

@@ -1,5 +1,5 @@
 -- All samples marked M hold of the definitions, by one computation, and so do the books of the field reads, of sums and choices, of bodies, of numbers of
--- 48 bits and of the refusals; closed facts beside them.
+-- 48 bits, of values in two orders and of the refusals; closed facts beside them.
 -- Assumes nothing.
 use Prim.Native.Nat.{ℕ}
 use mathlib.Core.Path.{_≡_, refl, _∙_}
@@ -34,6 +34,7 @@ use Rattle.answers.specs.Samples.{mergedField, missingField, twoFields, 
 use Rattle.answers.specs.Samples.{onePlusTwo, pastUpperEnd, pastLowerEnd, atUpperEnd, atLowerEnd, bothEnds, sumOfSums, mergedSide, mergedRightSide, topPlusVariable, onePlusTop, choiceByZero, choiceByOne, choiceByMinusOne, choiceByHigh, waitingLoop, annotatedBranch, choiceByTop, topForZero, topForOther, freeInOther, sumMerged, equalBodies, exchangedBodies, equalChoices, exchangedChoices, otherThirdPart, choiceInBody, sumInBody, triangle, sumNamesC, labelledSum, labelledChoice, choiceOfItself, choiceOfType, unknownKind, sumsAndChoices}
 use Rattle.answers.specs.Samples.{sameBody, otherBody, openedBodies, unevenSharing, otherLabel, otherHighHalf, otherLowHalf, otherTypeInBody, otherLastField, otherInput, disjointBodies, unreachedChains, bodies}
 use Rattle.answers.specs.Samples.{wideNumber, wideMinusOne, pastWideUpperEnd, pastWideLowerEnd, above32, below32, lowestInOne, lowestInTwo, labelledNumber, unequalInTwo, unequalAbove32, equalAbove32, otherAbove32, choiceAbove32, choiceAbove16, choiceLow, choiceNone, versionThree, versionZero, identityInTwo, restampedHiddenField, minusFive, restampedMinusFive, wideNumbers}
+use Rattle.answers.specs.Samples.{numberFirst, recordFirst, numberFirstRead, recordFirstRead, numberFirstTurned, recordFirstTurned, groupedLeft, groupedRight, groupedLeftRead, groupedRightRead, partTwice, partTwiceSwapped, conflictingEnds, conflictingEndsRegrouped, notYetValue, notYetValueRegrouped, openValue, openValueRegrouped, reorderedBodies, orders}
 
 -- to name it on a line is to unfold every definition that a computation of an answer meets, but for the zero tail
 unfoldable pub computing : ℕ
@@ -100,6 +101,13 @@ wide-numbers-computed = refl
 
 pub wide-numbers-hold : All (Meets definition) wideNumbers
 wide-numbers-hold = each wideNumbers wide-numbers-computed
+
+orders-computed : map answered orders ≡ map expected orders
+unfolding computing answered orders numberFirst recordFirst numberFirstRead recordFirstRead numberFirstTurned recordFirstTurned groupedLeft groupedRight groupedLeftRead groupedRightRead partTwice partTwiceSwapped conflictingEnds conflictingEndsRegrouped notYetValue notYetValueRegrouped openValue openValueRegrouped reorderedBodies
+orders-computed = refl
+
+pub orders-hold : All (Meets definition) orders
+orders-hold = each orders orders-computed
 
 refusals-computed : map answered refusals ≡ map expected refusals
 unfolding computing answered refusals unequalNumbers appliedNumber doubled

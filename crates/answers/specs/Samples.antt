@@ -1,5 +1,5 @@
--- Document 01, "Sample books": those marked M, as one list; books for the field reads, sums and choices, bodies, and numbers of 48 bits of document 02,
--- (i) to (iv); and a small book for each row from 2 to 15 of "Where a book is turned back". Bytes, answers and encoded bytes are literals. Assumes nothing.
+-- Document 01, "Sample books": those marked M, as one list; books for the field reads, sums and choices, bodies, numbers of 48 bits, and values in two orders of
+-- document 02, (i) to (v); and a small book for each row from 2 to 15 of "Where a book is turned back". Bytes, answers and encoded bytes are literals. Assumes nothing.
 use Prim.Native.Nat.{ℕ}
 use Prim.Native.String.{String}
 use mathlib.Core.Path.{_≡_}
@@ -1265,6 +1265,297 @@ wideNumbers =
     ∷ sample "the hidden field, restamped" restampedHiddenField (run 4) (stopped value 4) (line 17 0 2 0 0 0 0 0 ++ line 240 2 1 0 0 0 0 0)
     ∷ sample "-5 in version 1" minusFive (run 10) (stopped value 0) (line 17 0 0 0 251 255 255 255 ++ line 240 1 1 0 0 0 0 0)
     ∷ sample "-5, restamped" restampedMinusFive (run 10) (stopped value 0) (line 17 0 251 255 255 255 255 255 ++ line 240 2 1 0 0 0 0 0)
+    ∷ []
+
+-- 1,,{1=2}
+unfoldable pub numberFirst : List ℕ
+numberFirst =
+    line 17 0 0 0 1 0 0 0
+    ++ line 17 0 0 0 2 0 0 0
+    ++ line 24 1 1 0 0 0 0 0
+    ++ line 22 0 0 0 2 0 0 0
+    ++ line 240 1 4 0 3 0 0 0
+
+-- {1=2},,1: the halves swapped
+unfoldable pub recordFirst : List ℕ
+recordFirst =
+    line 17 0 0 0 2 0 0 0
+    ++ line 24 1 0 0 0 0 0 0
+    ++ line 17 0 0 0 1 0 0 0
+    ++ line 22 0 1 0 2 0 0 0
+    ++ line 240 1 4 0 3 0 0 0
+
+-- (1,,{1=2}) : Int & {1:Int}
+unfoldable pub numberFirstRead : List ℕ
+numberFirstRead =
+    line 17 0 0 0 1 0 0 0
+    ++ line 17 0 0 0 2 0 0 0
+    ++ line 24 1 1 0 0 0 0 0
+    ++ line 22 0 0 0 2 0 0 0
+    ++ line 1 0 0 0 0 0 0 0
+    ++ line 1 0 0 0 0 0 0 0
+    ++ line 5 1 5 0 0 0 0 0
+    ++ line 4 0 4 0 6 0 0 0
+    ++ line 19 0 3 0 7 0 0 0
+    ++ line 240 1 9 0 8 0 0 0
+
+-- ({1=2},,1) : Int & {1:Int}
+unfoldable pub recordFirstRead : List ℕ
+recordFirstRead =
+    line 17 0 0 0 2 0 0 0
+    ++ line 24 1 0 0 0 0 0 0
+    ++ line 17 0 0 0 1 0 0 0
+    ++ line 22 0 1 0 2 0 0 0
+    ++ line 1 0 0 0 0 0 0 0
+    ++ line 1 0 0 0 0 0 0 0
+    ++ line 5 1 5 0 0 0 0 0
+    ++ line 4 0 4 0 6 0 0 0
+    ++ line 19 0 3 0 7 0 0 0
+    ++ line 240 1 9 0 8 0 0 0
+
+-- (1,,{1=2}) : {1:Int} & Int
+unfoldable pub numberFirstTurned : List ℕ
+numberFirstTurned =
+    line 17 0 0 0 1 0 0 0
+    ++ line 17 0 0 0 2 0 0 0
+    ++ line 24 1 1 0 0 0 0 0
+    ++ line 22 0 0 0 2 0 0 0
+    ++ line 1 0 0 0 0 0 0 0
+    ++ line 5 1 4 0 0 0 0 0
+    ++ line 1 0 0 0 0 0 0 0
+    ++ line 4 0 5 0 6 0 0 0
+    ++ line 19 0 3 0 7 0 0 0
+    ++ line 240 1 9 0 8 0 0 0
+
+-- ({1=2},,1) : {1:Int} & Int
+unfoldable pub recordFirstTurned : List ℕ
+recordFirstTurned =
+    line 17 0 0 0 2 0 0 0
+    ++ line 24 1 0 0 0 0 0 0
+    ++ line 17 0 0 0 1 0 0 0
+    ++ line 22 0 1 0 2 0 0 0
+    ++ line 1 0 0 0 0 0 0 0
+    ++ line 5 1 4 0 0 0 0 0
+    ++ line 1 0 0 0 0 0 0 0
+    ++ line 4 0 5 0 6 0 0 0
+    ++ line 19 0 3 0 7 0 0 0
+    ++ line 240 1 9 0 8 0 0 0
+
+-- (1,,{1=2}),,{2=3}
+unfoldable pub groupedLeft : List ℕ
+groupedLeft =
+    line 17 0 0 0 1 0 0 0
+    ++ line 17 0 0 0 2 0 0 0
+    ++ line 24 1 1 0 0 0 0 0
+    ++ line 22 0 0 0 2 0 0 0
+    ++ line 17 0 0 0 3 0 0 0
+    ++ line 24 2 4 0 0 0 0 0
+    ++ line 22 0 3 0 5 0 0 0
+    ++ line 240 1 7 0 6 0 0 0
+
+-- 1,,({1=2},,{2=3}): regrouped
+unfoldable pub groupedRight : List ℕ
+groupedRight =
+    line 17 0 0 0 1 0 0 0
+    ++ line 17 0 0 0 2 0 0 0
+    ++ line 24 1 1 0 0 0 0 0
+    ++ line 17 0 0 0 3 0 0 0
+    ++ line 24 2 3 0 0 0 0 0
+    ++ line 22 0 2 0 4 0 0 0
+    ++ line 22 0 0 0 5 0 0 0
+    ++ line 240 1 7 0 6 0 0 0
+
+-- ((1,,{1=2}),,{2=3}) : {2:Int} & Int
+unfoldable pub groupedLeftRead : List ℕ
+groupedLeftRead =
+    line 17 0 0 0 1 0 0 0
+    ++ line 17 0 0 0 2 0 0 0
+    ++ line 24 1 1 0 0 0 0 0
+    ++ line 22 0 0 0 2 0 0 0
+    ++ line 17 0 0 0 3 0 0 0
+    ++ line 24 2 4 0 0 0 0 0
+    ++ line 22 0 3 0 5 0 0 0
+    ++ line 1 0 0 0 0 0 0 0
+    ++ line 5 2 7 0 0 0 0 0
+    ++ line 1 0 0 0 0 0 0 0
+    ++ line 4 0 8 0 9 0 0 0
+    ++ line 19 0 6 0 10 0 0 0
+    ++ line 240 1 12 0 11 0 0 0
+
+-- (1,,({1=2},,{2=3})) : {2:Int} & Int
+unfoldable pub groupedRightRead : List ℕ
+groupedRightRead =
+    line 17 0 0 0 1 0 0 0
+    ++ line 17 0 0 0 2 0 0 0
+    ++ line 24 1 1 0 0 0 0 0
+    ++ line 17 0 0 0 3 0 0 0
+    ++ line 24 2 3 0 0 0 0 0
+    ++ line 22 0 2 0 4 0 0 0
+    ++ line 22 0 0 0 5 0 0 0
+    ++ line 1 0 0 0 0 0 0 0
+    ++ line 5 2 7 0 0 0 0 0
+    ++ line 1 0 0 0 0 0 0 0
+    ++ line 4 0 8 0 9 0 0 0
+    ++ line 19 0 6 0 10 0 0 0
+    ++ line 240 1 12 0 11 0 0 0
+
+-- (1,,{1=2}),,1: consistent, not disjoint
+unfoldable pub partTwice : List ℕ
+partTwice =
+    line 17 0 0 0 1 0 0 0
+    ++ line 17 0 0 0 2 0 0 0
+    ++ line 24 1 1 0 0 0 0 0
+    ++ line 22 0 0 0 2 0 0 0
+    ++ line 17 0 0 0 1 0 0 0
+    ++ line 22 0 3 0 4 0 0 0
+    ++ line 240 1 6 0 5 0 0 0
+
+-- 1,,(1,,{1=2})
+unfoldable pub partTwiceSwapped : List ℕ
+partTwiceSwapped =
+    line 17 0 0 0 1 0 0 0
+    ++ line 17 0 0 0 1 0 0 0
+    ++ line 17 0 0 0 2 0 0 0
+    ++ line 24 1 2 0 0 0 0 0
+    ++ line 22 0 1 0 3 0 0 0
+    ++ line 22 0 0 0 4 0 0 0
+    ++ line 240 1 6 0 5 0 0 0
+
+-- (1,,{1=2}),,2: the first part and the last are not consistent
+unfoldable pub conflictingEnds : List ℕ
+conflictingEnds =
+    line 17 0 0 0 1 0 0 0
+    ++ line 17 0 0 0 2 0 0 0
+    ++ line 24 1 1 0 0 0 0 0
+    ++ line 22 0 0 0 2 0 0 0
+    ++ line 17 0 0 0 2 0 0 0
+    ++ line 22 0 3 0 4 0 0 0
+    ++ line 240 1 6 0 5 0 0 0
+
+-- 1,,({1=2},,2)
+unfoldable pub conflictingEndsRegrouped : List ℕ
+conflictingEndsRegrouped =
+    line 17 0 0 0 1 0 0 0
+    ++ line 17 0 0 0 2 0 0 0
+    ++ line 24 1 1 0 0 0 0 0
+    ++ line 17 0 0 0 2 0 0 0
+    ++ line 22 0 2 0 3 0 0 0
+    ++ line 22 0 0 0 4 0 0 0
+    ++ line 240 1 6 0 5 0 0 0
+
+-- (1,,1),,({1=2} : {1:Int}): no value yet
+unfoldable pub notYetValue : List ℕ
+notYetValue =
+    line 17 0 0 0 1 0 0 0
+    ++ line 17 0 0 0 1 0 0 0
+    ++ line 22 0 0 0 1 0 0 0
+    ++ line 17 0 0 0 2 0 0 0
+    ++ line 24 1 3 0 0 0 0 0
+    ++ line 1 0 0 0 0 0 0 0
+    ++ line 5 1 5 0 0 0 0 0
+    ++ line 19 0 4 0 6 0 0 0
+    ++ line 22 0 2 0 7 0 0 0
+    ++ line 240 1 9 0 8 0 0 0
+
+-- 1,,(1,,({1=2} : {1:Int})): its halves are neither disjoint nor both values
+unfoldable pub notYetValueRegrouped : List ℕ
+notYetValueRegrouped =
+    line 17 0 0 0 1 0 0 0
+    ++ line 17 0 0 0 1 0 0 0
+    ++ line 17 0 0 0 2 0 0 0
+    ++ line 24 1 2 0 0 0 0 0
+    ++ line 1 0 0 0 0 0 0 0
+    ++ line 5 1 4 0 0 0 0 0
+    ++ line 19 0 3 0 5 0 0 0
+    ++ line 22 0 1 0 6 0 0 0
+    ++ line 22 0 0 0 7 0 0 0
+    ++ line 240 1 9 0 8 0 0 0
+
+-- a function that gives (1,,1),,(a function that gives its argument): not closed
+unfoldable pub openValue : List ℕ
+openValue =
+    line 17 0 0 0 1 0 0 0
+    ++ line 17 0 0 0 1 0 0 0
+    ++ line 22 0 0 0 1 0 0 0
+    ++ line 16 0 1 0 0 0 0 0
+    ++ line 1 0 0 0 0 0 0 0
+    ++ line 1 0 0 0 0 0 0 0
+    ++ line 21 0 3 0 4 0 5 0
+    ++ line 22 0 2 0 6 0 0 0
+    ++ line 1 0 0 0 0 0 0 0
+    ++ line 1 0 0 0 0 0 0 0
+    ++ line 21 0 7 0 8 0 9 0
+    ++ line 240 1 11 0 10 0 0 0
+
+-- 1,,(1,,(a function that gives its argument)) in the same place
+unfoldable pub openValueRegrouped : List ℕ
+openValueRegrouped =
+    line 17 0 0 0 1 0 0 0
+    ++ line 17 0 0 0 1 0 0 0
+    ++ line 16 0 1 0 0 0 0 0
+    ++ line 1 0 0 0 0 0 0 0
+    ++ line 1 0 0 0 0 0 0 0
+    ++ line 21 0 2 0 3 0 4 0
+    ++ line 22 0 1 0 5 0 0 0
+    ++ line 22 0 0 0 6 0 0 0
+    ++ line 1 0 0 0 0 0 0 0
+    ++ line 1 0 0 0 0 0 0 0
+    ++ line 21 0 7 0 8 0 9 0
+    ++ line 240 1 11 0 10 0 0 0
+
+-- functions with the bodies 1,,{1=2} and {1=2},,1
+unfoldable pub reorderedBodies : List ℕ
+reorderedBodies =
+    line 17 0 0 0 1 0 0 0
+    ++ line 17 0 0 0 2 0 0 0
+    ++ line 24 1 1 0 0 0 0 0
+    ++ line 22 0 0 0 2 0 0 0
+    ++ line 1 0 0 0 0 0 0 0
+    ++ line 1 0 0 0 0 0 0 0
+    ++ line 1 0 0 0 0 0 0 0
+    ++ line 5 1 6 0 0 0 0 0
+    ++ line 4 0 5 0 7 0 0 0
+    ++ line 21 0 3 0 4 0 8 0
+    ++ line 17 0 0 0 2 0 0 0
+    ++ line 24 1 10 0 0 0 0 0
+    ++ line 17 0 0 0 1 0 0 0
+    ++ line 22 0 11 0 12 0 0 0
+    ++ line 1 0 0 0 0 0 0 0
+    ++ line 1 0 0 0 0 0 0 0
+    ++ line 1 0 0 0 0 0 0 0
+    ++ line 5 1 16 0 0 0 0 0
+    ++ line 4 0 15 0 17 0 0 0
+    ++ line 21 0 13 0 14 0 18 0
+    ++ line 22 0 9 0 19 0 0 0
+    ++ line 240 1 21 0 20 0 0 0
+
+-- Document 02, (v): values in two orders, what they are read as, and what is not promised: with no step taken, of a merge that is no value yet, of a value that is
+-- not closed, and inside a body.
+unfoldable pub orders : List Sample
+orders =
+    sample "1,,{1=2}" numberFirst check (accepted 4) (line 1 0 0 0 0 0 0 0 ++ line 1 0 0 0 0 0 0 0 ++ line 5 1 1 0 0 0 0 0 ++ line 4 0 0 0 2 0 0 0 ++ line 240 1 4 0 3 0 0 0)
+    ∷ sample "{1=2},,1" recordFirst check (accepted 4) (line 1 0 0 0 0 0 0 0 ++ line 5 1 0 0 0 0 0 0 ++ line 1 0 0 0 0 0 0 0 ++ line 4 0 1 0 2 0 0 0 ++ line 240 1 4 0 3 0 0 0)
+    ∷ sample "1,,{1=2}" numberFirst (run 1) (stopped value 0) (line 17 0 0 0 1 0 0 0 ++ line 17 0 0 0 2 0 0 0 ++ line 24 1 1 0 0 0 0 0 ++ line 22 0 0 0 2 0 0 0 ++ line 240 1 4 0 3 0 0 0)
+    ∷ sample "{1=2},,1" recordFirst (run 1) (stopped value 0) (line 17 0 0 0 2 0 0 0 ++ line 24 1 0 0 0 0 0 0 ++ line 17 0 0 0 1 0 0 0 ++ line 22 0 1 0 2 0 0 0 ++ line 240 1 4 0 3 0 0 0)
+    ∷ sample "(1,,{1=2}) : Int & {1:Int}" numberFirstRead (run 0) (stopped spent 0) (line 17 0 0 0 1 0 0 0 ++ line 17 0 0 0 2 0 0 0 ++ line 24 1 1 0 0 0 0 0 ++ line 22 0 0 0 2 0 0 0 ++ line 1 0 0 0 0 0 0 0 ++ line 1 0 0 0 0 0 0 0 ++ line 5 1 5 0 0 0 0 0 ++ line 4 0 4 0 6 0 0 0 ++ line 19 0 3 0 7 0 0 0 ++ line 240 1 9 0 8 0 0 0)
+    ∷ sample "({1=2},,1) : Int & {1:Int}" recordFirstRead (run 0) (stopped spent 0) (line 17 0 0 0 2 0 0 0 ++ line 24 1 0 0 0 0 0 0 ++ line 17 0 0 0 1 0 0 0 ++ line 22 0 1 0 2 0 0 0 ++ line 1 0 0 0 0 0 0 0 ++ line 1 0 0 0 0 0 0 0 ++ line 5 1 5 0 0 0 0 0 ++ line 4 0 4 0 6 0 0 0 ++ line 19 0 3 0 7 0 0 0 ++ line 240 1 9 0 8 0 0 0)
+    ∷ sample "(1,,{1=2}) : Int & {1:Int}" numberFirstRead (run 1) (stopped value 1) (line 17 0 0 0 1 0 0 0 ++ line 17 0 0 0 2 0 0 0 ++ line 24 1 1 0 0 0 0 0 ++ line 22 0 0 0 2 0 0 0 ++ line 240 1 4 0 3 0 0 0)
+    ∷ sample "({1=2},,1) : Int & {1:Int}" recordFirstRead (run 1) (stopped value 1) (line 17 0 0 0 1 0 0 0 ++ line 17 0 0 0 2 0 0 0 ++ line 24 1 1 0 0 0 0 0 ++ line 22 0 0 0 2 0 0 0 ++ line 240 1 4 0 3 0 0 0)
+    ∷ sample "(1,,{1=2}) : {1:Int} & Int" numberFirstTurned (run 1) (stopped value 1) (line 17 0 0 0 2 0 0 0 ++ line 24 1 0 0 0 0 0 0 ++ line 17 0 0 0 1 0 0 0 ++ line 22 0 1 0 2 0 0 0 ++ line 240 1 4 0 3 0 0 0)
+    ∷ sample "({1=2},,1) : {1:Int} & Int" recordFirstTurned (run 1) (stopped value 1) (line 17 0 0 0 2 0 0 0 ++ line 24 1 0 0 0 0 0 0 ++ line 17 0 0 0 1 0 0 0 ++ line 22 0 1 0 2 0 0 0 ++ line 240 1 4 0 3 0 0 0)
+    ∷ sample "(1,,{1=2}),,{2=3}" groupedLeft check (accepted 7) (line 1 0 0 0 0 0 0 0 ++ line 1 0 0 0 0 0 0 0 ++ line 5 1 1 0 0 0 0 0 ++ line 4 0 0 0 2 0 0 0 ++ line 1 0 0 0 0 0 0 0 ++ line 5 2 4 0 0 0 0 0 ++ line 4 0 3 0 5 0 0 0 ++ line 240 1 7 0 6 0 0 0)
+    ∷ sample "1,,({1=2},,{2=3})" groupedRight check (accepted 7) (line 1 0 0 0 0 0 0 0 ++ line 1 0 0 0 0 0 0 0 ++ line 5 1 1 0 0 0 0 0 ++ line 1 0 0 0 0 0 0 0 ++ line 5 2 3 0 0 0 0 0 ++ line 4 0 2 0 4 0 0 0 ++ line 4 0 0 0 5 0 0 0 ++ line 240 1 7 0 6 0 0 0)
+    ∷ sample "((1,,{1=2}),,{2=3}) : {2:Int} & Int" groupedLeftRead (run 1) (stopped value 1) (line 17 0 0 0 3 0 0 0 ++ line 24 2 0 0 0 0 0 0 ++ line 17 0 0 0 1 0 0 0 ++ line 22 0 1 0 2 0 0 0 ++ line 240 1 4 0 3 0 0 0)
+    ∷ sample "(1,,({1=2},,{2=3})) : {2:Int} & Int" groupedRightRead (run 1) (stopped value 1) (line 17 0 0 0 3 0 0 0 ++ line 24 2 0 0 0 0 0 0 ++ line 17 0 0 0 1 0 0 0 ++ line 22 0 1 0 2 0 0 0 ++ line 240 1 4 0 3 0 0 0)
+    ∷ sample "(1,,{1=2}),,1" partTwice check (accepted 6) (line 1 0 0 0 0 0 0 0 ++ line 1 0 0 0 0 0 0 0 ++ line 5 1 1 0 0 0 0 0 ++ line 4 0 0 0 2 0 0 0 ++ line 1 0 0 0 0 0 0 0 ++ line 4 0 3 0 4 0 0 0 ++ line 240 1 6 0 5 0 0 0)
+    ∷ sample "1,,(1,,{1=2})" partTwiceSwapped check (accepted 6) (line 1 0 0 0 0 0 0 0 ++ line 1 0 0 0 0 0 0 0 ++ line 1 0 0 0 0 0 0 0 ++ line 5 1 2 0 0 0 0 0 ++ line 4 0 1 0 3 0 0 0 ++ line 4 0 0 0 4 0 0 0 ++ line 240 1 6 0 5 0 0 0)
+    ∷ sample "(1,,{1=2}),,2" conflictingEnds check (refused 14 5) []
+    ∷ sample "1,,({1=2},,2)" conflictingEndsRegrouped check (refused 14 5) []
+    ∷ sample "(1,,1),,({1=2} : {1:Int})" notYetValue check (accepted 6) (line 1 0 0 0 0 0 0 0 ++ line 1 0 0 0 0 0 0 0 ++ line 4 0 0 0 1 0 0 0 ++ line 1 0 0 0 0 0 0 0 ++ line 5 1 3 0 0 0 0 0 ++ line 4 0 2 0 4 0 0 0 ++ line 240 1 6 0 5 0 0 0)
+    ∷ sample "1,,(1,,({1=2} : {1:Int}))" notYetValueRegrouped check (refused 14 8) []
+    ∷ sample "a function whose body is (1,,1) beside a function that gives the argument" openValue check (accepted 3) (line 1 0 0 0 0 0 0 0 ++ line 1 0 0 0 0 0 0 0 ++ line 3 0 0 0 1 0 0 0 ++ line 240 1 3 0 2 0 0 0)
+    ∷ sample "the same body, regrouped" openValueRegrouped check (refused 14 7) []
+    ∷ sample "functions with the bodies 1,,{1=2} and {1=2},,1" reorderedBodies check (refused 14 20) []
     ∷ []
 
 -- A small book for each row from 2 to 15, with the number and the cell that it is refused with. docs/FORMAT.md has the same books.
