@@ -19,7 +19,7 @@ use Rattle.format.specs.Cell.{IsBytes}
 use Rattle.format.specs.Terms.{TermFits, fromTermIn}
 use Rattle.format.specs.Book.{sizeLimit, WellFormed, versionOf, rootTerm, termBook}
 use Rattle.format.proofs.Trees.{term-cells}
-use Rattle.format.proofs.Tests.{rootTerm-fits, rootTerm-small}
+use Rattle.format.proofs.Tests.{rootTerm-fits}
 use Rattle.format.proofs.RoundTrip.{book-length, term-round-trip}
 use Rattle.answers.specs.Answer.{Stop, value, spent, room, accepted, stopped, stepsOf, Result, result}
 use Rattle.answers.specs.Engine.{Engine, IsWork, IsLimit, padded}
@@ -42,7 +42,7 @@ same {e} {f} p t = order-free [] e f (p .0) (typed-closed (t .1)) (p .1)
 values-typed : {e f : Term} → Values e f → HasType [] e → HasType [] f
 values-typed p t = same p t .accepted .0 t
 
-annotated-typed : {e f : Term} → Annotated e f → HasType [] e → HasType [] f
+pub annotated-typed : {e f : Term} → Annotated e f → HasType [] e → HasType [] f
 annotated-typed (annotated p) t = anno-reordered (p .0 .1) (p .1) t
 
 annotated-size : {e f : Term} → Annotated e f → size f ≡ size e
@@ -99,30 +99,7 @@ other-why h k p t spent l (at-value v) w = absurd (w .0 v)
 other-why h k p t room l at-roots w = (no-value (annotated-sym p), w .1, (w .2 .0, annotated-step k p t (w .2 .1) .1, w .2 .2))
 other-why h k p t room l (at-value v) w = absurd (w .0 v)
 
--- so that a run of the one is a run of the other, but for the root
-module _ {u : Version} {e f : Term} {l : ℕ} {r : Result} (v : Version) (p : Annotated e f) (t : HasType [] e) (x : TakesSteps u e l r) where
-  behind : Follows (halfOf v) e f (x .steps) (x .term)
-  behind = follows (halfOf v) p t (x .reached)
-
-  other-small : (n : ℕ) (d : Term) → n ≤ x .steps → Reaches (halfOf v) n f d → size d ≤ sizeLimit
-  other-small n d i q =
-      let o = follows (halfOf u) (annotated-sym p) (annotated-typed p t) q in
-      omega (arith, abreast-size (annotated-sym p) (o .abreast), x .small n (o .other) i (o .reached))
-
-  other-run : TakesSteps v f l (result (stopped (x .stop) (x .steps)) (padded (termBook v (behind .other))))
-  other-run =
-      record {
-        stop = x .stop;
-        steps = x .steps;
-        term = behind .other;
-        says = refl;
-        taken = x .taken;
-        reached = behind .reached;
-        small = other-small;
-        why = other-why (halfOf u) (halfOf v) p t (x .stop) l (behind .abreast) (x .why);
-      }
-
--- ---- their bytes
+-- ---- the bytes of the roots
 
 -- terms of one size that are encoded alike are the same
 encoded-alike : (v : Version) (e f : Term) → TermFits (halfOf v) e → TermFits (halfOf v) f → size e ≤ sizeLimit → size f ≡ size e →
@@ -133,14 +110,71 @@ encoded-alike v e f x y h s q =
     let z : termBook v e ≡ termBook v f = append-cancel-right (termBook v e) (termBook v f) _ (rw n at q) in
     sym (term-round-trip v e x h .decodes) ∙ ap rootTerm z ∙ term-round-trip v f y (omega arith) .decodes
 
+-- ---- two runs, by whatever engines
+
+module _ {u v : Version} {e f : Term} {l : ℕ} {x y : Result} (p : Annotated e f) (t : HasType [] e) (one : TakesSteps u e l x) (two : TakesSteps v f l y) where
+  abbrev behind : Follows (halfOf v) e f (one .steps) (one .term)
+  behind = follows (halfOf v) p t (one .reached)
+
+  -- a run of the one is a run of the other, but for the root
+  other-small : (n : ℕ) (d : Term) → n ≤ one .steps → Reaches (halfOf v) n f d → size d ≤ sizeLimit
+  other-small n d i q =
+      let o = follows (halfOf u) (annotated-sym p) (annotated-typed p t) q in
+      omega (arith, abreast-size (annotated-sym p) (o .abreast), one .small n (o .other) i (o .reached))
+
+  other-run : TakesSteps v f l (result (stopped (one .stop) (one .steps)) (padded (termBook v (behind .other))))
+  other-run =
+      record {
+        stop = one .stop;
+        steps = one .steps;
+        term = behind .other;
+        says = refl;
+        taken = one .taken;
+        reached = behind .reached;
+        small = other-small;
+        why = other-why (halfOf u) (halfOf v) p t (one .stop) l (behind .abreast) (one .why);
+      }
+
+  other : y ≡ result (stopped (one .stop) (one .steps)) (padded (termBook v (behind .other)))
+  other = runs-unique (annotated-typed p t .1) two other-run
+
+  steps : stepsOf (x .answer) ≡ one .steps
+  steps = ap (λ (r : Result). stepsOf (r .answer)) (one .says)
+
+  left-one : x .left ≡ padded (termBook u (one .term))
+  left-one = ap (λ (r : Result). r .left) (one .says)
+
+  left-other : y .left ≡ padded (termBook v (behind .other))
+  left-other = ap (λ (r : Result). r .left) other
+
+  -- after a step, and before
+  after : stepsOf (x .answer) ≢ 0 → u ≡ v → x .left ≡ y .left
+  after n q = left-one ∙ rw (q, abreast-after (behind .abreast) (λ z. n (steps ∙ z))) (sym left-other)
+
+  before : stepsOf (x .answer) ≡ 0 → (x .left ≡ padded (termBook u e)) × (y .left ≡ padded (termBook v f))
+  before n =
+      let (g, h) = abreast-before (behind .abreast) (sym steps ∙ n) in
+      (left-one ∙ ap (λ (d : Term). padded (termBook u d)) g, left-other ∙ ap (λ (d : Term). padded (termBook v d)) h)
+
+  pub same-reading : TermFits (halfOf u) e → TermFits (halfOf v) f → SameReading u v e f x y
+  same-reading fits fits-other =
+      record {
+        answer = ap (λ (r : Result). r .answer) (one .says) ∙ sym (ap (λ (r : Result). r .answer) other);
+        bytes = after;
+        untaken = before;
+        differ = λ n q d z.
+            let (g, h) = before n in
+            let k : padded (termBook v e) ≡ padded (termBook v f) = rw q at (sym g ∙ z ∙ h) in
+            d (encoded-alike v e f (rw (← q) fits) fits-other (one .small 0 e (omega arith) r-zero) (annotated-size p) k);
+      }
+
 -- ---- the promise
 
+-- of two books that are accepted together, if a type of either root gives one of the other
 module _ (E : Engine) (d : Demand2 E) where
-  -- accepted is typed
   accepted-typed : (b : List ℕ) → IsBytes b → Accepts E b → HasType [] (rootTerm b)
   accepted-typed b y a = d b y .accepts .0 a .1
 
-  -- of two books, if a type of the one gives one of the other
   accepted-too : (b c : List ℕ) → IsBytes b → IsBytes c → WellFormed c → (HasType [] (rootTerm b) → HasType [] (rootTerm c)) → Accepts E b → Accepts E c
   accepted-too b c y z g f a = d c z .accepts .1 (g, f (accepted-typed b y a))
 
@@ -157,73 +191,24 @@ module _ (E : Engine) (d : Demand2 E) where
   accepts-annotated : (b c : List ℕ) → Books Annotated b c → Accepts E b ↔ Accepts E c
   accepts-annotated b c p = accepted-together p (annotated-typed (p .roots)) (annotated-typed (annotated-sym (p .roots)))
 
+  -- what a check answers of a book with a type
+  shown-size : (b w : List ℕ) → IsBytes b → WellFormed b → IsWork w → (t : HasType [] (rootTerm b)) → E .check b w .answer ≡ accepted (size-type (t .0))
+  shown-size b w y g j t = ap (λ (r : Result). r .answer) (d b y .shows (t .0) g (t .1) w j)
+
   same-answer : (b c : List ℕ) → Books Values b c → Accepts E b → (w x : List ℕ) → IsWork w → IsWork x → E .check b w .answer ≡ E .check c x .answer
   same-answer b c p a w x j k =
       let t = accepted-typed b (p .bytes .0) a in
       let u = values-typed (p .roots) t in
-      let one : E .check b w .answer ≡ accepted (size-type (t .0)) =
-      ap (λ (r : Result). r .answer) (d b (p .bytes .0) .shows (t .0) (p .formed .0) (t .1) w j) in
-      let other : E .check c x .answer ≡ accepted (size-type (u .0)) =
-      ap (λ (r : Result). r .answer) (d c (p .bytes .1) .shows (u .0) (p .formed .1) (u .1) x k) in
-      one ∙ ap accepted (same (p .roots) t .types (t .0) (u .0) (t .1) (u .1) .2) ∙ sym other
+      shown-size b w (p .bytes .0) (p .formed .0) j t ∙ ap accepted (same (p .roots) t .types (t .0) (u .0) (t .1) (u .1) .2)
+      ∙ sym (shown-size c x (p .bytes .1) (p .formed .1) k u)
 
-  module _ (b c : List ℕ) (p : Books Annotated b c) (a : Accepts E b) (w x : List ℕ) (l : ℕ) (j : IsWork w) (k : IsWork x) (i : IsLimit l) where
-    typed : HasType [] (rootTerm b)
-    typed = accepted-typed b (p .bytes .0) a
-
-    one : TakesSteps (versionOf b) (rootTerm b) l (E .run b w l)
-    one = d b (p .bytes .0) .runs a w l j i
-
-    abbrev after : Follows (halfOf (versionOf c)) (rootTerm b) (rootTerm c) (one .steps) (one .term)
-    after = behind (versionOf c) (p .roots) typed one
-
-    other : E .run c x l ≡ result (stopped (one .stop) (one .steps)) (padded (termBook (versionOf c) (after .other)))
-    other =
-        runs-unique (annotated-typed (p .roots) typed .1)
-        (d c (p .bytes .1) .runs (accepts-annotated b c p .0 a) x l k i)
-        (other-run (versionOf c) (p .roots) typed one)
-
-    steps : stepsOf (E .run b w l .answer) ≡ one .steps
-    steps = ap (λ (r : Result). stepsOf (r .answer)) (one .says)
-
-    -- the bytes of both, by where they are
-    left-one : E .run b w l .left ≡ padded (termBook (versionOf b) (one .term))
-    left-one = ap (λ (r : Result). r .left) (one .says)
-
-    left-other : E .run c x l .left ≡ padded (termBook (versionOf c) (after .other))
-    left-other = ap (λ (r : Result). r .left) other
-
-    taken-alike : stepsOf (E .run b w l .answer) ≢ 0 → versionOf b ≡ versionOf c → E .run b w l .left ≡ E .run c x l .left
-    taken-alike n e = left-one ∙ rw (e, abreast-after (after .abreast) (λ z. n (steps ∙ z))) (sym left-other)
-
-    at-roots-both : stepsOf (E .run b w l .answer) ≡ 0 →
-        (E .run b w l .left ≡ padded (termBook (versionOf b) (rootTerm b))) × (E .run c x l .left ≡ padded (termBook (versionOf c) (rootTerm c)))
-    at-roots-both n =
-        let (g, e) = abreast-before (after .abreast) (sym steps ∙ n) in
-        (left-one ∙ ap (λ (f : Term). padded (termBook (versionOf b) f)) g, left-other ∙ ap (λ (f : Term). padded (termBook (versionOf c) f)) e)
-
-    roots-differ : stepsOf (E .run b w l .answer) ≡ 0 → versionOf b ≡ versionOf c → rootTerm b ≢ rootTerm c → E .run b w l .left ≢ E .run c x l .left
-    roots-differ n e u q =
-        let (y, z) = at-roots-both n in
-        let v = versionOf c in
-        let fits : TermFits (halfOf v) (rootTerm b) = rw (← e) (rootTerm-fits b (p .bytes .0) (p .formed .0)) in
-        let h : padded (termBook v (rootTerm b)) ≡ padded (termBook v (rootTerm c)) = rw e at (sym y ∙ q ∙ z) in
-        u (encoded-alike v (rootTerm b) (rootTerm c) fits (rootTerm-fits c (p .bytes .1) (p .formed .1)) (rootTerm-small b (p .bytes .0) (p .formed .0)) (annotated-size (p .roots)) h)
-
-    same-reading : SameReading (versionOf b) (versionOf c) (rootTerm b) (rootTerm c) (E .run b w l) (E .run c x l)
-    same-reading =
-        record {
-          answer = ap (λ (r : Result). r .answer) (one .says) ∙ sym (ap (λ (r : Result). r .answer) other);
-          bytes = taken-alike;
-          untaken = at-roots-both;
-          differ = roots-differ;
-        }
-
-pub ignores-order : (E : Engine) → Demand2 E → IgnoresOrder E
-ignores-order E d =
-    record {
-      accepts = accepts-values E d;
-      answers = same-answer E d;
-      together = accepts-annotated E d;
-      runs = same-reading E d;
-    }
+  pub ignores-order : IgnoresOrder E
+  ignores-order =
+      record {
+        accepts = accepts-values;
+        answers = same-answer;
+        together = accepts-annotated;
+        runs = λ b c p a w x l j k i. same-reading (p .roots) (accepted-typed b (p .bytes .0) a)
+            (d b (p .bytes .0) .runs a w l j i) (d c (p .bytes .1) .runs (accepts-annotated b c p .0 a) x l k i)
+            (rootTerm-fits b (p .bytes .0) (p .formed .0)) (rootTerm-fits c (p .bytes .1) (p .formed .1));
+      }

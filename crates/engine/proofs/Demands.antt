@@ -1,18 +1,22 @@
--- Every engine that meets the contracts of the two public calls meets demands 2 and 3, whole, and keeps the promise of restamped books. Assumes nothing.
+-- Every engine that meets the contracts of the two public calls meets demands 2 and 3, whole, and keeps the promises of restamped books and of values in any
+-- order. Assumes nothing.
 use Prim.Native.Nat.{ℕ}
 use mathlib.Core.Path.{_≡_, sym, _∙_, subst}
 use mathlib.Core.List.{List, []}
 use Rattle.calculus.specs.Syntax.{Ty}
-use Rattle.calculus.specs.Typing.{Typed}
+use Rattle.calculus.specs.Typing.{Typed, HasType}
 use Rattle.format.specs.Cell.{IsBytes}
 use Rattle.format.specs.Book.{versionOf, rootTerm, WellFormed}
+use Rattle.format.proofs.Tests.{rootTerm-fits}
 use Rattle.answers.specs.Answer.{Answer, accepted, Result, result}
 use Rattle.answers.specs.Engine.{Engine, IsWork, IsLimit}
 use Rattle.answers.specs.Definition.{definition, check, run}
 use Rattle.answers.specs.Demands.{Accepts, TakesSteps, Agree, Demand2, Demand3}
 use Rattle.answers.specs.Restamping.{RestampKeeps}
+use Rattle.answers.specs.Order.{Annotated, Books, SameReading, IgnoresOrder}
 use Rattle.answers.proofs.Demands.{demand2, demand3-from-2}
 use Rattle.answers.proofs.Restamping.{restamped}
+use Rattle.answers.proofs.Order.{annotated-typed, same-reading, ignores-order}
 use Rattle.answers.specs.Cases.{answerOf}
 use Rattle.answers.specs.declared.Outcome.{Outcome}
 use Rattle.engine.specs.Run.{Ran}
@@ -22,6 +26,14 @@ use Rattle.engine.specs.Demands.{MeetsContracts}
 pub calls-agree : {b w v w′ v′ : List ℕ} {l m : ℕ} {r q : Outcome} {A : Ty} → Ran b w v l r → Ran b w′ v′ m q → IsWork w → IsWork w′ → WellFormed b →
     Typed [] (rootTerm b) A → Agree l m (result (answerOf r) v) (result (answerOf q) v′)
 calls-agree {v′ = v′} {m = m} {q = q} {A = A} x y j k f t = x .agree j f A t m (result (answerOf q) v′) (y .runs k f A t) .0
+
+-- Two orders of a value under one annotation, likewise.
+pub calls-ignore-order : {b c w v w′ v′ : List ℕ} {l : ℕ} {r q : Outcome} → Ran b w v l r → Ran c w′ v′ l q → IsWork w → IsWork w′ → Books Annotated b c →
+    HasType [] (rootTerm b) → SameReading (versionOf b) (versionOf c) (rootTerm b) (rootTerm c) (result (answerOf r) v) (result (answerOf q) v′)
+calls-ignore-order {b = b} {c = c} x y j k p t =
+    let u = annotated-typed (p .roots) t in
+    same-reading (p .roots) t (x .runs j (p .formed .0) (t .0) (t .1)) (y .runs k (p .formed .1) (u .0) (u .1))
+    (rootTerm-fits b (p .bytes .0) (p .formed .0)) (rootTerm-fits c (p .bytes .1) (p .formed .1))
 
 whole : {a : Answer} {v : List ℕ} {x : Result} → a ≡ x .answer → v ≡ x .left → result a v ≡ x
 whole p q = rw (p, q)
@@ -60,3 +72,6 @@ module _ (E : Engine) (c : MeetsContracts E) where
 
   pub contracts-restamped : RestampKeeps E
   contracts-restamped = restamped E contracts-demand2
+
+  pub contracts-ignore-order : IgnoresOrder E
+  contracts-ignore-order = ignores-order E contracts-demand2
