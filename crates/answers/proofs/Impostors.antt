@@ -37,12 +37,12 @@ use Rattle.answers.proofs.AllSamples.{computing}
 -- ---- the witnesses
 
 -- a book that is accepted, with the type that is shown
-record Accepted (b : List ℕ) (A : Ty) : Type 0 where
-  bytes : IsBytes b
-  formed : WellFormed b
-  typed : Typed [] (rootTerm b) A
+pub record Accepted (b : List ℕ) (A : Ty) : Type 0 where
+  pub bytes : IsBytes b
+  pub formed : WellFormed b
+  pub typed : Typed [] (rootTerm b) A
 
-bytes? : List ℕ → Bool
+unfoldable pub bytes? : List ℕ → Bool
 bytes? [] = true
 bytes? (n ∷ s) = ltb n 256 && bytes? s
 
@@ -53,7 +53,7 @@ all-bytes (n ∷ s) h zero = ltb→lt n 256 (subst⁻¹ T (and-eq-true-iff (ltb 
 all-bytes (n ∷ s) h (suc i) = all-bytes s (and-eq-true-iff (ltb n 256) (bytes? s) .0 h .1) i
 
 -- three computations
-computed : (b : List ℕ) (A : Ty) → bytes? b ≡ true → formFinding b ≡ none → infer [] (rootTerm b) ≡ found A → Accepted b A
+pub computed : (b : List ℕ) (A : Ty) → bytes? b ≡ true → formFinding b ≡ none → infer [] (rootTerm b) ≡ found A → Accepted b A
 computed b A h f t = record { bytes = all-bytes b h; formed = formFinding-says b .0 f; typed = infer-says [] (rootTerm b) A .0 t }
 
 -- 1 annotated with Int: 1 after 1 step
@@ -98,7 +98,7 @@ module _ {b : List ℕ} {A : Ty} (a : Accepted b A) where
   true-accepts = typed-accepts b (a .formed, (A, a .typed))
 
   -- Demand 2 leaves nothing of an accepted book's run open: it is the definitions' run.
-  demand2-determines : (E : Engine) → Demand2 E → (w : List ℕ) (l : ℕ) → IsWork w → IsLimit l → E .run b w l ≡ run b w l
+  pub demand2-determines : (E : Engine) → Demand2 E → (w : List ℕ) (l : ℕ) → IsWork w → IsLimit l → E .run b w l ≡ run b w l
   demand2-determines E d w l k h =
       let e : Accepts E b = d b (a .bytes) .accepts .1 (a .formed, (A, a .typed)) in
       runs-unique (a .typed) (d b (a .bytes) .runs e w l k h) (demand2 b (a .bytes) .runs true-accepts w l k h)

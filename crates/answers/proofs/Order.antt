@@ -4,11 +4,13 @@ use mathlib.Core.Path.{_≡_, refl, sym, _∙_, ap, subst, subst⁻¹}
 use mathlib.Core.Logic.{_↔_, _≢_}
 use mathlib.Core.List.{List, [], append-cancel-right}
 use native.Mathlib.Omega.{arith}
+use lib.Dec.{lit<}
+use lib.IntN.{ℤ}
 use lib.ListN.{length}
-use Rattle.calculus.specs.Syntax.{Ty, size-type, Term, anno, size, IsValue}
+use Rattle.calculus.specs.Syntax.{Ty, int, inter, field, size-type, Term, lit, anno, merge, rcd, size, v-lit, v-merge, v-rcd, IsValue}
 use Rattle.calculus.specs.Typing.{Typed, HasType}
 use Rattle.calculus.specs.Step.{Step, Reaches, r-zero, r-suc}
-use Rattle.calculus.specs.Order.{Reordered, SameValue}
+use Rattle.calculus.specs.Order.{swapped, SameValue}
 use Rattle.calculus.proofs.TypedReduction.{cast-to}
 use Rattle.calculus.proofs.Typing.{typed-closed}
 use Rattle.calculus.proofs.Soundness.{value-no-step}
@@ -23,9 +25,13 @@ use Rattle.format.proofs.Tests.{rootTerm-fits}
 use Rattle.format.proofs.RoundTrip.{book-length, term-round-trip}
 use Rattle.answers.specs.Answer.{Stop, value, spent, room, accepted, stopped, stepsOf, Result, result}
 use Rattle.answers.specs.Engine.{Engine, IsWork, IsLimit, padded}
+use Rattle.answers.specs.Definition.{run, reported}
 use Rattle.answers.specs.Demands.{Accepts, StopsBy, TakesSteps, Demand2}
-use Rattle.answers.specs.Order.{Values, Annotated, annotated, Books, SameReading, IgnoresOrder}
-use Rattle.answers.proofs.Demands.{runs-unique}
+use Rattle.answers.specs.Order.{Values, Annotated, annotated, Books, SameReading, IgnoresOrder, StepNeeded}
+use Rattle.answers.specs.Samples.{numberFirstRead, recordFirstRead}
+use Rattle.answers.proofs.AllSamples.{computing}
+use Rattle.answers.proofs.Demands.{clash, runs-unique, outcome}
+use Rattle.answers.proofs.Impostors.{Accepted, bytes?, computed, demand2-determines}
 
 -- ---- the roots
 
@@ -211,4 +217,73 @@ module _ (E : Engine) (d : Demand2 E) where
         runs = λ b c p a w x l j k i. same-reading (p .roots) (accepted-typed b (p .bytes .0) a)
             (d b (p .bytes .0) .runs a w l j i) (d c (p .bytes .1) .runs (accepts-annotated b c p .0 a) x l k i)
             (rootTerm-fits b (p .bytes .0) (p .formed .0)) (rootTerm-fits c (p .bytes .1) (p .formed .1));
+      }
+
+-- ---- the witness
+
+abbrev number-first-type : Ty
+number-first-type = inter int (field 1 int)
+
+number-first-accepted : Accepted numberFirstRead number-first-type
+unfolding computing numberFirstRead bytes?
+number-first-accepted = computed numberFirstRead _ refl refl refl
+
+record-first-accepted : Accepted recordFirstRead number-first-type
+unfolding computing recordFirstRead bytes?
+record-first-accepted = computed recordFirstRead _ refl refl refl
+
+two-orders : Annotated (rootTerm numberFirstRead) (rootTerm recordFirstRead)
+unfolding computing numberFirstRead recordFirstRead
+two-orders = annotated ((_, v-merge v-lit (v-rcd v-lit)), swapped)
+
+no-record : {i : ℤ} {l : ℕ} {e f g : Term} {A B : Ty} → anno (merge (lit i) e) A ≢ anno (merge (rcd l f) g) B
+no-record h = clash (cc h)
+
+roots-differ : rootTerm numberFirstRead ≢ rootTerm recordFirstRead
+unfolding computing numberFirstRead recordFirstRead
+roots-differ h = no-record h
+
+one-version : versionOf numberFirstRead ≡ versionOf recordFirstRead
+unfolding computing numberFirstRead recordFirstRead
+one-version = refl
+
+-- the steps of the true run under limits 0 and 1
+no-step : stepsOf (reported numberFirstRead 0 number-first-type .answer) ≡ 0
+unfolding computing numberFirstRead
+no-step = refl
+
+one-step : stepsOf (reported numberFirstRead 1 number-first-type .answer) ≡ 1
+unfolding computing numberFirstRead
+one-step = refl
+
+books-of : Books Annotated numberFirstRead recordFirstRead
+books-of =
+    let a = number-first-accepted in
+    let c = record-first-accepted in
+    record { bytes = (a .bytes, c .bytes); formed = (a .formed, c .formed); roots = two-orders }
+
+module _ (E : Engine) (d : Demand2 E) where
+  number-first-taken : Accepts E numberFirstRead
+  number-first-taken = let a = number-first-accepted in d numberFirstRead (a .bytes) .accepts .1 (a .formed, (_, a .typed))
+
+  -- an engine that obeys demand 2 takes those
+  engine-steps : (w : List ℕ) (l : ℕ) → IsWork w → IsLimit l → stepsOf (E .run numberFirstRead w l .answer) ≡ stepsOf (reported numberFirstRead l number-first-type .answer)
+  unfolding run
+  engine-steps w l k h =
+      let a = number-first-accepted in
+      ap (λ (r : Result). stepsOf (r .answer))
+      (demand2-determines a E d w l k h ∙ outcome numberFirstRead w (reported numberFirstRead l) number-first-type k (a .formed) (a .typed))
+
+  reading : (w x : List ℕ) (l : ℕ) → IsWork w → IsWork x → IsLimit l →
+      SameReading (versionOf numberFirstRead) (versionOf recordFirstRead) (rootTerm numberFirstRead) (rootTerm recordFirstRead)
+      (E .run numberFirstRead w l) (E .run recordFirstRead x l)
+  reading w x l = ignores-order E d .runs numberFirstRead recordFirstRead books-of number-first-taken w x l
+
+  pub step-needed : StepNeeded E
+  step-needed =
+      record {
+        books = books-of;
+        accepted = number-first-taken;
+        taken = λ w x j k. reading w x 1 j k (lit< tt) .bytes (λ z. clash (sym z ∙ engine-steps w 1 j (lit< tt) ∙ one-step)) one-version;
+        untaken = λ w x j k. reading w x 0 j k (lit< tt) .differ (engine-steps w 0 j (lit< tt) ∙ no-step) one-version roots-differ;
       }

@@ -3,8 +3,8 @@ pub mod Engine
 pub mod Definition
 pub mod Demands
 pub mod Restamping
-pub mod Order
 pub mod Impostors
 pub mod Samples
+pub mod Order
 pub mod Cases
 pub mod Exported

@@ -12,6 +12,7 @@ use Rattle.format.specs.Book.{WellFormed, versionOf, rootTerm, termBook}
 use Rattle.answers.specs.Answer.{stepsOf, Result}
 use Rattle.answers.specs.Engine.{Engine, IsWork, IsLimit, padded}
 use Rattle.answers.specs.Demands.{Accepts}
+use Rattle.answers.specs.Samples.{numberFirstRead, recordFirstRead}
 
 -- The roots of two books, unshared: a value and the same reordered;
 abbrev pub Values : Term → Term → Type 0
@@ -49,3 +50,10 @@ pub record IgnoresOrder (E : Engine) : Type 0 where
   -- and equal."
   pub runs : (b c : List ℕ) → Books Annotated b c → Accepts E b → (w x : List ℕ) (limit : ℕ) → IsWork w → IsWork x → IsLimit limit →
       SameReading (versionOf b) (versionOf c) (rootTerm b) (rootTerm c) (E .run b w limit) (E .run c x limit)
+
+-- That a step has to be taken is needed: (1,,{1=2}) : Int & {1:Int} and the same swapped, both accepted, leave the same bytes under limit 1 and not under limit 0.
+pub record StepNeeded (E : Engine) : Type 0 where
+  pub books : Books Annotated numberFirstRead recordFirstRead
+  pub accepted : Accepts E numberFirstRead
+  pub taken : (w x : List ℕ) → IsWork w → IsWork x → E .run numberFirstRead w 1 .left ≡ E .run recordFirstRead x 1 .left
+  pub untaken : (w x : List ℕ) → IsWork w → IsWork x → E .run numberFirstRead w 0 .left ≢ E .run recordFirstRead x 0 .left
