@@ -3,41 +3,17 @@
 
 #![cfg(not(library_missing))]
 
+mod pages;
+
 use cerealbank::{check, run, Answer, WORK};
-use evaluator::{Cell, Field, Row, Sort, Version, CELL, TABLE, TRAILER};
+use evaluator::{Cell, Field, Row, Sort, Version, CELL, TABLE};
+use pages::{answer, asked, at, cut, number, padded, quoted, text, LIMIT};
 use std::collections::BTreeSet;
 use std::fs;
-use std::path::{Path, PathBuf};
 
 const REFUSALS: std::ops::RangeInclusive<u8> = 1..=15;
-/// The limit that the books of FORMAT.md are run with, and that of the desk program.
-const LIMIT: u32 = 10;
+/// The limit of the desk program.
 const DESK_LIMIT: u32 = 10_000;
-
-fn at(path: &str) -> PathBuf {
-    Path::new(env!("CARGO_MANIFEST_DIR")).join("..").join(path)
-}
-
-fn text(path: &str) -> String {
-    fs::read_to_string(at(path)).unwrap_or_else(|error| panic!("{path}: {error}"))
-}
-
-fn number<T: std::str::FromStr>(word: &str) -> T {
-    word.replace(',', "").parse().unwrap_or_else(|_| panic!("{word} is no number here"))
-}
-
-/// An answer in the desk program's words; None if it is something else.
-fn answer(words: &str) -> Option<Answer> {
-    let words: Vec<&str> = words.split_whitespace().collect();
-    Some(match words[..] {
-        ["refused", n, cell] => Answer::Refused { number: number(n), cell: number(cell) },
-        ["accepted", size] => Answer::Accepted { size: number(size) },
-        ["value", steps] => Answer::Value { steps: number(steps) },
-        ["spent", steps] => Answer::Spent { steps: number(steps) },
-        ["room", steps] => Answer::Room { steps: number(steps) },
-        _ => return None,
-    })
-}
 
 /// A book, and each answer with the bytes that it leaves at the start of the work buffer.
 struct Block {
@@ -75,19 +51,6 @@ fn format() -> (String, Vec<(u8, String)>) {
         (number(head), rest.to_string())
     });
     (before.to_string(), sections.collect())
-}
-
-/// The answer, and the work buffer after it.
-fn asked(call: impl FnOnce(&mut [u8]) -> Answer) -> (Answer, Vec<u8>) {
-    let mut work = vec![9; WORK];
-    (call(&mut work), work)
-}
-
-/// These bytes, and zeros.
-fn padded(bytes: &[u8]) -> Vec<u8> {
-    let mut work = bytes.to_vec();
-    work.resize(WORK, 0);
-    work
 }
 
 #[test]
@@ -231,12 +194,6 @@ fn the_example_is_the_book_that_it_names() {
     assert_eq!(book, &fs::read(at(file)).expect("the book's file"));
 }
 
-/// "The first row of 8 bytes that begins with F0 is the trailer": the book up to its end.
-fn cut(work: &[u8]) -> &[u8] {
-    let trailer = work.chunks(CELL).position(|row| row[0] == TRAILER).expect("a trailer");
-    &work[..CELL * (trailer + 1)]
-}
-
 #[test]
 fn a_spent_run_continues_from_the_term_it_left() {
     let book = fs::read(at("books/spent_loop.book")).expect("the book's file");
@@ -319,11 +276,6 @@ fn same_as_the_evaluators(version: Version) {
 fn the_table_of_kinds_is_that_of_the_evaluator() {
     same_as_the_evaluators(Version::One);
     same_as_the_evaluators(Version::Two);
-}
-
-/// The parts of a line that stand in backquotes.
-fn quoted(line: &str) -> Vec<&str> {
-    line.split('`').skip(1).step_by(2).collect()
 }
 
 /// The term left is "the number N", or has "N cells", in the version of its book; or, for "-", there is none.
