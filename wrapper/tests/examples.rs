@@ -81,9 +81,9 @@ fn books_of(folder: &str) -> Vec<PathBuf> {
     books
 }
 
-/// The sample books and the refused ones, and two files that are too short and too long for a book.
+/// The sample books, the refused ones and those in two orders, and two files that are too short and too long for a book.
 fn books() -> Vec<PathBuf> {
-    let mut books = [books_of("books"), books_of("books/refusals")].concat();
+    let mut books = ["books", "books/refusals", "books/merging"].map(books_of).concat();
     for length in [0, 100_000] {
         let file = Path::new(env!("CARGO_TARGET_TMPDIR")).join(format!("{length}.book"));
         fs::write(&file, vec![0; length]).expect("a file written");
