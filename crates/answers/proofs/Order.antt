@@ -1,6 +1,6 @@
 -- An engine that obeys demand 2 ignores the order in which the parts of a value are listed. Assumes nothing.
 use Prim.Native.Nat.{ℕ, suc, _≤_}
-use mathlib.Core.Path.{_≡_, refl, sym, _∙_, ap, subst, subst⁻¹}
+use mathlib.Core.Path.{_≡_, refl, sym, _∙_, ap, ap₂}
 use mathlib.Core.Logic.{_↔_, _≢_}
 use mathlib.Core.List.{List, [], append-cancel-right}
 use native.Mathlib.Omega.{arith}
@@ -8,9 +8,9 @@ use lib.Dec.{lit<}
 use lib.IntN.{ℤ}
 use lib.ListN.{length}
 use Rattle.calculus.specs.Syntax.{Ty, int, inter, field, size-type, Term, lit, anno, merge, rcd, size, v-lit, v-merge, v-rcd, IsValue}
-use Rattle.calculus.specs.Typing.{Typed, HasType}
+use Rattle.calculus.specs.Typing.{HasType}
 use Rattle.calculus.specs.Step.{Step, Reaches, r-zero, r-suc}
-use Rattle.calculus.specs.Order.{swapped, SameValue}
+use Rattle.calculus.specs.Order.{swapped, to-right, SameValue}
 use Rattle.calculus.proofs.TypedReduction.{cast-to}
 use Rattle.calculus.proofs.Typing.{typed-closed}
 use Rattle.calculus.proofs.Soundness.{value-no-step}
@@ -27,8 +27,8 @@ use Rattle.answers.specs.Answer.{Stop, value, spent, room, accepted, sto
 use Rattle.answers.specs.Engine.{Engine, IsWork, IsLimit, padded}
 use Rattle.answers.specs.Definition.{run, reported}
 use Rattle.answers.specs.Demands.{Accepts, StopsBy, TakesSteps, Demand2}
-use Rattle.answers.specs.Order.{Values, Annotated, annotated, Books, SameReading, IgnoresOrder, StepNeeded}
-use Rattle.answers.specs.Samples.{numberFirstRead, recordFirstRead}
+use Rattle.answers.specs.Order.{Values, UnderOneType, under-one-type, Books, SameReading, IgnoresOrder, StepNeeded}
+use Rattle.answers.specs.Samples.{numberFirstRead, recordFirstRead, groupedLeft, groupedRight}
 use Rattle.answers.proofs.AllSamples.{computing}
 use Rattle.answers.proofs.Demands.{clash, runs-unique, outcome}
 use Rattle.answers.proofs.Impostors.{Accepted, bytes?, computed, demand2-determines}
@@ -38,8 +38,8 @@ use Rattle.answers.proofs.Impostors.{Accepted, bytes?, computed, demand
 values-sym : {e f : Term} → Values e f → Values f e
 values-sym (v, r) = (let x = reordered-value r (v .1) in (x .0, x .1), reordered-sym r)
 
-annotated-sym : {e f : Term} → Annotated e f → Annotated f e
-annotated-sym (annotated p) = annotated (values-sym p)
+annotated-sym : {e f : Term} → UnderOneType e f → UnderOneType f e
+annotated-sym (under-one-type p) = under-one-type (values-sym p)
 
 -- the promise of the calculus, of a typed value
 same : {e f : Term} → Values e f → HasType [] e → SameValue [] e f
@@ -48,19 +48,19 @@ same {e} {f} p t = order-free [] e f (p .0) (typed-closed (t .1)) (p .1)
 values-typed : {e f : Term} → Values e f → HasType [] e → HasType [] f
 values-typed p t = same p t .accepted .0 t
 
-pub annotated-typed : {e f : Term} → Annotated e f → HasType [] e → HasType [] f
-annotated-typed (annotated p) t = anno-reordered (p .0 .1) (p .1) t
+pub annotated-typed : {e f : Term} → UnderOneType e f → HasType [] e → HasType [] f
+annotated-typed (under-one-type p) t = anno-reordered (p .0 .1) (p .1) t
 
-annotated-size : {e f : Term} → Annotated e f → size f ≡ size e
+annotated-size : {e f : Term} → UnderOneType e f → size f ≡ size e
 unfolding size
-annotated-size (annotated p) = let h = reordered-size (p .1) in omega arith
+annotated-size (under-one-type p) = let h = reordered-size (p .1) in omega arith
 
-no-value : {e f : Term} → Annotated e f → ¬ IsValue e
-no-value (annotated p) v = elim (v .1) [ ]
+no-value : {e f : Term} → UnderOneType e f → ¬ IsValue e
+no-value (under-one-type p) v = elim (v .1) [ ]
 
 -- an annotated value becomes a value, and so does the other
-annotated-step : {h : ℕ} {e f g : Term} (k : ℕ) → Annotated e f → HasType [] e → Step h e g → IsValue g × Step k f g
-annotated-step k (annotated p) t s = (cast-to (anno-step (p .0 .1) s), step-reordered (p .0 .1) (p .1) k t s)
+annotated-step : {h : ℕ} {e f g : Term} (k : ℕ) → UnderOneType e f → HasType [] e → Step h e g → IsValue g × Step k f g
+annotated-step k (under-one-type p) t s = (cast-to (anno-step (p .0 .1) s), step-reordered (p .0 .1) (p .1) k t s)
 
 -- ---- the terms that two such books reach
 
@@ -70,20 +70,20 @@ data Abreast (e f : Term) : ℕ → Term → Term → Type 0 where
   at-value : {g : Term} → IsValue g → Abreast e f 1 g g
 
 -- where the other is, at its range, when the one is at g
-record Follows (k : ℕ) (e f : Term) (n : ℕ) (g : Term) : Type 0 where
+record Beside (k : ℕ) (e f : Term) (n : ℕ) (g : Term) : Type 0 where
   other : Term
   abreast : Abreast e f n g other
   reached : Reaches k n f other
 
-follows-step : {h n : ℕ} {e f g d g′ : Term} (k : ℕ) → Annotated e f → HasType [] e → Abreast e f n g d → Step h g g′ → Follows k e f (suc n) g′
-follows-step k p t at-roots s = let (v, u) = annotated-step k p t s in record { other = _; abreast = at-value v; reached = r-suc r-zero u }
-follows-step k p t (at-value v) s = absurd (value-no-step (v .1) s)
+beside-step : {h n : ℕ} {e f g d g′ : Term} (k : ℕ) → UnderOneType e f → HasType [] e → Abreast e f n g d → Step h g g′ → Beside k e f (suc n) g′
+beside-step k p t at-roots s = let (v, u) = annotated-step k p t s in record { other = _; abreast = at-value v; reached = r-suc r-zero u }
+beside-step k p t (at-value v) s = absurd (value-no-step (v .1) s)
 
-follows : {h n : ℕ} {e f g : Term} (k : ℕ) → Annotated e f → HasType [] e → Reaches h n e g → Follows k e f n g
-follows k p t r-zero = record { other = _; abreast = at-roots; reached = r-zero }
-follows k p t (r-suc r s) = follows-step k p t (follows k p t r .abreast) s
+beside : {h n : ℕ} {e f g : Term} (k : ℕ) → UnderOneType e f → HasType [] e → Reaches h n e g → Beside k e f n g
+beside k p t r-zero = record { other = _; abreast = at-roots; reached = r-zero }
+beside k p t (r-suc r s) = beside-step k p t (beside k p t r .abreast) s
 
-abreast-size : {e f g d : Term} {n : ℕ} → Annotated e f → Abreast e f n g d → size d ≡ size g
+abreast-size : {e f g d : Term} {n : ℕ} → UnderOneType e f → Abreast e f n g d → size d ≡ size g
 abreast-size p at-roots = annotated-size p
 abreast-size p (at-value v) = refl
 
@@ -97,7 +97,7 @@ abreast-before at-roots i = (refl, refl)
 abreast-before (at-value v) i = absurd (omega arith)
 
 -- the other stops for the same reason
-other-why : {n : ℕ} {e f g d : Term} (h k : ℕ) → Annotated e f → HasType [] e → (s : Stop) (l : ℕ) → Abreast e f n g d → StopsBy h s l n g → StopsBy k s l n d
+other-why : {n : ℕ} {e f g d : Term} (h k : ℕ) → UnderOneType e f → HasType [] e → (s : Stop) (l : ℕ) → Abreast e f n g d → StopsBy h s l n g → StopsBy k s l n d
 other-why h k p t value l at-roots w = absurd (no-value p w)
 other-why h k p t value l (at-value v) w = w
 other-why h k p t spent l at-roots w = (no-value (annotated-sym p), w .1)
@@ -118,14 +118,14 @@ encoded-alike v e f x y h s q =
 
 -- ---- two runs, by whatever engines
 
-module _ {u v : Version} {e f : Term} {l : ℕ} {x y : Result} (p : Annotated e f) (t : HasType [] e) (one : TakesSteps u e l x) (two : TakesSteps v f l y) where
-  abbrev behind : Follows (halfOf v) e f (one .steps) (one .term)
-  behind = follows (halfOf v) p t (one .reached)
+module _ {u v : Version} {e f : Term} {l : ℕ} {x y : Result} (p : UnderOneType e f) (t : HasType [] e) (one : TakesSteps u e l x) (two : TakesSteps v f l y) where
+  abbrev behind : Beside (halfOf v) e f (one .steps) (one .term)
+  behind = beside (halfOf v) p t (one .reached)
 
   -- a run of the one is a run of the other, but for the root
   other-small : (n : ℕ) (d : Term) → n ≤ one .steps → Reaches (halfOf v) n f d → size d ≤ sizeLimit
   other-small n d i q =
-      let o = follows (halfOf u) (annotated-sym p) (annotated-typed p t) q in
+      let o = beside (halfOf u) (annotated-sym p) (annotated-typed p t) q in
       omega (arith, abreast-size (annotated-sym p) (o .abreast), one .small n (o .other) i (o .reached))
 
   other-run : TakesSteps v f l (result (stopped (one .stop) (one .steps)) (padded (termBook v (behind .other))))
@@ -166,8 +166,8 @@ module _ {u v : Version} {e f : Term} {l : ℕ} {x y : Result} (p : Annotated e 
   same-reading fits fits-other =
       record {
         answer = ap (λ (r : Result). r .answer) (one .says) ∙ sym (ap (λ (r : Result). r .answer) other);
-        bytes = after;
-        untaken = before;
+        stepped = after;
+        unstepped = before;
         differ = λ n q d z.
             let (g, h) = before n in
             let k : padded (termBook v e) ≡ padded (termBook v f) = rw q at (sym g ∙ z ∙ h) in
@@ -194,7 +194,7 @@ module _ (E : Engine) (d : Demand2 E) where
   accepts-values : (b c : List ℕ) → Books Values b c → Accepts E b ↔ Accepts E c
   accepts-values b c p = accepted-together p (values-typed (p .roots)) (values-typed (values-sym (p .roots)))
 
-  accepts-annotated : (b c : List ℕ) → Books Annotated b c → Accepts E b ↔ Accepts E c
+  accepts-annotated : (b c : List ℕ) → Books UnderOneType b c → Accepts E b ↔ Accepts E c
   accepts-annotated b c p = accepted-together p (annotated-typed (p .roots)) (annotated-typed (annotated-sym (p .roots)))
 
   -- what a check answers of a book with a type
@@ -232,9 +232,9 @@ record-first-accepted : Accepted recordFirstRead number-first-type
 unfolding computing recordFirstRead bytes?
 record-first-accepted = computed recordFirstRead _ refl refl refl
 
-two-orders : Annotated (rootTerm numberFirstRead) (rootTerm recordFirstRead)
+two-orders : UnderOneType (rootTerm numberFirstRead) (rootTerm recordFirstRead)
 unfolding computing numberFirstRead recordFirstRead
-two-orders = annotated ((_, v-merge v-lit (v-rcd v-lit)), swapped)
+two-orders = under-one-type ((_, v-merge v-lit (v-rcd v-lit)), swapped)
 
 no-record : {i : ℤ} {l : ℕ} {e f g : Term} {A B : Ty} → anno (merge (lit i) e) A ≢ anno (merge (rcd l f) g) B
 no-record h = clash (cc h)
@@ -256,7 +256,7 @@ one-step : stepsOf (reported numberFirstRead 1 number-first-type .answer) ≡ 1
 unfolding computing numberFirstRead
 one-step = refl
 
-books-of : Books Annotated numberFirstRead recordFirstRead
+books-of : Books UnderOneType numberFirstRead recordFirstRead
 books-of =
     let a = number-first-accepted in
     let c = record-first-accepted in
@@ -283,7 +283,31 @@ module _ (E : Engine) (d : Demand2 E) where
   step-needed =
       record {
         books = books-of;
-        accepted = number-first-taken;
-        taken = λ w x j k. reading w x 1 j k (lit< tt) .bytes (λ z. clash (sym z ∙ engine-steps w 1 j (lit< tt) ∙ one-step)) one-version;
-        untaken = λ w x j k. reading w x 0 j k (lit< tt) .differ (engine-steps w 0 j (lit< tt) ∙ no-step) one-version roots-differ;
+        accepted = (number-first-taken, ignores-order E d .together numberFirstRead recordFirstRead books-of .0 number-first-taken);
+        same = λ w x j k.
+            let r = reading w x 1 j k (lit< tt) in
+            ap₂ result (r .answer) (r .stepped (λ z. clash (sym z ∙ engine-steps w 1 j (lit< tt) ∙ one-step)) one-version);
+        differ = λ w x j k. reading w x 0 j k (lit< tt) .differ (engine-steps w 0 j (lit< tt) ∙ no-step) one-version roots-differ;
       }
+
+-- ---- the promise asked of (1,,{1=2}),,{2=3} and 1,,({1=2},,{2=3}): accepted together, with the same answer, by the promise alone
+
+grouped-left-accepted : Accepted groupedLeft (inter number-first-type (field 2 int))
+unfolding computing groupedLeft bytes?
+grouped-left-accepted = computed groupedLeft _ refl refl refl
+
+grouped-right-accepted : Accepted groupedRight (inter int (inter (field 1 int) (field 2 int)))
+unfolding computing groupedRight bytes?
+grouped-right-accepted = computed groupedRight _ refl refl refl
+
+two-groupings : Values (rootTerm groupedLeft) (rootTerm groupedRight)
+unfolding computing groupedLeft groupedRight
+two-groupings = ((_, v-merge (v-merge v-lit (v-rcd v-lit)) (v-rcd v-lit)), to-right)
+
+grouped-alike : (E : Engine) → IgnoresOrder E → Accepts E groupedLeft → (w x : List ℕ) → IsWork w → IsWork x →
+    Accepts E groupedRight × (E .check groupedLeft w .answer ≡ E .check groupedRight x .answer)
+grouped-alike E o a w x j k =
+    let l = grouped-left-accepted in
+    let r = grouped-right-accepted in
+    let p : Books Values groupedLeft groupedRight = record { bytes = (l .bytes, r .bytes); formed = (l .formed, r .formed); roots = two-groupings } in
+    (o .accepts groupedLeft groupedRight p .0 a, o .answers groupedLeft groupedRight p a w x j k)

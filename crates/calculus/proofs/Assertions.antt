@@ -23,6 +23,7 @@ use Rattle.calculus.specs.Typing.{there, p-one, p-none, Typed, t-lit, t-
 use Rattle.calculus.specs.Step.{Step, s-app-left, s-app-right, s-merge-left, s-merge-right, s-anno, s-rcd, s-cast, s-beta, s-proj, s-proj-part, s-proj-none, s-sum-left, s-sum-right, s-sum, s-choice-first, s-choice}
 use Rattle.calculus.specs.Decide.{topLike?, bothParts, fieldPart, belowWithin, below?, disjointInt, disjointArrow, disjointField, disjoint?, value?, typeOf, closed?}
 use Rattle.calculus.specs.Decide.{sameUnder, sameInteger, sameType, sameTerm, eachPart, consistentLit, consistentLam, consistentRcd, consistent?}
+use Rattle.calculus.specs.Order.{Reordered, swapped, to-right, to-left, in-record, parts}
 use Rattle.calculus.specs.Infer.{Reason, unbound, not-function, no-field, conflict, mismatch, Found, found, refused}
 use Rattle.calculus.specs.Infer.{lookup, checked, applied, picked, projected, labelled, mergeable?, merged, infer}
 use Rattle.calculus.specs.Evaluate.{mergeBoth, firstPart, castInt, castArrow, castField, cast, apply, content, topValue, readParts, project, numberOf, add, choose, next}
@@ -527,7 +528,16 @@ orders-found :
 unfolding infer lookup checked labelled merged mergeable? below? belowWithin topLike? size-type disjoint? disjointInt disjointArrow disjointField value? closed? consistent? eachPart consistentLit consistentRcd decide sameInteger sameUnder ℕ-discrete cast mergeBoth firstPart orElse castInt castField
 orders-found = (refl, refl, refl, refl, refl, refl, refl, refl, refl, refl, refl, refl, refl, refl)
 
--- No rule types the last: the two numbers are not disjoint, and the function is not closed.
+-- Swapped, regrouped either way, in a record; and the parts as they are listed.
+orders-reordered :
+    Reordered number-first record-first
+    × Reordered (merge number-first (record-of 2 3)) (merge (number 1) (merge (record-of 1 2) (record-of 2 3)))
+    × Reordered (merge (number 1) (merge (record-of 1 2) (record-of 2 3))) (merge number-first (record-of 2 3))
+    × Reordered (rcd 7 number-first) (rcd 7 record-first)
+    × (parts (merge number-first (record-of 2 3)) ≡ number 1 ∷ record-of 1 2 ∷ record-of 2 3 ∷ [])
+orders-reordered = (swapped, to-right, to-left, in-record swapped, refl)
+
+-- No rule types the last of `orders-found`: the two numbers are not disjoint, and the function is not closed.
 open-not-closed : (A : Ty) → ¬ Typed [] open-function A
 open-not-closed A (t-lam (t-var (there l)) b) = elim l [ ]
 

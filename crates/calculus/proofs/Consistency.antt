@@ -63,12 +63,19 @@ read-merge {A} k m (p-right c) d = m A _ _ c d
 pub consistent-merge : {v w x : Term} → Consistent v x → Consistent w x → Consistent (merge v w) x
 consistent-merge k m = agree λ A p y z c. read-merge k m (cast-proper p c)
 
+-- a value against a merge, from its halves; and back
+pub consistent-with-merge : {u v w : Term} → Consistent u v → Consistent u w → Consistent u (merge v w)
+consistent-with-merge k m = consistent-sym (consistent-merge (consistent-sym k) (consistent-sym m))
+
+pub consistent-with-halves : {u v w : Term} {A B : Ty} → Value v A → Value w B → Consistent u (merge v w) → Consistent u v × Consistent u w
+consistent-with-halves v w k = let (l, r) = consistent-halves v w (consistent-sym k) in (consistent-sym l, consistent-sym r)
+
 pub list→consistent : {v w : Term} → ConsistentByList v w → Consistent v w
 list→consistent k-lit = agree λ A p x y c d. read-lits (cast-proper p c) (cast-proper p d)
 list→consistent k-lam = agree λ A p x y c d. read-lams (cast-proper p c) (cast-proper p d)
 list→consistent (k-rcd k) = agree λ A p x y c d. read-rcds (list→consistent k) (cast-proper p c) (cast-proper p d)
 list→consistent (k-left k m) = consistent-merge (list→consistent k) (list→consistent m)
-list→consistent (k-right k m) = consistent-sym (consistent-merge (consistent-sym (list→consistent k)) (consistent-sym (list→consistent m)))
+list→consistent (k-right k m) = consistent-with-merge (list→consistent k) (list→consistent m)
 list→consistent (k-disjoint v w d) = agree λ A p x y c e. absurd (p .1 (list→disjoint d A (cast-below c v) (cast-below e w)))
 
 -- The test stands between the two: what is consistent passes it, and what passes it is on the list.
@@ -88,8 +95,7 @@ between-left : {a b : Bool} {v u w : Term} {A B : Ty} → Value v A → Value u 
 between-left v u = between-both (consistent-halves v u) k-left
 
 between-right : {a b : Bool} {v u w : Term} {A B : Ty} → Value v A → Value u B → Between a w v → Between b w u → Between (a && b) w (merge v u)
-between-right v u =
-    between-both (λ k. let (l, r) = consistent-halves v u (consistent-sym k) in (consistent-sym l, consistent-sym r)) k-right
+between-right v u = between-both (consistent-with-halves v u) k-right
 
 -- disjoint by the test for types
 apart : {v w : Term} {A B : Ty} → Value v A → Value w B → T (disjoint? A B) → Between true v w

@@ -5,7 +5,8 @@ use mathlib.Core.Path.{_≡_, refl, sym, _∙_, ap, ap₂, subst₂, subst⁻¹}
 use mathlib.Core.Logic.{_↔_}
 use mathlib.Core.List.{List, [], _∷_, _++_, List·Permᴰ as Permutation, List·Permᴰ·nil, List·Permᴰ·cons, List·Permᴰ·swap, List·Permᴰ·trans}
 use lib.Dec.{T}
-use Rattle.calculus.specs.Syntax.{Ty, size-type, Value, v-merge, v-rcd}
+use lib.IntN.{pos}
+use Rattle.calculus.specs.Syntax.{Ty, int, size-type, Value, v-lit, v-merge, v-rcd}
 use Rattle.calculus.specs.Syntax.{Term, var, lit, unit, anno, app, lam, merge, fix, rcd, proj, sum, choice, size}
 use Rattle.calculus.specs.Subtyping.{Below}
 use Rattle.calculus.specs.TypedReduction.{Cast, c-rcd}
@@ -16,7 +17,7 @@ use Rattle.calculus.specs.Decide.{closed?}
 use Rattle.calculus.specs.Order.{Reordered, swapped, to-right, to-left, in-half, in-record, unmoved, and-then, parts, EveryOrder, SameValue, OrderFree}
 use Rattle.calculus.proofs.Subtyping.{below-refl}
 use Rattle.calculus.proofs.TypedReduction.{value-unique, Proper, ProperCast, p-rcd, p-left, p-right, cast-proper, cast-below, cast-lift, cast-left, cast-right, below-cast}
-use Rattle.calculus.proofs.Consistency.{consistent-sym, consistent-halves, consistent-merge, list→consistent}
+use Rattle.calculus.proofs.Consistency.{consistent-sym, consistent-halves, consistent-merge, consistent-with-merge, consistent-with-halves, list→consistent}
 use Rattle.calculus.proofs.Typing.{closed-both, typed-closed, typed-weaken, typed-strengthen}
 use Rattle.calculus.proofs.Soundness.{value-typed, typed-halves, halves-consistent, cast-unique, value-no-step}
 use Rattle.calculus.proofs.Evaluation.{anno-typed, rcd-typed}
@@ -33,8 +34,8 @@ reordered-sym (and-then r s) = and-then (reordered-sym s) (reordered-sym r)
 -- ---- every order of the parts
 
 -- in the left half of a merge
-in-left : {u v w : Term} → Reordered v w → Reordered (merge v u) (merge w u)
-in-left r = and-then swapped (and-then (in-half r) swapped)
+in-other-half : {u v w : Term} → Reordered v w → Reordered (merge v u) (merge w u)
+in-other-half r = and-then swapped (and-then (in-half r) swapped)
 
 -- parts merged, to the right
 chain : Term → List Term → Term
@@ -42,38 +43,38 @@ chain e [] = e
 chain e (f ∷ l) = merge e (chain f l)
 
 -- two lists that are merged so to values that are reorderings of each other, or that are both empty
-Alike : List Term → List Term → Type 0
-Alike [] [] = Unit {0}
-Alike [] (f ∷ m) = ⊥
-Alike (e ∷ l) [] = ⊥
-Alike (e ∷ l) (f ∷ m) = Reordered (chain e l) (chain f m)
+ReorderedLists : List Term → List Term → Type 0
+ReorderedLists [] [] = Unit {0}
+ReorderedLists [] (f ∷ m) = ⊥
+ReorderedLists (e ∷ l) [] = ⊥
+ReorderedLists (e ∷ l) (f ∷ m) = Reordered (chain e l) (chain f m)
 
-alike-cons : (e : Term) (l m : List Term) → Alike l m → Alike (e ∷ l) (e ∷ m)
-unfolding Alike chain
-alike-cons e [] [] a = unmoved
-alike-cons e [] (g ∷ m) a = absurd a
-alike-cons e (f ∷ l) [] a = absurd a
-alike-cons e (f ∷ l) (g ∷ m) a = in-half a
+lists-cons : (e : Term) (l m : List Term) → ReorderedLists l m → ReorderedLists (e ∷ l) (e ∷ m)
+unfolding ReorderedLists chain
+lists-cons e [] [] a = unmoved
+lists-cons e [] (g ∷ m) a = absurd a
+lists-cons e (f ∷ l) [] a = absurd a
+lists-cons e (f ∷ l) (g ∷ m) a = in-half a
 
-alike-swap : (e f : Term) (l : List Term) → Alike (e ∷ f ∷ l) (f ∷ e ∷ l)
-unfolding Alike chain
-alike-swap e f [] = swapped
-alike-swap e f (g ∷ l) = and-then to-left (and-then (in-left swapped) to-right)
+lists-swap : (e f : Term) (l : List Term) → ReorderedLists (e ∷ f ∷ l) (f ∷ e ∷ l)
+unfolding ReorderedLists chain
+lists-swap e f [] = swapped
+lists-swap e f (g ∷ l) = and-then to-left (and-then (in-other-half swapped) to-right)
 
-alike-trans : (l m n : List Term) → Alike l m → Alike m n → Alike l n
-unfolding Alike
-alike-trans [] [] n a b = b
-alike-trans [] (f ∷ m) n a b = absurd a
-alike-trans (e ∷ l) [] n a b = absurd a
-alike-trans (e ∷ l) (f ∷ m) [] a b = absurd b
-alike-trans (e ∷ l) (f ∷ m) (g ∷ n) a b = and-then a b
+lists-trans : (l m n : List Term) → ReorderedLists l m → ReorderedLists m n → ReorderedLists l n
+unfolding ReorderedLists
+lists-trans [] [] n a b = b
+lists-trans [] (f ∷ m) n a b = absurd a
+lists-trans (e ∷ l) [] n a b = absurd a
+lists-trans (e ∷ l) (f ∷ m) [] a b = absurd b
+lists-trans (e ∷ l) (f ∷ m) (g ∷ n) a b = and-then a b
 
-permuted : {l m : List Term} → Permutation l m → Alike l m
-unfolding Alike
+permuted : {l m : List Term} → Permutation l m → ReorderedLists l m
+unfolding ReorderedLists
 permuted List·Permᴰ·nil = tt
-permuted (List·Permᴰ·cons {a} {l₁} {l₂} e p) = rw (← e) (alike-cons a l₁ l₂ (permuted p))
-permuted (List·Permᴰ·swap {a} {b} {l} e f) = rw (← e, ← f) (alike-swap a b l)
-permuted (List·Permᴰ·trans {l₁} {l₂} {l₃} p q) = alike-trans l₁ l₂ l₃ (permuted p) (permuted q)
+permuted (List·Permᴰ·cons {a} {l₁} {l₂} e p) = rw (← e) (lists-cons a l₁ l₂ (permuted p))
+permuted (List·Permᴰ·swap {a} {b} {l} e f) = rw (← e, ← f) (lists-swap a b l)
+permuted (List·Permᴰ·trans {l₁} {l₂} {l₃} p q) = lists-trans l₁ l₂ l₃ (permuted p) (permuted q)
 
 -- a merge of two such values, as one
 joined : (e : Term) (l : List Term) (f : Term) (m : List Term) → Reordered (merge (chain e l) (chain f m)) (chain e (l ++ f ∷ m))
@@ -82,44 +83,44 @@ joined e [] f m = unmoved
 joined e (g ∷ l) f m = and-then to-right (in-half (joined g l f m))
 
 -- a value is a reordering of its parts, merged so
-record Listed (v : Term) : Type 0 where
+record Chained (v : Term) : Type 0 where
   first : Term
   rest : List Term
   lists : parts v ≡ first ∷ rest
   chained : Reordered v (chain first rest)
 
-one-part : {v : Term} → parts v ≡ v ∷ [] → Listed v
+alone : {v : Term} → parts v ≡ v ∷ [] → Chained v
 unfolding chain
-one-part {v} e = record { first = v; rest = []; lists = e; chained = unmoved }
+alone {v} e = record { first = v; rest = []; lists = e; chained = unmoved }
 
-listed : (v : Term) → Listed v
-listed (var n) = one-part refl
-listed (lit i) = one-part refl
-listed unit = one-part refl
-listed (anno e A) = one-part refl
-listed (app e f) = one-part refl
-listed (lam e A B) = one-part refl
-listed (merge e f) =
-    let l = listed e in
-    let m = listed f in
+in-a-chain : (v : Term) → Chained v
+in-a-chain (var n) = alone refl
+in-a-chain (lit i) = alone refl
+in-a-chain unit = alone refl
+in-a-chain (anno e A) = alone refl
+in-a-chain (app e f) = alone refl
+in-a-chain (lam e A B) = alone refl
+in-a-chain (merge e f) =
+    let l = in-a-chain e in
+    let m = in-a-chain f in
     record {
       first = l .first;
       rest = l .rest ++ m .first ∷ m .rest;
       lists = ap₂ _++_ (l .lists) (m .lists);
-      chained = and-then (in-left (l .chained)) (and-then (in-half (m .chained)) (joined (l .first) (l .rest) (m .first) (m .rest)));
+      chained = and-then (in-other-half (l .chained)) (and-then (in-half (m .chained)) (joined (l .first) (l .rest) (m .first) (m .rest)));
     }
-listed (fix e A) = one-part refl
-listed (rcd l e) = one-part refl
-listed (proj l e) = one-part refl
-listed (sum e f) = one-part refl
-listed (choice e f g) = one-part refl
+in-a-chain (fix e A) = alone refl
+in-a-chain (rcd l e) = alone refl
+in-a-chain (proj l e) = alone refl
+in-a-chain (sum e f) = alone refl
+in-a-chain (choice e f g) = alone refl
 
 pub every-order : EveryOrder
-unfolding Alike
+unfolding ReorderedLists
 every-order v w p =
-    let l = listed v in
-    let m = listed w in
-    let a : Alike (l .first ∷ l .rest) (m .first ∷ m .rest) = permuted (subst₂ Permutation (l .lists) (m .lists) p) in
+    let l = in-a-chain v in
+    let m = in-a-chain w in
+    let a : ReorderedLists (l .first ∷ l .rest) (m .first ∷ m .rest) = permuted (subst₂ Permutation (l .lists) (m .lists) p) in
     and-then (l .chained) (and-then a (reordered-sym (m .chained)))
 
 -- ---- what reordering keeps
@@ -160,7 +161,7 @@ read-content : {l : ℕ} {v w x : Term} {A : Ty} → ((B : Ty) (y : Term) → Ca
 read-content f p (p-rcd {x} {A} c) = c-rcd (p .1) (f A x c)
 
 -- what a value reads, the same reordered reads
-pub reordered-reads : {v w : Term} {D : Ty} → Reordered v w → Value v D → (A : Ty) (x : Term) → Cast v A x → Cast w A x
+reordered-reads : {v w : Term} {D : Ty} → Reordered v w → Value v D → (A : Ty) (x : Term) → Cast v A x → Cast w A x
 reordered-reads swapped (v-merge v w) = read-either (v-merge w v) (λ A x. cast-right w) (λ A x. cast-left v)
 reordered-reads to-right (v-merge (v-merge u v) w) =
     let k = v-merge v w in
@@ -185,15 +186,8 @@ merge-types v w = (
   (λ p. (_, t-mergev (value-typed (p .0 .1) v) (value-typed (p .1 .1) w) (p .0 .1) (p .1 .1) (p .2))),
 )
 
--- a value is consistent with a merge, from its halves; and back
-with-merge : {u v w : Term} → Consistent u v → Consistent u w → Consistent u (merge v w)
-with-merge k m = consistent-sym (consistent-merge (consistent-sym k) (consistent-sym m))
-
-with-halves : {u v w : Term} {A B : Ty} → Value v A → Value w B → Consistent u (merge v w) → Consistent u v × Consistent u w
-with-halves v w k = let (l, r) = consistent-halves v w (consistent-sym k) in (consistent-sym l, consistent-sym r)
-
 -- a typed value, reordered, is typed
-pub reordered-typed : {v w : Term} {D : Ty} → Reordered v w → Value v D → HasType [] v → HasType [] w
+reordered-typed : {v w : Term} {D : Ty} → Reordered v w → Value v D → HasType [] v → HasType [] w
 reordered-typed swapped (v-merge v w) t =
     let (s, u, k) = merge-types v w .0 t in
     merge-types w v .1 (u, s, consistent-sym k)
@@ -201,11 +195,11 @@ reordered-typed to-right (v-merge (v-merge u v) w) t =
     let (uv, tw, k) = merge-types (v-merge u v) w .0 t in
     let (tu, tv, m) = merge-types u v .0 uv in
     let (l, r) = consistent-halves u v k in
-    merge-types u (v-merge v w) .1 (tu, merge-types v w .1 (tv, tw, r), with-merge m l)
+    merge-types u (v-merge v w) .1 (tu, merge-types v w .1 (tv, tw, r), consistent-with-merge m l)
 reordered-typed to-left (v-merge u (v-merge v w)) t =
     let (tu, vw, k) = merge-types u (v-merge v w) .0 t in
     let (tv, tw, m) = merge-types v w .0 vw in
-    let (l, r) = with-halves v w k in
+    let (l, r) = consistent-with-halves v w k in
     merge-types (v-merge u v) w .1 (merge-types u v .1 (tu, tv, l), tw, consistent-merge r m)
 reordered-typed (in-half r) (v-merge u v) t =
     let (tu, tv, k) = merge-types u v .0 t in
@@ -267,16 +261,34 @@ module _ (Γ : List Ty) {v w : Term} {D : Ty} (p : Value v D) (c : T (closed? 0 
         );
         equal = λ t A x y e d. cast-unique (to t .1) (reordered-reads r p A x e) d;
         only = λ t A x y. cast-unique (closed-typed c t .1);
-        only-other = λ t A x y. cast-unique (to t .1);
         types = λ A B t u.
             let x = value-typed t p in
             let y = value-typed u other in
             let (C, z, e) = reordered-value r x in
             (types-below r x y, types-below (reordered-sym r) y x, sym e ∙ ap size-type (value-unique z y));
+        sizes = sym (reordered-size r);
       }
 
 pub order-free : OrderFree
 order-free Γ v w p c r = same-value Γ (p .1) c r
+
+-- ---- the promise asked of (1,,{1=2}),,1 and 1,,({1=2},,1) under a binder: the halves are not disjoint
+
+abbrev grouped-left : Term
+grouped-left = merge (merge (lit (pos 1)) (rcd 1 (lit (pos 2)))) (lit (pos 1))
+
+abbrev grouped-right : Term
+grouped-right = merge (lit (pos 1)) (merge (rcd 1 (lit (pos 2))) (lit (pos 1)))
+
+grouped : SameValue (int ∷ []) grouped-left grouped-right
+unfolding closed?
+grouped = order-free (int ∷ []) grouped-left grouped-right (_, v-merge (v-merge v-lit (v-rcd v-lit)) v-lit) tt to-right
+
+-- what the one reads, the other reads
+grouped-reads : HasType (int ∷ []) grouped-left → (A : Ty) (x : Term) → Cast grouped-left A x → Cast grouped-right A x
+grouped-reads t A x c =
+    let (y, d) = grouped .together t A .0 (x, c) in
+    subst⁻¹ (Cast grouped-right A) (grouped .equal t A x y c d) d
 
 -- ---- annotated values, by the promise alone
 

@@ -61,10 +61,10 @@ pub data TypedWith (D : Ty → Ty → Type 0) (K : Term → Term → Type 0) : L
 abbrev pub Typed : List Ty → Term → Ty → Type 0
 Typed = TypedWith Disjoint Consistent
 
--- Γ finds some type for e: document 01's "accepted", of a term.
-abbrev pub HasType : List Ty → Term → Type 0
-HasType Γ e = (A : Ty) × Typed Γ e A
-
 -- The same with document 01's lists.
 abbrev pub TypedByList : List Ty → Term → Ty → Type 0
 TypedByList = TypedWith DisjointByList ConsistentByList
+
+-- Γ finds some type for e: document 01's "accepted", of a term.
+abbrev pub HasType : List Ty → Term → Type 0
+HasType Γ e = (A : Ty) × Typed Γ e A

@@ -13,10 +13,10 @@ use Rattle.answers.specs.Engine.{Engine, IsWork, IsLimit}
 use Rattle.answers.specs.Definition.{definition, check, run}
 use Rattle.answers.specs.Demands.{Accepts, TakesSteps, Agree, Demand2, Demand3}
 use Rattle.answers.specs.Restamping.{RestampKeeps}
-use Rattle.answers.specs.Order.{Annotated, Books, SameReading, IgnoresOrder}
+use Rattle.answers.specs.Order.{UnderOneType, Books, SameReading, IgnoresOrder, StepNeeded}
 use Rattle.answers.proofs.Demands.{demand2, demand3-from-2}
 use Rattle.answers.proofs.Restamping.{restamped}
-use Rattle.answers.proofs.Order.{annotated-typed, same-reading, ignores-order}
+use Rattle.answers.proofs.Order.{annotated-typed, same-reading, ignores-order, step-needed}
 use Rattle.answers.specs.Cases.{answerOf}
 use Rattle.answers.specs.declared.Outcome.{Outcome}
 use Rattle.engine.specs.Run.{Ran}
@@ -28,7 +28,7 @@ pub calls-agree : {b w v w′ v′ : List ℕ} {l m : ℕ} {r q : Outcome} {A : 
 calls-agree {v′ = v′} {m = m} {q = q} {A = A} x y j k f t = x .agree j f A t m (result (answerOf q) v′) (y .runs k f A t) .0
 
 -- Two orders of a value under one annotation, likewise.
-pub calls-ignore-order : {b c w v w′ v′ : List ℕ} {l : ℕ} {r q : Outcome} → Ran b w v l r → Ran c w′ v′ l q → IsWork w → IsWork w′ → Books Annotated b c →
+pub calls-ignore-order : {b c w v w′ v′ : List ℕ} {l : ℕ} {r q : Outcome} → Ran b w v l r → Ran c w′ v′ l q → IsWork w → IsWork w′ → Books UnderOneType b c →
     HasType [] (rootTerm b) → SameReading (versionOf b) (versionOf c) (rootTerm b) (rootTerm c) (result (answerOf r) v) (result (answerOf q) v′)
 calls-ignore-order {b = b} {c = c} x y j k p t =
     let u = annotated-typed (p .roots) t in
@@ -75,3 +75,6 @@ module _ (E : Engine) (c : MeetsContracts E) where
 
   pub contracts-ignore-order : IgnoresOrder E
   contracts-ignore-order = ignores-order E contracts-demand2
+
+  pub contracts-step-needed : StepNeeded E
+  contracts-step-needed = step-needed E contracts-demand2
