@@ -29,7 +29,7 @@ fn type_parts(t: &Type) -> Vec<&Type> {
 }
 
 /// The parts of a value that are no merges themselves.
-fn value_parts(v: &Term) -> Vec<&Term> {
+pub fn value_parts(v: &Term) -> Vec<&Term> {
     let whole = |part: &Term| std::ptr::eq(part, v);
     parts(v, |part| match part.shape() {
         TermShape::Merge(..) if planted(Fault::ValuePartsOneLevel) && !whole(part) => None,

@@ -1,7 +1,7 @@
 //! Casts and steps, with both halves of every merge open.
 
 use crate::faults::{current, planted, Fault};
-use crate::fields::read_value;
+use crate::fields::{read_value, value_parts};
 use crate::numbers::{choices, read_apart, sums};
 use crate::terms::{Term, TermShape, Type, TypeShape};
 use crate::typing::{subtype, top_like};
@@ -23,6 +23,7 @@ fn each_once(terms: Vec<Term>) -> Vec<Term> {
 pub fn casts(v: &Term, under: &Type) -> Vec<Term> {
     // "Under an intersection, merge both readings."
     if let TypeShape::Intersection(a, b) = under.shape() {
+        let [a, b] = if planted(Fault::MergedInValueOrder) && stands_first(v, b, a) { [b, a] } else { [a, b] };
         let rights = casts(v, b);
         let merge = |left: Term| rights.iter().map(move |right| Term::merge(left.clone(), right.clone()));
         return casts(v, a).into_iter().flat_map(merge).collect();
@@ -50,12 +51,50 @@ pub fn casts(v: &Term, under: &Type) -> Vec<Term> {
             casts(content, wanted).into_iter().map(|c| Term::record(*l, c)).collect()
         }
         // "a merge is read from either half that can be"
-        (TermShape::Merge(a, b), _) => {
-            let mut all = casts(a, under);
-            all.extend(casts(b, under));
-            each_once(all)
-        }
+        (TermShape::Merge(a, b), _) => each_once(merge_casts(v, [a, b], under)),
         _ => vec![],
+    }
+}
+
+/// The readings of a merge under a type that is no intersection: from either half, unless a fault is planted.
+fn merge_casts(merge: &Term, halves: [&Term; 2], under: &Type) -> Vec<Term> {
+    let from = |parts: &[&Term]| parts.iter().flat_map(|part| casts(part, under)).collect::<Vec<_>>();
+    match current() {
+        Some(Fault::ReadFromLeftHalf) => from(&halves[..1]),
+        Some(Fault::ReadFromRightHalf) => from(&halves[1..]),
+        Some(Fault::OneTypeEnough) => from(&halves).into_iter().take(1).collect(),
+        Some(Fault::FirstPartRead) => {
+            value_parts(merge).into_iter().find(|part| alike(part, under)).map_or(vec![], |v| casts(v, under))
+        }
+        Some(Fault::MergesToEightLevels) => from(&parts_within(merge, LEVELS)),
+        _ => from(&halves),
+    }
+}
+
+/// The merge's left half can be read under this type and not under the other, which its right half can be.
+fn stands_first(merge: &Term, one: &Type, other: &Type) -> bool {
+    let read = |v: &Term, under: &Type| !casts(v, under).is_empty();
+    matches!(merge.shape(), TermShape::Merge(a, b) if read(a, one) && !read(a, other) && read(b, other))
+}
+
+/// A number and Int, a function and a function type, a record and a record type of one label.
+fn alike(part: &Term, under: &Type) -> bool {
+    match (part.shape(), under.shape()) {
+        (TermShape::Number(_), TypeShape::Int) | (TermShape::Function(..), TypeShape::Function(..)) => true,
+        (TermShape::Record(l, _), TypeShape::Record(m, _)) => l == m,
+        _ => false,
+    }
+}
+
+/// Merges are read to this level, where a fault has that.
+const LEVELS: usize = 8;
+
+/// The parts of a value that stand within no more merges than this.
+fn parts_within(v: &Term, merges: usize) -> Vec<&Term> {
+    match v.shape() {
+        TermShape::Merge(..) if merges == 0 => vec![],
+        TermShape::Merge(a, b) => [a, b].into_iter().flat_map(|half| parts_within(half, merges - 1)).collect(),
+        _ => vec![v],
     }
 }
 

@@ -30,6 +30,8 @@ pub fn subtype(a: &Type, b: &Type) -> bool {
     }
     match (a.shape(), b.shape()) {
         (_, TypeShape::Intersection(l, r)) => subtype(a, l) && subtype(a, r),
+        (TypeShape::Intersection(l, _), _) if planted(Fault::BelowByLeftHalf) => subtype(l, b),
+        (TypeShape::Intersection(_, r), _) if planted(Fault::BelowByRightHalf) => subtype(r, b),
         (TypeShape::Intersection(l, r), _) => subtype(l, b) || subtype(r, b),
         (TypeShape::Int, TypeShape::Int) => true,
         (TypeShape::Function(i, o), TypeShape::Function(wanted_i, wanted_o)) => {
@@ -45,9 +47,16 @@ pub fn subtype(a: &Type, b: &Type) -> bool {
 /// another. Two functions if their outputs are. Two records if labels differ or contents are disjoint."
 pub fn disjoint(a: &Type, b: &Type) -> bool {
     match (a.shape(), b.shape()) {
-        (TypeShape::Top, _) | (_, TypeShape::Top) => true,
-        (TypeShape::Intersection(l, r), _) => disjoint(l, b) && (planted(Fault::DisjointByLeftHalf) || disjoint(r, b)),
-        (_, TypeShape::Intersection(l, r)) => disjoint(a, l) && (planted(Fault::DisjointByLeftHalf) || disjoint(a, r)),
+        (TypeShape::Top, _) => true,
+        (_, TypeShape::Top) => !planted(Fault::TopKnownOnLeft),
+        (TypeShape::Intersection(l, r), _) if !planted(Fault::DisjointOnRight) => {
+            disjoint(l, b) && (planted(Fault::DisjointByLeftHalf) || disjoint(r, b))
+        }
+        (_, TypeShape::Intersection(l, r)) if !planted(Fault::DisjointOnLeft) => {
+            disjoint(a, l) && (planted(Fault::DisjointByLeftHalf) || disjoint(a, r))
+        }
+        // Only where a fault is planted.
+        (TypeShape::Intersection(..), _) | (_, TypeShape::Intersection(..)) => false,
         (TypeShape::Int, TypeShape::Int) => false,
         (TypeShape::Function(i, o), TypeShape::Function(j, p)) => {
             disjoint(o, p) || planted(Fault::DisjointByInputs) && disjoint(i, j)
@@ -78,13 +87,40 @@ pub fn type_of_value(v: &Term) -> Type {
 /// halves' are.
 pub fn consistent(v: &Term, w: &Term) -> bool {
     match (v.shape(), w.shape()) {
-        (TermShape::Merge(a, b), _) => consistent(a, w) && (planted(Fault::MergeByLeftHalf) || consistent(b, w)),
-        (_, TermShape::Merge(a, b)) => consistent(v, a) && (planted(Fault::MergeByLeftHalf) || consistent(v, b)),
+        _ if planted(Fault::OneTypeEnough) && type_of_value(v) == type_of_value(w) => true,
+        (TermShape::Merge(a, b), _) if !planted(Fault::MergeKnownOnRight) => {
+            compared(&[a, b], Side::Left).iter().all(|half| consistent(half, w))
+        }
+        (_, TermShape::Merge(a, b)) if !planted(Fault::MergeKnownOnLeft) => {
+            compared(&[a, b], Side::Right).iter().all(|half| consistent(v, half))
+        }
         (TermShape::Number(m), TermShape::Number(n)) if same_number(*m, *n) => true,
         (TermShape::Function(e, i, o), TermShape::Function(f, j, p)) if same_function((e, i, o), (f, j, p)) => true,
-        (TermShape::Record(l, c), TermShape::Record(m, d)) if l == m && consistent(c, d) => true,
+        (TermShape::Record(l, c), TermShape::Record(m, d)) if l == m && consistent_contents(c, d) => true,
         _ => disjoint(&type_of_value(v), &type_of_value(w)),
     }
+}
+
+/// Where a merge stands that is compared with a value.
+enum Side {
+    Left,
+    Right,
+}
+
+/// The halves of a merge that are compared with a value: both, unless a fault is planted.
+fn compared<'a, 'b>(halves: &'a [&'b Term; 2], stands: Side) -> &'a [&'b Term] {
+    match (current(), stands) {
+        (Some(Fault::AdjacentParts), Side::Left) => &halves[1..],
+        (Some(Fault::AdjacentParts), Side::Right) | (Some(Fault::MergeByLeftHalf), _) => &halves[..1],
+        _ => halves,
+    }
+}
+
+fn consistent_contents(c: &Term, d: &Term) -> bool {
+    if planted(Fault::ContentsAsTrees) {
+        return c == d;
+    }
+    consistent(c, d)
 }
 
 /// "Finding a type". The binders' types are listed outermost first. "Typing walks left before right and parts before wholes";
@@ -157,7 +193,8 @@ fn infer_merge(binders: &mut Vec<Type>, e: &Term, left: &Term, right: &Term) -> 
         (infer(binders, left)?, infer(binders, right)?)
     };
     let closed_value = |half: &Term| half.is_value() && half.is_closed();
-    if disjoint(&a, &b) || closed_value(left) && closed_value(right) && consistent(left, right) {
+    let in_order = || !planted(Fault::LargerFirstRefused) || left.size() <= right.size();
+    if disjoint(&a, &b) || closed_value(left) && closed_value(right) && consistent(left, right) && in_order() {
         Ok(Type::intersection(a, b))
     } else {
         refuse(14, if planted(Fault::HalfNamed) { left } else { e })
