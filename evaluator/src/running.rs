@@ -57,17 +57,21 @@ pub fn casts(v: &Term, under: &Type) -> Vec<Term> {
 }
 
 /// The readings of a merge under a type that is no intersection: from either half, unless a fault is planted.
-fn merge_casts(merge: &Term, halves: [&Term; 2], under: &Type) -> Vec<Term> {
-    let from = |parts: &[&Term]| parts.iter().flat_map(|part| casts(part, under)).collect::<Vec<_>>();
+fn merge_casts(merge: &Term, [a, b]: [&Term; 2], under: &Type) -> Vec<Term> {
+    let either = || {
+        let mut all = casts(a, under);
+        all.extend(casts(b, under));
+        all
+    };
     match current() {
-        Some(Fault::ReadFromLeftHalf) => from(&halves[..1]),
-        Some(Fault::ReadFromRightHalf) => from(&halves[1..]),
-        Some(Fault::OneTypeEnough) => from(&halves).into_iter().take(1).collect(),
+        Some(Fault::ReadFromLeftHalf) => casts(a, under),
+        Some(Fault::ReadFromRightHalf) => casts(b, under),
+        Some(Fault::OneTypeEnough) => either().into_iter().take(1).collect(),
         Some(Fault::FirstPartRead) => {
             value_parts(merge).into_iter().find(|part| alike(part, under)).map_or(vec![], |v| casts(v, under))
         }
-        Some(Fault::MergesToEightLevels) => from(&parts_within(merge, LEVELS)),
-        _ => from(&halves),
+        Some(Fault::MergesToEightLevels) => parts_within(merge, LEVELS).into_iter().flat_map(|v| casts(v, under)).collect(),
+        _ => either(),
     }
 }
 

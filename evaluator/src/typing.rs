@@ -30,9 +30,11 @@ pub fn subtype(a: &Type, b: &Type) -> bool {
     }
     match (a.shape(), b.shape()) {
         (_, TypeShape::Intersection(l, r)) => subtype(a, l) && subtype(a, r),
-        (TypeShape::Intersection(l, _), _) if planted(Fault::BelowByLeftHalf) => subtype(l, b),
-        (TypeShape::Intersection(_, r), _) if planted(Fault::BelowByRightHalf) => subtype(r, b),
-        (TypeShape::Intersection(l, r), _) => subtype(l, b) || subtype(r, b),
+        (TypeShape::Intersection(l, r), _) => match current() {
+            Some(Fault::BelowByLeftHalf) => subtype(l, b),
+            Some(Fault::BelowByRightHalf) => subtype(r, b),
+            _ => subtype(l, b) || subtype(r, b),
+        },
         (TypeShape::Int, TypeShape::Int) => true,
         (TypeShape::Function(i, o), TypeShape::Function(wanted_i, wanted_o)) => {
             let inputs = if planted(Fault::CovariantInputs) { subtype(i, wanted_i) } else { subtype(wanted_i, i) };
@@ -49,14 +51,16 @@ pub fn disjoint(a: &Type, b: &Type) -> bool {
     match (a.shape(), b.shape()) {
         (TypeShape::Top, _) => true,
         (_, TypeShape::Top) => !planted(Fault::TopKnownOnLeft),
-        (TypeShape::Intersection(l, r), _) if !planted(Fault::DisjointOnRight) => {
-            disjoint(l, b) && (planted(Fault::DisjointByLeftHalf) || disjoint(r, b))
-        }
-        (_, TypeShape::Intersection(l, r)) if !planted(Fault::DisjointOnLeft) => {
-            disjoint(a, l) && (planted(Fault::DisjointByLeftHalf) || disjoint(a, r))
-        }
-        // Only where a fault is planted.
-        (TypeShape::Intersection(..), _) | (_, TypeShape::Intersection(..)) => false,
+        (TypeShape::Intersection(l, r), _) => match current() {
+            Some(Fault::DisjointByLeftHalf) => disjoint(l, b),
+            Some(Fault::DisjointOnRight) => matches!(b.shape(), TypeShape::Intersection(l, r) if disjoint(a, l) && disjoint(a, r)),
+            _ => disjoint(l, b) && disjoint(r, b),
+        },
+        (_, TypeShape::Intersection(l, r)) => match current() {
+            Some(Fault::DisjointByLeftHalf) => disjoint(a, l),
+            Some(Fault::DisjointOnLeft) => false,
+            _ => disjoint(a, l) && disjoint(a, r),
+        },
         (TypeShape::Int, TypeShape::Int) => false,
         (TypeShape::Function(i, o), TypeShape::Function(j, p)) => {
             disjoint(o, p) || planted(Fault::DisjointByInputs) && disjoint(i, j)
@@ -86,13 +90,14 @@ pub fn type_of_value(v: &Term) -> Type {
 /// A merge is taken apart wherever it stands and nothing else is tried: its type is disjoint from another exactly when both
 /// halves' are.
 pub fn consistent(v: &Term, w: &Term) -> bool {
+    let fault = current();
     match (v.shape(), w.shape()) {
-        _ if planted(Fault::OneTypeEnough) && type_of_value(v) == type_of_value(w) => true,
-        (TermShape::Merge(a, b), _) if !planted(Fault::MergeKnownOnRight) => {
-            compared(&[a, b], Side::Left).iter().all(|half| consistent(half, w))
+        _ if fault == Some(Fault::OneTypeEnough) && type_of_value(v) == type_of_value(w) => true,
+        (TermShape::Merge(a, b), _) if fault != Some(Fault::MergeKnownOnRight) => {
+            compared(fault, &[a, b], Side::Left).iter().all(|half| consistent(half, w))
         }
-        (_, TermShape::Merge(a, b)) if !planted(Fault::MergeKnownOnLeft) => {
-            compared(&[a, b], Side::Right).iter().all(|half| consistent(v, half))
+        (_, TermShape::Merge(a, b)) if fault != Some(Fault::MergeKnownOnLeft) => {
+            compared(fault, &[a, b], Side::Right).iter().all(|half| consistent(v, half))
         }
         (TermShape::Number(m), TermShape::Number(n)) if same_number(*m, *n) => true,
         (TermShape::Function(e, i, o), TermShape::Function(f, j, p)) if same_function((e, i, o), (f, j, p)) => true,
@@ -108,8 +113,8 @@ enum Side {
 }
 
 /// The halves of a merge that are compared with a value: both, unless a fault is planted.
-fn compared<'a, 'b>(halves: &'a [&'b Term; 2], stands: Side) -> &'a [&'b Term] {
-    match (current(), stands) {
+fn compared<'a, 'b>(fault: Option<Fault>, halves: &'a [&'b Term; 2], stands: Side) -> &'a [&'b Term] {
+    match (fault, stands) {
         (Some(Fault::AdjacentParts), Side::Left) => &halves[1..],
         (Some(Fault::AdjacentParts), Side::Right) | (Some(Fault::MergeByLeftHalf), _) => &halves[..1],
         _ => halves,
