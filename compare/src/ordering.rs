@@ -3,6 +3,7 @@
 //! asked of the side that is compared, plain and annotated with one type, and its answers compared with each other.
 
 use crate::cells::{encode_in, Sharing};
+use crate::deepest::merges;
 use crate::engines::{Call, Engine};
 use crate::families::merged;
 use crate::maker::{Maker, EVEN};
@@ -46,7 +47,16 @@ pub fn any_order(v: &Term, random: &mut Random) -> Term {
         _ => part.clone(),
     };
     let parts = value_parts(v).into_iter().map(&mut within).collect();
-    merged(shuffled(parts, random), random)
+    grouped(shuffled(parts, random), random)
+}
+
+/// The parts merged: to the left, to the right, balanced, or anyhow.
+pub fn grouped(parts: Vec<Term>, random: &mut Random) -> Term {
+    if random.once_in(2) {
+        return merged(parts, random);
+    }
+    let [(_, left), (_, right), (_, balanced)] = merges(&parts);
+    random.pick(&[left, right, balanced]).clone()
 }
 
 /// Some reorderings: of the halves swapped, three values regrouped, one move anywhere, and any order of all.

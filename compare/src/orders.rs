@@ -2,14 +2,14 @@
 
 use crate::engines::Call;
 use crate::extremes::{int, number, top};
-use crate::families::{merged, one_book};
+use crate::families::one_book;
 use crate::maker::{Maker, Weights, EVEN, LABELS};
-use crate::ordering::{any_order, types};
+use crate::ordering::{any_order, grouped, types};
 use crate::random::Random;
 use crate::reads::{shuffled, top_like_value};
 use crate::refusals::by_turns;
 use crate::samples::{identity, Sample};
-use evaluator::{casts, encode_term, kind, type_of_value, Answer, Term, Type, Version};
+use evaluator::{casts, encode_term, kind, type_of_value, Answer, Term, Type, Version, SIZE_LIMIT};
 
 fn field(label: u8, content: Term) -> Term {
     Term::record(label, content)
@@ -125,27 +125,31 @@ fn some_parts(random: &mut Random) -> Vec<Term> {
     parts
 }
 
-/// Functions that are long and the type of their readings, so many times over that there is room for these, or there is not, by little.
+/// A long function and more, and a type under which their reading has about as many cells as there is room for. It has the function many times
+/// over, then a field, which takes three cells with its merge, or none, and top values, which take two.
 fn long_readings(random: &mut Random) -> (Vec<Term>, Type) {
-    let (length, times) = (random.between(95, 115), random.between(34, 41));
-    let function = long_function(length as u64);
-    let as_function = Type::function(int(), int());
-    let by = (1..times).fold(as_function.clone(), |by, _| Type::intersection(by, as_function.clone()));
-    let beside = vec![field(3, number(1)), Term::top(), number(4)];
-    let count = random.between(1, beside.len());
-    ([function].into_iter().chain(beside.into_iter().take(count)).collect(), by)
+    let size = SIZE_LIMIT + random.between(0, 4) as u64 - 2;
+    let rest = |length: u64| (size + 1) % (length + 1);
+    let lengths: Vec<u64> = (90..=120).filter(|&length| (2..=12).contains(&rest(length))).collect();
+    let length = *random.pick(&lengths);
+    let (times, fields) = ((size + 1) / (length + 1), rest(length) % 2);
+    let tops = (rest(length) - 3 * fields) / 2;
+    let counted = [(Type::function(int(), int()), times), (field_type(3), fields), (top(), tops)];
+    let types = counted.into_iter().flat_map(|(of, count)| vec![of; count as usize]);
+    let parts = vec![long_function(length), field(3, number(1)), number(4)];
+    (parts, types.reduce(Type::intersection).expect("a type"))
 }
 
 /// A merge of closed values and a reordering of it, plain and annotated with one type.
 pub fn reordered_merges(random: &mut Random) -> Vec<Vec<u8>> {
-    let (parts, by) = match random.lower(12) {
+    let (parts, by) = match random.lower(10) {
         0 => {
             let (parts, by) = long_readings(random);
             (parts, Some(by))
         }
         _ => (some_parts(random), None),
     };
-    let value = merged(shuffled(parts, random), random);
+    let value = grouped(shuffled(parts, random), random);
     let other = any_order(&value, random);
     let some = types([&value, &other], random);
     let by = by.unwrap_or_else(|| random.pick(&some).clone());

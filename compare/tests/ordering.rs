@@ -17,6 +17,7 @@ const WHOLE: &str = "every order";
 const RANDOM: &str = "reordered merges";
 /// As many as a self-test asks about.
 const SEARCHED: usize = 500;
+const FEW: usize = 3;
 
 fn books(name: &str, count: usize) -> Vec<Vec<u8>> {
     let family = families().into_iter().find(|family| family.name == name).expect("the family");
@@ -128,7 +129,7 @@ fn the_random_family_has_enough_of_each() {
 }
 
 /// The faults for which left and right matter.
-const FAULTS: [Fault; 19] = [
+const FAULTS: [Fault; 24] = [
     Fault::AdjacentParts,
     Fault::MergeKnownOnLeft,
     Fault::MergeKnownOnRight,
@@ -146,6 +147,11 @@ const FAULTS: [Fault; 19] = [
     Fault::MergedInValueOrder,
     Fault::FirstPartRead,
     Fault::MergesToEightLevels,
+    Fault::OverlapByLeftHalf,
+    Fault::ConsistentToEightLevels,
+    Fault::EqualHalvesOnce,
+    Fault::RoomWithLeftHalf,
+    Fault::SmallerHalfFirst,
     Fault::MergeByLeftHalf,
     Fault::DisjointByLeftHalf,
 ];
@@ -153,9 +159,9 @@ const FAULTS: [Fault; 19] = [
 /// What is wrong in every order alike is no matter of order.
 const ALIKE: [Fault; 4] = [Fault::HalfNamed, Fault::CovariantInputs, Fault::OutputsCompared, Fault::RoomOneEarly];
 
-/// How many of these books do not hold, as this side answers.
+/// How many of these books do not hold, as this side answers, up to a few: a faulty side may take long for some.
 fn broken(side: &dyn Engine, books: &[Vec<u8>]) -> usize {
-    books.iter().filter(|book| holds(side, book).is_err()).count()
+    books.iter().filter(|book| holds(side, book).is_err()).take(FEW).count()
 }
 
 #[test]
@@ -164,14 +170,10 @@ fn orders_are_the_same_unless_a_fault_is_planted() {
         let books = [books(WHOLE, 3_000), books(RANDOM, 1_000)].concat();
         assert_eq!(broken(&Evaluator(None), &books), 0);
         for fault in FAULTS {
-            let count = broken(&Evaluator(Some(fault)), &books);
-            println!("{fault:?}: {count} of {}", books.len());
-            assert!(count > 0, "{fault:?}");
+            assert_eq!(broken(&Evaluator(Some(fault)), &books), FEW, "{fault:?}");
         }
         for fault in ALIKE {
-            let count = broken(&Evaluator(Some(fault)), &books);
-            println!("{fault:?}: {count} of {}", books.len());
-            assert_eq!(count, 0, "{fault:?}");
+            assert_eq!(broken(&Evaluator(Some(fault)), &books), 0, "{fault:?}");
         }
     });
 }
@@ -182,7 +184,7 @@ fn every_fault_of_order_is_found() {
     on_large_stack(|| {
         let books = [books(WHOLE, SEARCHED), books(RANDOM, SEARCHED)].concat();
         let both = |side: Evaluator, book: &[u8]| {
-            [Call::Check, Call::Run { limit: 1 }].map(|call| {
+            [Call::Check, Call::Run { limit: 0 }, Call::Run { limit: 1 }].map(|call| {
                 let mut work = vec![0; WORK];
                 (side.call(call, book, &mut work), work)
             })
@@ -190,9 +192,7 @@ fn every_fault_of_order_is_found() {
         let right: Vec<_> = books.iter().map(|book| both(Evaluator(None), book)).collect();
         for fault in FAULTS {
             let differs = |(book, right): &(&Vec<u8>, &_)| both(Evaluator(Some(fault)), book) != **right;
-            let found = books.iter().zip(&right).filter(differs).count();
-            println!("{fault:?}: {found} of {}", books.len());
-            assert!(found >= 1, "{fault:?}");
+            assert_eq!(books.iter().zip(&right).filter(differs).take(FEW).count(), FEW, "{fault:?}");
         }
     });
 }

@@ -292,10 +292,20 @@ pub enum Fault {
     FirstPartRead,
     /// A part within more than eight merges not read.
     MergesToEightLevels,
+    /// Of a merge whose halves are not disjoint, the left alone compared with a value.
+    OverlapByLeftHalf,
+    /// A part within more than eight merges not compared with a value.
+    ConsistentToEightLevels,
+    /// A merge whose halves have one type given that type.
+    EqualHalvesOnce,
+    /// Room asked for a reading and for the left half of the merge that is read.
+    RoomWithLeftHalf,
+    /// A term laid down with the smaller half of each merge first.
+    SmallerHalfFirst,
 }
 
 impl Fault {
-    pub const ALL: [Fault; 144] = [
+    pub const ALL: [Fault; 149] = [
         Fault::CovariantInputs,
         Fault::ArgumentUncast,
         Fault::RoomOneEarly,
@@ -440,6 +450,11 @@ impl Fault {
         Fault::MergedInValueOrder,
         Fault::FirstPartRead,
         Fault::MergesToEightLevels,
+        Fault::OverlapByLeftHalf,
+        Fault::ConsistentToEightLevels,
+        Fault::EqualHalvesOnce,
+        Fault::RoomWithLeftHalf,
+        Fault::SmallerHalfFirst,
     ];
 }
 

@@ -38,6 +38,18 @@ pub fn value_parts(v: &Term) -> Vec<&Term> {
     })
 }
 
+/// The parts of merges are known to this level, where a fault has that.
+pub const LEVELS: usize = 8;
+
+/// The parts of a value that stand within no more merges than this.
+pub fn parts_within(v: &Term, merges: usize) -> Vec<&Term> {
+    match v.shape() {
+        TermShape::Merge(..) if merges == 0 => vec![],
+        TermShape::Merge(a, b) => [a, b].into_iter().flat_map(|half| parts_within(half, merges - 1)).collect(),
+        _ => vec![v],
+    }
+}
+
 /// The type of a field read of a term of this type; None where it is refused.
 pub fn read_type(t: &Type, label: u8) -> Option<Type> {
     match t.shape() {

@@ -1,7 +1,7 @@
 //! Casts and steps, with both halves of every merge open.
 
 use crate::faults::{current, planted, Fault};
-use crate::fields::{read_value, value_parts};
+use crate::fields::{parts_within, read_value, value_parts, LEVELS};
 use crate::numbers::{choices, read_apart, sums};
 use crate::terms::{Term, TermShape, Type, TypeShape};
 use crate::typing::{subtype, top_like};
@@ -87,18 +87,6 @@ fn alike(part: &Term, under: &Type) -> bool {
         (TermShape::Number(_), TypeShape::Int) | (TermShape::Function(..), TypeShape::Function(..)) => true,
         (TermShape::Record(l, _), TypeShape::Record(m, _)) => l == m,
         _ => false,
-    }
-}
-
-/// Merges are read to this level, where a fault has that.
-const LEVELS: usize = 8;
-
-/// The parts of a value that stand within no more merges than this.
-fn parts_within(v: &Term, merges: usize) -> Vec<&Term> {
-    match v.shape() {
-        TermShape::Merge(..) if merges == 0 => vec![],
-        TermShape::Merge(a, b) => [a, b].into_iter().flat_map(|half| parts_within(half, merges - 1)).collect(),
-        _ => vec![v],
     }
 }
 
@@ -215,6 +203,15 @@ fn unused(e: &Term) -> u64 {
     }
 }
 
+/// The size of the left half of an annotated merge.
+fn left_half(e: &Term) -> u64 {
+    let TermShape::Annotation(v, _) = e.shape() else { return 0 };
+    match v.shape() {
+        TermShape::Merge(left, _) => left.size(),
+        _ => 0,
+    }
+}
+
 /// A run: the part that steps, in focus, and the frames around it, outermost first. A step then costs nothing for what is around
 /// it; the term is the same as after `successors`.
 pub struct Machine {
@@ -271,6 +268,7 @@ impl Machine {
             Some(Fault::RoomOneLateBetween) => size - sizes(Frame::left).zip(sizes(Frame::right)).count().min(1) as u64,
             Some(Fault::RoomWithoutBranches) => size - self.branches(),
             Some(Fault::RoomForUnused) => size + unused(&self.focus),
+            Some(Fault::RoomWithLeftHalf) => size + left_half(&self.focus),
             Some(_) => *size,
         }
     }

@@ -2,7 +2,7 @@
 
 use crate::book::Refusal;
 use crate::faults::{current, planted, Fault};
-use crate::fields::read_type;
+use crate::fields::{parts_within, read_type, LEVELS};
 use crate::sameness::{same_function, same_number};
 use crate::terms::{Term, TermShape, Type, TypeShape};
 use std::ops::Range;
@@ -93,6 +93,10 @@ pub fn consistent(v: &Term, w: &Term) -> bool {
     let fault = current();
     match (v.shape(), w.shape()) {
         _ if fault == Some(Fault::OneTypeEnough) && type_of_value(v) == type_of_value(w) => true,
+        (TermShape::Merge(..), _) | (_, TermShape::Merge(..)) if fault == Some(Fault::ConsistentToEightLevels) => {
+            let others = parts_within(w, LEVELS);
+            parts_within(v, LEVELS).iter().all(|part| others.iter().all(|other| consistent(part, other)))
+        }
         (TermShape::Merge(a, b), _) if fault != Some(Fault::MergeKnownOnRight) => {
             compared(fault, &[a, b], Side::Left).iter().all(|half| consistent(half, w))
         }
@@ -117,8 +121,15 @@ fn compared<'a, 'b>(fault: Option<Fault>, halves: &'a [&'b Term; 2], stands: Sid
     match (fault, stands) {
         (Some(Fault::AdjacentParts), Side::Left) => &halves[1..],
         (Some(Fault::AdjacentParts), Side::Right) | (Some(Fault::MergeByLeftHalf), _) => &halves[..1],
+        (Some(Fault::OverlapByLeftHalf), _) if overlap(halves) => &halves[..1],
         _ => halves,
     }
+}
+
+/// The types are not disjoint.
+fn overlap(values: &[&Term; 2]) -> bool {
+    let [one, other] = values.map(type_of_value);
+    !disjoint(&one, &other)
 }
 
 fn consistent_contents(c: &Term, d: &Term) -> bool {
@@ -200,7 +211,8 @@ fn infer_merge(binders: &mut Vec<Type>, e: &Term, left: &Term, right: &Term) -> 
     let closed_value = |half: &Term| half.is_value() && half.is_closed();
     let in_order = || !planted(Fault::LargerFirstRefused) || left.size() <= right.size();
     if disjoint(&a, &b) || closed_value(left) && closed_value(right) && consistent(left, right) && in_order() {
-        Ok(Type::intersection(a, b))
+        let once = a == b && planted(Fault::EqualHalvesOnce);
+        Ok(if once { a } else { Type::intersection(a, b) })
     } else {
         refuse(14, if planted(Fault::HalfNamed) { left } else { e })
     }
