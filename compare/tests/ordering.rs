@@ -129,7 +129,7 @@ fn the_random_family_has_enough_of_each() {
 }
 
 /// The faults for which left and right matter.
-const FAULTS: [Fault; 24] = [
+const FAULTS: [Fault; 25] = [
     Fault::AdjacentParts,
     Fault::MergeKnownOnLeft,
     Fault::MergeKnownOnRight,
@@ -152,6 +152,7 @@ const FAULTS: [Fault; 24] = [
     Fault::EqualHalvesOnce,
     Fault::RoomWithLeftHalf,
     Fault::SmallerHalfFirst,
+    Fault::RightHalfCounted,
     Fault::MergeByLeftHalf,
     Fault::DisjointByLeftHalf,
 ];

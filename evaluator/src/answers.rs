@@ -66,8 +66,9 @@ fn evaluate(root: Term, version: Version, limit: u32) -> (Answer, Term) {
             break Answer::Spent { steps };
         }
         let depth = machine.depth();
+        let right_half = planted(Fault::RightHalfCounted) && machine.reads_right_half();
         machine.step(next);
-        steps += if planted(Fault::DescentCounted) && machine.depth() > depth { 2 } else { 1 };
+        steps += if right_half || planted(Fault::DescentCounted) && machine.depth() > depth { 2 } else { 1 };
         if steps >= limit && planted(Fault::SpentAfterStep) {
             break Answer::Spent { steps };
         }

@@ -302,10 +302,12 @@ pub enum Fault {
     RoomWithLeftHalf,
     /// A term laid down with the smaller half of each merge first.
     SmallerHalfFirst,
+    /// The reading of a merge from its right half alone counted as two steps.
+    RightHalfCounted,
 }
 
 impl Fault {
-    pub const ALL: [Fault; 149] = [
+    pub const ALL: [Fault; 150] = [
         Fault::CovariantInputs,
         Fault::ArgumentUncast,
         Fault::RoomOneEarly,
@@ -455,6 +457,7 @@ impl Fault {
         Fault::EqualHalvesOnce,
         Fault::RoomWithLeftHalf,
         Fault::SmallerHalfFirst,
+        Fault::RightHalfCounted,
     ];
 }
 

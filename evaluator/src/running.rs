@@ -279,6 +279,12 @@ impl Machine {
         choices.map(Frame::right).sum()
     }
 
+    /// A merge is read next, and its left half cannot be.
+    pub fn reads_right_half(&self) -> bool {
+        let TermShape::Annotation(v, under) = self.focus.shape() else { return false };
+        matches!(v.shape(), TermShape::Merge(left, _) if casts(left, under).is_empty())
+    }
+
     /// How many frames there are.
     pub fn depth(&self) -> usize {
         self.frames.len()
