@@ -18,7 +18,7 @@ use evaluator::{
 const LARGE: u64 = 300;
 /// Of larger values not every move is listed, and one type is asked about.
 const MANY: u64 = 60;
-/// So many reorderings of a value are asked about, and so many types with each.
+/// So many reorderings of a value are asked about, and at most so many types with each.
 const ORDERS: usize = 1;
 const TYPES: usize = 2;
 
@@ -143,8 +143,8 @@ impl Asked<'_> {
     }
 }
 
-/// How many reorderings were asked about, and that it holds of them: none of a root that is no closed value with something to reorder, nor one
-/// annotated, or is large.
+/// How many reorderings were asked about, and that it holds of them: none if the root is neither a closed value with something to reorder nor
+/// such a value annotated, or is large.
 pub fn holds(side: &dyn Engine, book: &[u8]) -> Result<usize, String> {
     let Ok((root, version)) = decode(book) else { return Ok(0) };
     let Some((value, by)) = ordered(&root).filter(|_| root.size() <= LARGE) else { return Ok(0) };
@@ -158,7 +158,7 @@ pub fn holds(side: &dyn Engine, book: &[u8]) -> Result<usize, String> {
     let count = match original {
         Answer::Refused { .. } => random.lower(2),
         _ if value.size() > MANY => 1,
-        _ => TYPES,
+        _ => random.between(1, TYPES),
     };
     for order in &orders {
         asked.accepted(original, order, &mut random)?;

@@ -211,7 +211,7 @@ fn infer_merge(binders: &mut Vec<Type>, e: &Term, left: &Term, right: &Term) -> 
     let closed_value = |half: &Term| half.is_value() && half.is_closed();
     let in_order = || !planted(Fault::LargerFirstRefused) || left.size() <= right.size();
     if disjoint(&a, &b) || closed_value(left) && closed_value(right) && consistent(left, right) && in_order() {
-        let once = a == b && planted(Fault::EqualHalvesOnce);
+        let once = planted(Fault::EqualHalvesOnce) && a == b;
         Ok(if once { a } else { Type::intersection(a, b) })
     } else {
         refuse(14, if planted(Fault::HalfNamed) { left } else { e })
