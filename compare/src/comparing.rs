@@ -1,8 +1,8 @@
 //! Comparing two engines on one book.
 
-use crate::engines::{Call, Engine, Evaluator, Reply};
+use crate::engines::{Both, Call, Engine, Evaluator, Reply};
 use crate::random::Random;
-use crate::{restamping, theory};
+use crate::{ordering, restamping, theory};
 use evaluator::{decode, Answer, WORK};
 use std::cell::{Cell, RefCell};
 
@@ -21,6 +21,8 @@ pub enum Question {
     Theory,
     /// That the book is the same as the version 1 book that it is restamped from.
     Restamping,
+    /// That the book is the same as others with its parts in another order.
+    Order,
 }
 
 /// Why a book failed.
@@ -44,6 +46,8 @@ pub struct Comparison<'a> {
     pub calls: Cell<usize>,
     /// How many restamped books have been compared with their own.
     pub pairs: Cell<usize>,
+    /// How many reorderings have been compared with the value that they come from.
+    pub orders: Cell<usize>,
     noise: Vec<u8>,
     buffers: RefCell<[Vec<u8>; 2]>,
 }
@@ -57,6 +61,7 @@ impl<'a> Comparison<'a> {
             theory,
             calls: Cell::new(0),
             pairs: Cell::new(0),
+            orders: Cell::new(0),
             noise,
             buffers: RefCell::new([Vec::new(), Vec::new()]),
         }
@@ -68,6 +73,7 @@ impl<'a> Comparison<'a> {
             Question::Call(call, length) => self.answered(book, call, length).err(),
             Question::Theory => theory::holds(self.engine, book).err().map(Difference::Broken),
             Question::Restamping => self.restamped(book).err().map(Difference::Broken),
+            Question::Order => self.reordered(book).err().map(Difference::Broken),
         }
     }
 
@@ -75,6 +81,13 @@ impl<'a> Comparison<'a> {
     fn restamped(&self, book: &[u8]) -> Result<(), String> {
         let asked = restamping::holds(self.engine, book)?;
         self.pairs.set(self.pairs.get() + usize::from(asked));
+        Ok(())
+    }
+
+    /// The book beside others with its parts in another order, of which both sides are asked.
+    fn reordered(&self, book: &[u8]) -> Result<(), String> {
+        let asked = ordering::holds(&Both(self.engine), book)?;
+        self.orders.set(self.orders.get() + asked);
         Ok(())
     }
 
@@ -116,6 +129,7 @@ impl<'a> Comparison<'a> {
             self.promised(book, Question::Theory)?;
         }
         self.promised(book, Question::Restamping)?;
+        self.promised(book, Question::Order)?;
         Ok(seen)
     }
 

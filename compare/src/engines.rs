@@ -42,6 +42,25 @@ impl Engine for Evaluator {
     }
 }
 
+/// The evaluator and another side: what both say and leave.
+pub struct Both<'a>(pub &'a dyn Engine);
+
+impl Engine for Both<'_> {
+    fn name(&self) -> String {
+        format!("evaluator and {}", self.0.name())
+    }
+
+    fn call(&self, call: Call, book: &[u8], work: &mut [u8]) -> Reply {
+        let mut own = work.to_vec();
+        let one = Evaluator(None).call(call, book, &mut own);
+        let other = self.0.call(call, book, work);
+        if one == other && own == work {
+            return other;
+        }
+        Err(format!("the evaluator says {one:?}, {} says {other:?}, or leaves something else", self.0.name()))
+    }
+}
+
 /// The engine of the static library.
 #[cfg(feature = "engine")]
 pub struct Library;

@@ -8,6 +8,7 @@ use crate::extremes::extremes;
 use crate::loops::{counting_loops, triangular};
 use crate::maker::{Maker, Weights, EVEN, LABELS};
 use crate::numbers;
+use crate::orders;
 use crate::random::Random;
 use crate::reads::reads_of_merges;
 use crate::refusals::refusals;
@@ -74,6 +75,7 @@ fn whole_families() -> Vec<Family> {
             let stated = bodies::stated().into_iter().map(|sample| sample.book);
             stated.chain(bodies::one_cell_apart().into_iter().map(|pair| pair.book.bytes())).collect()
         }),
+        whole("every order", 20, orders::every_order),
     ]
 }
 
@@ -81,6 +83,7 @@ fn random_families() -> Vec<Family> {
     let random = |name, share, make| Family { name, share, restamped: 33, make: Make::Random(make) };
     vec![
         random("nearly equal bodies", 10, bodies::nearly_equal_bodies),
+        random("reordered merges", 5, orders::reordered_merges),
         random("merges", 12, |r| typed(r, Weights { merge: 8, ..EVEN }.of_type(kind::INTERSECTION, 6), 30)),
         random("hidden fields", 6, hidden_fields),
         random("reads of merges", 12, reads_of_merges),

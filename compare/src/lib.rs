@@ -11,6 +11,8 @@ pub mod families;
 pub mod loops;
 pub mod maker;
 pub mod numbers;
+pub mod ordering;
+pub mod orders;
 pub mod random;
 pub mod reads;
 pub mod refusals;

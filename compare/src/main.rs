@@ -23,8 +23,8 @@ use std::thread;
 use std::time::Instant;
 
 /// The random books of a comparison, and of each fault's search, unless asked for otherwise.
-const COUNT: usize = 115_000;
-const SELF_TEST_COUNT: usize = 6_900;
+const COUNT: usize = 117_800;
+const SELF_TEST_COUNT: usize = 7_070;
 /// A fault is not searched in books of so many bytes, but for random ones.
 const LARGE: usize = 8_192;
 /// A fault that so many families have found is searched no further.
@@ -158,7 +158,7 @@ fn one_family(family: &Family, options: &Options, count: usize, failed: &AtomicU
             }
         }
     }
-    (figures.calls, figures.pairs) = (comparison.calls.get(), comparison.pairs.get());
+    (figures.calls, figures.pairs, figures.orders) = (comparison.calls.get(), comparison.pairs.get(), comparison.orders.get());
     println!("{}", figures.line(family.name, start.elapsed().as_secs_f64()));
     figures
 }

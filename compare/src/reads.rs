@@ -38,8 +38,8 @@ fn proper_value(random: &mut Random) -> Term {
     }
 }
 
-/// A closed value that is.
-fn top_like_value(random: &mut Random) -> Term {
+/// A closed value that is top-like.
+pub fn top_like_value(random: &mut Random) -> Term {
     match random.lower(6) {
         0 => Term::function(Term::variable(0), int(), top()),
         1 => Term::function(Term::variable(0), top(), top()),
@@ -97,7 +97,7 @@ fn parts(label: u8, random: &mut Random) -> Vec<Term> {
 }
 
 /// The parts in any order.
-fn shuffled(mut parts: Vec<Term>, random: &mut Random) -> Vec<Term> {
+pub fn shuffled(mut parts: Vec<Term>, random: &mut Random) -> Vec<Term> {
     for place in 1..parts.len() {
         parts.swap(place, random.lower(place + 1));
     }

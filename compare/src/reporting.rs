@@ -13,6 +13,8 @@ pub struct Figures {
     second: usize,
     /// Of these, those that are compared with the version 1 book that they are restamped from.
     pub pairs: usize,
+    /// Reorderings that are compared with the value that they come from.
+    pub orders: usize,
     pub calls: usize,
     values: usize,
     spent: usize,
@@ -22,7 +24,7 @@ pub struct Figures {
 
 impl Figures {
     pub const HEAD: &'static str =
-        "family                 books of version 2  pairs    calls   value  spent   room seconds   refused, number:books";
+        "family                 books of version 2  pairs orders    calls   value  spent   room seconds   refused, number:books";
 
     pub fn enter(&mut self, seen: Seen, is_version_2: bool) {
         self.books += 1;
@@ -37,9 +39,10 @@ impl Figures {
     }
 
     pub fn line(&self, name: &str, seconds: f64) -> String {
-        let Figures { books, second, pairs, calls, values, spent, room, refused } = self;
-        let mut line =
-            format!("{name:<20}{books:>8}{second:>13}{pairs:>7}{calls:>9}{values:>8}{spent:>7}{room:>7}{seconds:>8.1}  ");
+        let Figures { books, second, pairs, orders, calls, values, spent, room, refused } = self;
+        let mut line = format!(
+            "{name:<20}{books:>8}{second:>13}{pairs:>7}{orders:>7}{calls:>9}{values:>8}{spent:>7}{room:>7}{seconds:>8.1}  "
+        );
         for (number, count) in refused.iter().enumerate().filter(|(_, &count)| count > 0) {
             let _ = write!(line, " {number}:{count}");
         }
@@ -65,6 +68,7 @@ pub fn described(book: &[u8], question: Question, difference: &Difference, engin
         Question::Call(call, length) => format!("{call:?} with a work buffer of {length} bytes"),
         Question::Theory => "what the calculus promises".to_string(),
         Question::Restamping => "the same as of the version 1 book that it is restamped from".to_string(),
+        Question::Order => "the same as of its parts in another order".to_string(),
     };
     let _ = writeln!(text, "  asked: {asked}");
     match difference {

@@ -6,6 +6,7 @@ use crate::cells::{encode, number_cell, zeroed, Cells, Sharing};
 use crate::engines::Call;
 use crate::loops::{accumulated, countdown, triangular};
 use crate::numbers::{refused, Refused};
+use crate::orders;
 use crate::random::Random;
 use crate::versions;
 use evaluator::{encode_term, kind, Answer, Cell, Term, Type};
@@ -19,7 +20,7 @@ pub struct Sample {
     pub call: Call,
     /// What the document says of it, or what follows from its words.
     pub answer: Answer,
-    /// The value it comes to, where the document names one.
+    /// The value it comes to, or the term it stops at, where the document names one.
     pub value: Option<Term>,
 }
 
@@ -209,12 +210,14 @@ fn reads_by_value() -> Vec<Sample> {
     list
 }
 
-/// The samples, the sums and choices with a part that is refused, functions that are compared, and both versions: all books of which the answer
-/// is stated.
+/// The samples, the sums and choices with a part that is refused, functions that are compared, merges that are reordered, and both versions: all
+/// books of which the answer is stated.
 pub fn stated() -> Vec<Sample> {
     let name = "a refused part of a sum or choice";
     let sample = |Refused { book, answer }| Sample { name, book, call: Call::Check, answer, value: None };
-    samples().into_iter().chain(refused().into_iter().map(sample)).chain(bodies::stated()).chain(versions::stated()).collect()
+    let refused = refused().into_iter().map(sample);
+    let later = bodies::stated().into_iter().chain(orders::stated()).chain(versions::stated());
+    samples().into_iter().chain(refused).chain(later).collect()
 }
 
 /// Sums and choices that run.

@@ -4,7 +4,7 @@ use crate::book::{decode, encode_term, encode_type, Cell, Refusal, CELL, SIZE_LI
 use crate::faults::{asked, planted, Fault};
 use crate::running::Machine;
 use crate::stack::on_large_stack;
-use crate::terms::{Term, Type};
+use crate::terms::{Term, TermShape, Type};
 use crate::typing::infer;
 use crate::versions::Version;
 use std::fmt::Write;
@@ -66,8 +66,9 @@ fn evaluate(root: Term, version: Version, limit: u32) -> (Answer, Term) {
             break Answer::Spent { steps };
         }
         let depth = machine.depth();
+        let right_half = planted(Fault::RightHalfCounted) && machine.reads_right_half();
         machine.step(next);
-        steps += if planted(Fault::DescentCounted) && machine.depth() > depth { 2 } else { 1 };
+        steps += if right_half || planted(Fault::DescentCounted) && machine.depth() > depth { 2 } else { 1 };
         if steps >= limit && planted(Fault::SpentAfterStep) {
             break Answer::Spent { steps };
         }
@@ -116,7 +117,19 @@ fn encode_reached(reached: &Term, version: Version) -> Vec<u8> {
     if reached.size() > SIZE_LIMIT {
         return Vec::new();
     }
+    if planted(Fault::SmallerHalfFirst) {
+        return encode_term(&smaller_half_first(reached), version);
+    }
     encode_term(reached, version)
+}
+
+/// The term with the smaller half of each merge first.
+fn smaller_half_first(e: &Term) -> Term {
+    let sorted = e.map(|part, _| smaller_half_first(part));
+    match sorted.shape() {
+        TermShape::Merge(a, b) if a.size() > b.size() => Term::merge(b.clone(), a.clone()),
+        _ => sorted,
+    }
 }
 
 /// What the desk program prints. "Line 1: type size. Line 2: value, spent or room, and steps. Then a line a cell: number, kind,

@@ -258,10 +258,56 @@ pub enum Fault {
     ZeroWithoutB,
     /// Whatever is in field c.
     ZeroWithoutC,
+    /// Of two merges only the parts compared that stand next to each other.
+    AdjacentParts,
+    /// A merge known to be consistent with a value only where the merge is on the left.
+    MergeKnownOnLeft,
+    /// Only where it is on the right.
+    MergeKnownOnRight,
+    /// Records of one label called consistent only if their contents are the same tree.
+    ContentsAsTrees,
+    /// Functions with the same body and input called consistent only if the left's output is below the right's.
+    LeftOutputBelow,
+    /// Values of one type called consistent, and the left one read.
+    OneTypeEnough,
+    /// 14 given where the halves are consistent, not disjoint, and the larger is on the left.
+    LargerFirstRefused,
+    /// Top known to be disjoint from a type only where Top is on the left.
+    TopKnownOnLeft,
+    /// An intersection known to be disjoint from a type only where the intersection is on the left.
+    DisjointOnLeft,
+    /// Only where it is on the right.
+    DisjointOnRight,
+    /// An intersection called below what its left half is below.
+    BelowByLeftHalf,
+    /// What its right half is below.
+    BelowByRightHalf,
+    /// A merge read from its left half alone.
+    ReadFromLeftHalf,
+    /// From its right half alone.
+    ReadFromRightHalf,
+    /// Under an intersection the readings merged in the order in which the parts stand in the value.
+    MergedInValueOrder,
+    /// The first number, function or record of that label read, although another can be and this one cannot.
+    FirstPartRead,
+    /// A part within more than eight merges not read.
+    MergesToEightLevels,
+    /// Of a merge whose halves are not disjoint, the left alone compared with a value.
+    OverlapByLeftHalf,
+    /// A part within more than eight merges not compared with a value.
+    ConsistentToEightLevels,
+    /// A merge whose halves have one type given that type.
+    EqualHalvesOnce,
+    /// Room asked for a reading and for the left half of the merge that is read.
+    RoomWithLeftHalf,
+    /// A term laid down with the smaller half of each merge first.
+    SmallerHalfFirst,
+    /// The reading of a merge from its right half alone counted as two steps.
+    RightHalfCounted,
 }
 
 impl Fault {
-    pub const ALL: [Fault; 127] = [
+    pub const ALL: [Fault; 150] = [
         Fault::CovariantInputs,
         Fault::ArgumentUncast,
         Fault::RoomOneEarly,
@@ -389,6 +435,29 @@ impl Fault {
         Fault::ZeroWithoutA,
         Fault::ZeroWithoutB,
         Fault::ZeroWithoutC,
+        Fault::AdjacentParts,
+        Fault::MergeKnownOnLeft,
+        Fault::MergeKnownOnRight,
+        Fault::ContentsAsTrees,
+        Fault::LeftOutputBelow,
+        Fault::OneTypeEnough,
+        Fault::LargerFirstRefused,
+        Fault::TopKnownOnLeft,
+        Fault::DisjointOnLeft,
+        Fault::DisjointOnRight,
+        Fault::BelowByLeftHalf,
+        Fault::BelowByRightHalf,
+        Fault::ReadFromLeftHalf,
+        Fault::ReadFromRightHalf,
+        Fault::MergedInValueOrder,
+        Fault::FirstPartRead,
+        Fault::MergesToEightLevels,
+        Fault::OverlapByLeftHalf,
+        Fault::ConsistentToEightLevels,
+        Fault::EqualHalvesOnce,
+        Fault::RoomWithLeftHalf,
+        Fault::SmallerHalfFirst,
+        Fault::RightHalfCounted,
     ];
 }
 

@@ -29,13 +29,25 @@ fn type_parts(t: &Type) -> Vec<&Type> {
 }
 
 /// The parts of a value that are no merges themselves.
-fn value_parts(v: &Term) -> Vec<&Term> {
+pub fn value_parts(v: &Term) -> Vec<&Term> {
     let whole = |part: &Term| std::ptr::eq(part, v);
     parts(v, |part| match part.shape() {
         TermShape::Merge(..) if planted(Fault::ValuePartsOneLevel) && !whole(part) => None,
         TermShape::Merge(a, b) => Some([a, b]),
         _ => None,
     })
+}
+
+/// The parts of merges are known to this level, where a fault has that.
+pub const LEVELS: usize = 8;
+
+/// The parts of a value that stand within no more merges than this.
+pub fn parts_within(v: &Term, merges: usize) -> Vec<&Term> {
+    match v.shape() {
+        TermShape::Merge(..) if merges == 0 => vec![],
+        TermShape::Merge(a, b) => [a, b].into_iter().flat_map(|half| parts_within(half, merges - 1)).collect(),
+        _ => vec![v],
+    }
 }
 
 /// The type of a field read of a term of this type; None where it is refused.

@@ -1,7 +1,7 @@
 //! Casts and steps, with both halves of every merge open.
 
 use crate::faults::{current, planted, Fault};
-use crate::fields::read_value;
+use crate::fields::{parts_within, read_value, value_parts, LEVELS};
 use crate::numbers::{choices, read_apart, sums};
 use crate::terms::{Term, TermShape, Type, TypeShape};
 use crate::typing::{subtype, top_like};
@@ -23,6 +23,7 @@ fn each_once(terms: Vec<Term>) -> Vec<Term> {
 pub fn casts(v: &Term, under: &Type) -> Vec<Term> {
     // "Under an intersection, merge both readings."
     if let TypeShape::Intersection(a, b) = under.shape() {
+        let [a, b] = if planted(Fault::MergedInValueOrder) && stands_first(v, b, a) { [b, a] } else { [a, b] };
         let rights = casts(v, b);
         let merge = |left: Term| rights.iter().map(move |right| Term::merge(left.clone(), right.clone()));
         return casts(v, a).into_iter().flat_map(merge).collect();
@@ -50,12 +51,42 @@ pub fn casts(v: &Term, under: &Type) -> Vec<Term> {
             casts(content, wanted).into_iter().map(|c| Term::record(*l, c)).collect()
         }
         // "a merge is read from either half that can be"
-        (TermShape::Merge(a, b), _) => {
-            let mut all = casts(a, under);
-            all.extend(casts(b, under));
-            each_once(all)
-        }
+        (TermShape::Merge(a, b), _) => each_once(merge_casts(v, [a, b], under)),
         _ => vec![],
+    }
+}
+
+/// The readings of a merge under a type that is no intersection: from either half, unless a fault is planted.
+fn merge_casts(merge: &Term, [a, b]: [&Term; 2], under: &Type) -> Vec<Term> {
+    let either = || {
+        let mut all = casts(a, under);
+        all.extend(casts(b, under));
+        all
+    };
+    match current() {
+        Some(Fault::ReadFromLeftHalf) => casts(a, under),
+        Some(Fault::ReadFromRightHalf) => casts(b, under),
+        Some(Fault::OneTypeEnough) => either().into_iter().take(1).collect(),
+        Some(Fault::FirstPartRead) => {
+            value_parts(merge).into_iter().find(|part| alike(part, under)).map_or(vec![], |v| casts(v, under))
+        }
+        Some(Fault::MergesToEightLevels) => parts_within(merge, LEVELS).into_iter().flat_map(|v| casts(v, under)).collect(),
+        _ => either(),
+    }
+}
+
+/// The merge's left half can be read under this type and not under the other, which its right half can be.
+fn stands_first(merge: &Term, one: &Type, other: &Type) -> bool {
+    let read = |v: &Term, under: &Type| !casts(v, under).is_empty();
+    matches!(merge.shape(), TermShape::Merge(a, b) if read(a, one) && !read(a, other) && read(b, other))
+}
+
+/// A number and Int, a function and a function type, a record and a record type of one label.
+fn alike(part: &Term, under: &Type) -> bool {
+    match (part.shape(), under.shape()) {
+        (TermShape::Number(_), TypeShape::Int) | (TermShape::Function(..), TypeShape::Function(..)) => true,
+        (TermShape::Record(l, _), TypeShape::Record(m, _)) => l == m,
+        _ => false,
     }
 }
 
@@ -172,6 +203,15 @@ fn unused(e: &Term) -> u64 {
     }
 }
 
+/// The size of the left half of an annotated merge.
+fn left_half(e: &Term) -> u64 {
+    let TermShape::Annotation(v, _) = e.shape() else { return 0 };
+    match v.shape() {
+        TermShape::Merge(left, _) => left.size(),
+        _ => 0,
+    }
+}
+
 /// A run: the part that steps, in focus, and the frames around it, outermost first. A step then costs nothing for what is around
 /// it; the term is the same as after `successors`.
 pub struct Machine {
@@ -228,6 +268,7 @@ impl Machine {
             Some(Fault::RoomOneLateBetween) => size - sizes(Frame::left).zip(sizes(Frame::right)).count().min(1) as u64,
             Some(Fault::RoomWithoutBranches) => size - self.branches(),
             Some(Fault::RoomForUnused) => size + unused(&self.focus),
+            Some(Fault::RoomWithLeftHalf) => size + left_half(&self.focus),
             Some(_) => *size,
         }
     }
@@ -236,6 +277,12 @@ impl Machine {
     fn branches(&self) -> u64 {
         let choices = self.frames.iter().filter(|frame| matches!(frame.around.shape(), TermShape::Choice(..)));
         choices.map(Frame::right).sum()
+    }
+
+    /// A merge is read next, and its left half cannot be.
+    pub fn reads_right_half(&self) -> bool {
+        let TermShape::Annotation(v, under) = self.focus.shape() else { return false };
+        matches!(v.shape(), TermShape::Merge(left, _) if casts(left, under).is_empty())
     }
 
     /// How many frames there are.

@@ -4,6 +4,7 @@
 use crate::faults::{current, planted_in, Fault};
 use crate::kinds::{kind, Row, Sort};
 use crate::terms::{Node, Part, Term, Type};
+use crate::typing::subtype;
 use crate::versions::Version;
 use std::collections::BTreeSet;
 
@@ -32,6 +33,7 @@ pub fn same_function(one: Function, other: Function) -> bool {
         Some(Fault::InputsIgnored) => e == f,
         Some(Fault::InputsByFirstCell) => first_cell(i) == first_cell(j) && e == f,
         Some(Fault::OutputsCompared) => i == j && o == p && e == f,
+        Some(Fault::LeftOutputBelow) => i == j && subtype(o, p) && e == f,
         Some(Fault::InputSharingCompared) => i == j && e == f && one_for_one(Part::Type(i), Part::Type(j)) == [true; 2],
         Some(Fault::BodiesByCell) => i == j && e.address() == f.address(),
         Some(Fault::BodiesByLowByte) => i == j && (e.cell() as u8 == f.cell() as u8 || e == f),

@@ -2,7 +2,7 @@
 
 use crate::book::Refusal;
 use crate::faults::{current, planted, Fault};
-use crate::fields::read_type;
+use crate::fields::{parts_within, read_type, LEVELS};
 use crate::sameness::{same_function, same_number};
 use crate::terms::{Term, TermShape, Type, TypeShape};
 use std::ops::Range;
@@ -30,7 +30,11 @@ pub fn subtype(a: &Type, b: &Type) -> bool {
     }
     match (a.shape(), b.shape()) {
         (_, TypeShape::Intersection(l, r)) => subtype(a, l) && subtype(a, r),
-        (TypeShape::Intersection(l, r), _) => subtype(l, b) || subtype(r, b),
+        (TypeShape::Intersection(l, r), _) => match current() {
+            Some(Fault::BelowByLeftHalf) => subtype(l, b),
+            Some(Fault::BelowByRightHalf) => subtype(r, b),
+            _ => subtype(l, b) || subtype(r, b),
+        },
         (TypeShape::Int, TypeShape::Int) => true,
         (TypeShape::Function(i, o), TypeShape::Function(wanted_i, wanted_o)) => {
             let inputs = if planted(Fault::CovariantInputs) { subtype(i, wanted_i) } else { subtype(wanted_i, i) };
@@ -45,9 +49,18 @@ pub fn subtype(a: &Type, b: &Type) -> bool {
 /// another. Two functions if their outputs are. Two records if labels differ or contents are disjoint."
 pub fn disjoint(a: &Type, b: &Type) -> bool {
     match (a.shape(), b.shape()) {
-        (TypeShape::Top, _) | (_, TypeShape::Top) => true,
-        (TypeShape::Intersection(l, r), _) => disjoint(l, b) && (planted(Fault::DisjointByLeftHalf) || disjoint(r, b)),
-        (_, TypeShape::Intersection(l, r)) => disjoint(a, l) && (planted(Fault::DisjointByLeftHalf) || disjoint(a, r)),
+        (TypeShape::Top, _) => true,
+        (_, TypeShape::Top) => !planted(Fault::TopKnownOnLeft),
+        (TypeShape::Intersection(l, r), _) => match current() {
+            Some(Fault::DisjointByLeftHalf) => disjoint(l, b),
+            Some(Fault::DisjointOnRight) => matches!(b.shape(), TypeShape::Intersection(l, r) if disjoint(a, l) && disjoint(a, r)),
+            _ => disjoint(l, b) && disjoint(r, b),
+        },
+        (_, TypeShape::Intersection(l, r)) => match current() {
+            Some(Fault::DisjointByLeftHalf) => disjoint(a, l),
+            Some(Fault::DisjointOnLeft) => false,
+            _ => disjoint(a, l) && disjoint(a, r),
+        },
         (TypeShape::Int, TypeShape::Int) => false,
         (TypeShape::Function(i, o), TypeShape::Function(j, p)) => {
             disjoint(o, p) || planted(Fault::DisjointByInputs) && disjoint(i, j)
@@ -77,14 +90,53 @@ pub fn type_of_value(v: &Term) -> Type {
 /// A merge is taken apart wherever it stands and nothing else is tried: its type is disjoint from another exactly when both
 /// halves' are.
 pub fn consistent(v: &Term, w: &Term) -> bool {
+    let fault = current();
     match (v.shape(), w.shape()) {
-        (TermShape::Merge(a, b), _) => consistent(a, w) && (planted(Fault::MergeByLeftHalf) || consistent(b, w)),
-        (_, TermShape::Merge(a, b)) => consistent(v, a) && (planted(Fault::MergeByLeftHalf) || consistent(v, b)),
+        _ if fault == Some(Fault::OneTypeEnough) && type_of_value(v) == type_of_value(w) => true,
+        (TermShape::Merge(..), _) | (_, TermShape::Merge(..)) if fault == Some(Fault::ConsistentToEightLevels) => {
+            let others = parts_within(w, LEVELS);
+            parts_within(v, LEVELS).iter().all(|part| others.iter().all(|other| consistent(part, other)))
+        }
+        (TermShape::Merge(a, b), _) if fault != Some(Fault::MergeKnownOnRight) => {
+            compared(fault, &[a, b], Side::Left).iter().all(|half| consistent(half, w))
+        }
+        (_, TermShape::Merge(a, b)) if fault != Some(Fault::MergeKnownOnLeft) => {
+            compared(fault, &[a, b], Side::Right).iter().all(|half| consistent(v, half))
+        }
         (TermShape::Number(m), TermShape::Number(n)) if same_number(*m, *n) => true,
         (TermShape::Function(e, i, o), TermShape::Function(f, j, p)) if same_function((e, i, o), (f, j, p)) => true,
-        (TermShape::Record(l, c), TermShape::Record(m, d)) if l == m && consistent(c, d) => true,
+        (TermShape::Record(l, c), TermShape::Record(m, d)) if l == m && consistent_contents(c, d) => true,
         _ => disjoint(&type_of_value(v), &type_of_value(w)),
     }
+}
+
+/// Where a merge stands that is compared with a value.
+enum Side {
+    Left,
+    Right,
+}
+
+/// The halves of a merge that are compared with a value: both, unless a fault is planted.
+fn compared<'a, 'b>(fault: Option<Fault>, halves: &'a [&'b Term; 2], stands: Side) -> &'a [&'b Term] {
+    match (fault, stands) {
+        (Some(Fault::AdjacentParts), Side::Left) => &halves[1..],
+        (Some(Fault::AdjacentParts), Side::Right) | (Some(Fault::MergeByLeftHalf), _) => &halves[..1],
+        (Some(Fault::OverlapByLeftHalf), _) if overlap(halves) => &halves[..1],
+        _ => halves,
+    }
+}
+
+/// The types are not disjoint.
+fn overlap(values: &[&Term; 2]) -> bool {
+    let [one, other] = values.map(type_of_value);
+    !disjoint(&one, &other)
+}
+
+fn consistent_contents(c: &Term, d: &Term) -> bool {
+    if planted(Fault::ContentsAsTrees) {
+        return c == d;
+    }
+    consistent(c, d)
 }
 
 /// "Finding a type". The binders' types are listed outermost first. "Typing walks left before right and parts before wholes";
@@ -157,8 +209,10 @@ fn infer_merge(binders: &mut Vec<Type>, e: &Term, left: &Term, right: &Term) -> 
         (infer(binders, left)?, infer(binders, right)?)
     };
     let closed_value = |half: &Term| half.is_value() && half.is_closed();
-    if disjoint(&a, &b) || closed_value(left) && closed_value(right) && consistent(left, right) {
-        Ok(Type::intersection(a, b))
+    let in_order = || !planted(Fault::LargerFirstRefused) || left.size() <= right.size();
+    if disjoint(&a, &b) || closed_value(left) && closed_value(right) && consistent(left, right) && in_order() {
+        let once = planted(Fault::EqualHalvesOnce) && a == b;
+        Ok(if once { a } else { Type::intersection(a, b) })
     } else {
         refuse(14, if planted(Fault::HalfNamed) { left } else { e })
     }
