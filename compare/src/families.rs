@@ -12,7 +12,7 @@ use crate::orders;
 use crate::random::Random;
 use crate::reads::reads_of_merges;
 use crate::refusals::refusals;
-use crate::samples::{desk_example, hidden_field, identity, sample_books, samples};
+use crate::samples::{desk_example, hidden_field, identity, merging_books, sample_books, samples};
 use crate::versions::{self, another_number};
 use evaluator::{kind, restamped, Cell, Sort, Term, TermShape, Type, Version, TABLE};
 
@@ -63,7 +63,10 @@ pub fn families() -> Vec<Family> {
 fn whole_families() -> Vec<Family> {
     let whole = |name, restamped, make| Family { name, share: 0, restamped, make: Make::Whole(make) };
     vec![
-        whole("samples", 100, || samples().into_iter().map(|sample| sample.book).chain(sample_books().into_values()).collect()),
+        whole("samples", 100, || {
+            let files = sample_books().into_values().chain(merging_books().into_values());
+            samples().into_iter().map(|sample| sample.book).chain(files).collect()
+        }),
         whole("extremes", 10, extremes),
         whole("deepest", 6, || deepest().into_iter().map(|deep| deep.book).collect()),
         whole("every byte", 33, every_byte),

@@ -95,6 +95,11 @@ pub fn refused_books() -> BTreeMap<String, Vec<u8>> {
     books_of("../books/refusals")
 }
 
+/// The books of books/merging/, by name: pairs with the same parts in two orders.
+pub fn merging_books() -> BTreeMap<String, Vec<u8>> {
+    books_of("../books/merging")
+}
+
 fn books_of(folder: &str) -> BTreeMap<String, Vec<u8>> {
     let path = Path::new(env!("CARGO_MANIFEST_DIR")).join(folder);
     let files = fs::read_dir(path).expect("the folder").map(|entry| entry.expect("its files").path());
