@@ -117,10 +117,8 @@ fn encode_reached(reached: &Term, version: Version) -> Vec<u8> {
     if reached.size() > SIZE_LIMIT {
         return Vec::new();
     }
-    if planted(Fault::SmallerHalfFirst) {
-        return encode_term(&smaller_half_first(reached), version);
-    }
-    encode_term(reached, version)
+    let reached = if planted(Fault::SmallerHalfFirst) { smaller_half_first(reached) } else { reached.clone() };
+    encode_term(&reached, version)
 }
 
 /// The term with the smaller half of each merge first.

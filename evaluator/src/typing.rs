@@ -90,22 +90,32 @@ pub fn type_of_value(v: &Term) -> Type {
 /// A merge is taken apart wherever it stands and nothing else is tried: its type is disjoint from another exactly when both
 /// halves' are.
 pub fn consistent(v: &Term, w: &Term) -> bool {
-    let fault = current();
     match (v.shape(), w.shape()) {
-        _ if fault == Some(Fault::OneTypeEnough) && type_of_value(v) == type_of_value(w) => true,
-        (TermShape::Merge(..), _) | (_, TermShape::Merge(..)) if fault == Some(Fault::ConsistentToEightLevels) => {
-            let others = parts_within(w, LEVELS);
-            parts_within(v, LEVELS).iter().all(|part| others.iter().all(|other| consistent(part, other)))
-        }
-        (TermShape::Merge(a, b), _) if fault != Some(Fault::MergeKnownOnRight) => {
-            compared(fault, &[a, b], Side::Left).iter().all(|half| consistent(half, w))
-        }
-        (_, TermShape::Merge(a, b)) if fault != Some(Fault::MergeKnownOnLeft) => {
-            compared(fault, &[a, b], Side::Right).iter().all(|half| consistent(v, half))
-        }
+        (TermShape::Merge(..), _) | (_, TermShape::Merge(..)) if current().is_some() => consistent_merge(current(), v, w),
+        (TermShape::Merge(a, b), _) => consistent(a, w) && consistent(b, w),
+        (_, TermShape::Merge(a, b)) => consistent(v, a) && consistent(v, b),
         (TermShape::Number(m), TermShape::Number(n)) if same_number(*m, *n) => true,
         (TermShape::Function(e, i, o), TermShape::Function(f, j, p)) if same_function((e, i, o), (f, j, p)) => true,
         (TermShape::Record(l, c), TermShape::Record(m, d)) if l == m && consistent_contents(c, d) => true,
+        _ if planted(Fault::OneTypeEnough) && type_of_value(v) == type_of_value(w) => true,
+        _ => disjoint(&type_of_value(v), &type_of_value(w)),
+    }
+}
+
+/// Whether a merge and a value are consistent, where a fault is planted.
+fn consistent_merge(fault: Option<Fault>, v: &Term, w: &Term) -> bool {
+    match (fault, v.shape(), w.shape()) {
+        (Some(Fault::OneTypeEnough), ..) if type_of_value(v) == type_of_value(w) => true,
+        (Some(Fault::ConsistentToEightLevels), ..) => {
+            let others = parts_within(w, LEVELS);
+            parts_within(v, LEVELS).iter().all(|part| others.iter().all(|other| consistent(part, other)))
+        }
+        (_, TermShape::Merge(a, b), _) if fault != Some(Fault::MergeKnownOnRight) => {
+            compared(fault, &[a, b], Side::Left).iter().all(|half| consistent(half, w))
+        }
+        (_, _, TermShape::Merge(a, b)) if fault != Some(Fault::MergeKnownOnLeft) => {
+            compared(fault, &[a, b], Side::Right).iter().all(|half| consistent(v, half))
+        }
         _ => disjoint(&type_of_value(v), &type_of_value(w)),
     }
 }
