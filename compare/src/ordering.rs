@@ -123,7 +123,7 @@ impl Asked<'_> {
         }
     }
 
-    /// The call turns both back, or says of both the same. It then leaves the same of both, but each its own root where no step was taken.
+    /// The call refuses both, or says of both the same. It then leaves the same of both, but each its own root where no step was taken.
     fn same(&self, asked: Call, terms: &[Term; 2], random: &mut Random) -> Result<Answer, String> {
         let (one, left) = self.call(asked, &terms[0], random)?;
         let (other, right) = self.call(asked, &terms[1], random)?;
