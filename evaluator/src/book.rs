@@ -207,13 +207,19 @@ impl Encoder {
         if let [Part::Number(n), ..] = node.fields {
             return self.cell(Cell::number(n, self.version));
         }
-        let fields = node.fields.map(|part| match part {
+        let [a, b, c] = node.fields;
+        let fields = [self.field(a), self.field(b), self.field(c)];
+        self.cell(Cell::new(node.row.kind, node.label, fields))
+    }
+
+    /// What stands in a field: of a part, its number.
+    fn field(&mut self, part: Part) -> u16 {
+        match part {
             Part::None | Part::Number(_) => 0,
             Part::Plain(value) => value,
             Part::Type(t) => self.tree(t.node()),
             Part::Term(e) => self.tree(e.node()),
-        });
-        self.cell(Cell::new(node.row.kind, node.label, fields))
+        }
     }
 }
 
