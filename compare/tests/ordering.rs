@@ -128,34 +128,12 @@ fn the_random_family_has_enough_of_each() {
     assert!(asked * 10 >= books * 9);
 }
 
-/// The faults for which left and right matter.
-const FAULTS: [Fault; 25] = [
-    Fault::AdjacentParts,
-    Fault::MergeKnownOnLeft,
-    Fault::MergeKnownOnRight,
-    Fault::ContentsAsTrees,
-    Fault::LeftOutputBelow,
-    Fault::OneTypeEnough,
-    Fault::LargerFirstRefused,
-    Fault::TopKnownOnLeft,
-    Fault::DisjointOnLeft,
-    Fault::DisjointOnRight,
-    Fault::BelowByLeftHalf,
-    Fault::BelowByRightHalf,
-    Fault::ReadFromLeftHalf,
-    Fault::ReadFromRightHalf,
-    Fault::MergedInValueOrder,
-    Fault::FirstPartRead,
-    Fault::MergesToEightLevels,
-    Fault::OverlapByLeftHalf,
-    Fault::ConsistentToEightLevels,
-    Fault::EqualHalvesOnce,
-    Fault::RoomWithLeftHalf,
-    Fault::SmallerHalfFirst,
-    Fault::RightHalfCounted,
-    Fault::MergeByLeftHalf,
-    Fault::DisjointByLeftHalf,
-];
+/// The faults for which left and right matter: those of orders, from the first to the last of them, and two older ones.
+fn of_order() -> Vec<Fault> {
+    let place = |fault: Fault| Fault::ALL.iter().position(|one| *one == fault).expect("a fault");
+    let of_order = &Fault::ALL[place(Fault::AdjacentParts)..=place(Fault::RightHalfCounted)];
+    [of_order, &[Fault::MergeByLeftHalf, Fault::DisjointByLeftHalf]].concat()
+}
 
 /// What is wrong in every order alike is no matter of order.
 const ALIKE: [Fault; 4] = [Fault::HalfNamed, Fault::CovariantInputs, Fault::OutputsCompared, Fault::RoomOneEarly];
@@ -170,7 +148,7 @@ fn orders_are_the_same_unless_a_fault_is_planted() {
     on_large_stack(|| {
         let books = [books(WHOLE, 3_000), books(RANDOM, 1_000)].concat();
         assert_eq!(broken(&Evaluator(None), &books), 0);
-        for fault in FAULTS {
+        for fault in of_order() {
             assert_eq!(broken(&Evaluator(Some(fault)), &books), FEW, "{fault:?}");
         }
         for fault in ALIKE {
@@ -191,7 +169,7 @@ fn every_fault_of_order_is_found() {
             })
         };
         let right: Vec<_> = books.iter().map(|book| both(Evaluator(None), book)).collect();
-        for fault in FAULTS {
+        for fault in of_order() {
             let differs = |(book, right): &(&Vec<u8>, &_)| both(Evaluator(Some(fault)), book) != **right;
             assert_eq!(books.iter().zip(&right).filter(differs).take(FEW).count(), FEW, "{fault:?}");
         }
