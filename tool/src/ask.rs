@@ -1,0 +1,228 @@
+//! What the library says. Nothing about types and steps is decided here: every question becomes a book, and the library's answer is the
+//! answer.
+
+use crate::book::{Book, Part};
+use crate::kinds::Kind;
+use cerealbank::{Answer, WORK};
+
+/// A refusal: its number and its cell.
+#[derive(Clone, Copy, PartialEq, Eq, Debug)]
+pub struct Refusal {
+    pub number: u8,
+    pub cell: usize,
+}
+
+/// Why a run stopped.
+#[derive(Clone, Copy, PartialEq, Eq, Debug)]
+pub enum Stop {
+    Value,
+    Spent,
+    Room,
+}
+
+/// A run: why it stopped, after how many steps, and the book of the term reached.
+pub struct Ran {
+    pub stop: Stop,
+    pub steps: u32,
+    pub left: Vec<u8>,
+}
+
+/// An answer that the library never gives. It names no cell.
+const NO_ANSWER: Refusal = Refusal { number: 0, cell: 0 };
+
+/// Checks a book: its type as a book, or the refusal.
+pub fn check(book: &[u8]) -> Result<Vec<u8>, Refusal> {
+    let mut work = vec![0; WORK];
+    match cerealbank::check(book, &mut work) {
+        Answer::Accepted { .. } => Ok(Book::left_in(&work).to_vec()),
+        other => Err(refusal(other)),
+    }
+}
+
+/// Runs a book.
+pub fn run(book: &[u8], limit: u32) -> Result<Ran, Refusal> {
+    let mut work = vec![0; WORK];
+    let (stop, steps) = match cerealbank::run(book, &mut work, limit) {
+        Answer::Value { steps } => (Stop::Value, steps),
+        Answer::Spent { steps } => (Stop::Spent, steps),
+        Answer::Room { steps } => (Stop::Room, steps),
+        other => return Err(refusal(other)),
+    };
+    Ok(Ran { stop, steps, left: Book::left_in(&work).to_vec() })
+}
+
+fn refusal(answer: Answer) -> Refusal {
+    match answer {
+        Answer::Refused { number, cell } => Refusal { number, cell: cell as usize },
+        _ => NO_ANSWER,
+    }
+}
+
+/// A book with nothing shared, and what is above each of its cells.
+pub struct Term {
+    pub book: Book,
+    above: Vec<Option<usize>>,
+}
+
+impl Term {
+    pub fn new(book: Book) -> Term {
+        let mut above = vec![None; book.parts.len()];
+        for (at, part) in book.parts.iter().enumerate() {
+            part.children().iter().for_each(|&child| above[child] = Some(at));
+        }
+        Term { book, above }
+    }
+
+    /// The cell that refers to this one, and by which field.
+    pub fn above(&self, at: usize) -> Option<(usize, usize)> {
+        let above = self.above[at]?;
+        let place = self.book.parts[above].children().iter().position(|&child| child == at)?;
+        Some((above, place))
+    }
+
+    /// The binders around a cell, the innermost first.
+    pub fn binders(&self, at: usize) -> Vec<usize> {
+        let mut binders = Vec::new();
+        let mut here = at;
+        while let Some((above, place)) = self.above(here) {
+            if place == 0 && self.book.parts[above].kind.binds() {
+                binders.push(above);
+            }
+            here = above;
+        }
+        binders
+    }
+
+    /// Whether a variable in a cell, or the cell itself, goes to a binder around the cell.
+    pub fn uses_binder(&self, at: usize) -> bool {
+        self.goes_out(at, 0)
+    }
+
+    fn goes_out(&self, at: usize, within: usize) -> bool {
+        let part = &self.book.parts[at];
+        let inner = |place: usize| within + usize::from(part.kind.binds() && place == 0);
+        (part.kind == Kind::Variable && part.datum as usize >= within)
+            || part.children().iter().enumerate().any(|(place, &child)| self.goes_out(child, inner(place)))
+    }
+
+    /// The type that the library finds for a term that stands under binders; None if it is too large to be asked about. A variable of a
+    /// binder around it becomes `fix x : A . x`, a closed term of the type A that the variable has.
+    pub fn type_of(&self, at: usize) -> Option<Book> {
+        let mut asking = Asking { term: self, binders: self.binders(at), made: Book::new(self.book.version) };
+        asking.copy(at, 0);
+        asked(&asking.made).ok()
+    }
+
+    /// The subtree of a cell as a book of its own.
+    pub fn part(&self, at: usize) -> Book {
+        let root = Book { root: at, ..self.book.clone() };
+        root.opened().map_or(root, |opened| opened.book)
+    }
+}
+
+struct Asking<'a> {
+    term: &'a Term,
+    binders: Vec<usize>,
+    made: Book,
+}
+
+impl Asking<'_> {
+    fn copy(&mut self, at: usize, within: usize) -> usize {
+        let part = self.term.book.parts[at];
+        let outer = (part.datum as usize).checked_sub(within).filter(|_| part.kind == Kind::Variable);
+        if let Some(&binder) = outer.and_then(|outer| self.binders.get(outer)) {
+            let of = self.copy(self.term.book.parts[binder].references[1], 0);
+            return stand_in(&mut self.made, of);
+        }
+        let mut copied = part;
+        for (place, &child) in part.children().iter().enumerate() {
+            copied.references[place] = self.copy(child, within + usize::from(part.kind.binds() && place == 0));
+        }
+        self.made.push(copied)
+    }
+}
+
+/// `fix x : A . x`, which has the type A, whatever A is, and is no value.
+fn stand_in(book: &mut Book, of: usize) -> usize {
+    let variable = book.push(Part::new(Kind::Variable, 0, &[]));
+    book.add(Kind::Fixpoint, &[variable, of])
+}
+
+/// The type of the root, or the refusal.
+fn asked(book: &Book) -> Result<Book, Refusal> {
+    let type_found = check(&book.bytes())?;
+    Book::read(&type_found).ok_or(NO_ANSWER)
+}
+
+/// The parts of a type: the halves of an intersection that are none themselves, and the parts of those that are.
+pub fn parts(of: &Book) -> Vec<Book> {
+    let mut parts = Vec::new();
+    let mut left = vec![of.root];
+    while let Some(at) = left.pop() {
+        match of.parts[at] {
+            Part { kind: Kind::And, references: [a, b, _], .. } => left.extend([b, a]),
+            _ => parts.push(Book { root: at, ..of.clone() }.shared().book),
+        }
+    }
+    parts
+}
+
+/// Copies a book's root behind what another has.
+fn append(to: &mut Book, book: &Book) -> usize {
+    let start = to.parts.len();
+    for part in &book.parts {
+        to.push(part.moved(|child| child + start));
+    }
+    start + book.root
+}
+
+/// The intersection of types.
+fn intersection(to: &mut Book, types: &[Book]) -> usize {
+    let mut whole = None;
+    for a_type in types {
+        let right = append(to, a_type);
+        whole = Some(whole.map_or(right, |left| to.add(Kind::And, &[left, right])));
+    }
+    whole.unwrap_or_else(|| to.add(Kind::Top, &[]))
+}
+
+/// Whether the root is accepted, or refused with this number; any other refusal, such as that of a book too large, says neither.
+fn is_accepted(book: &Book, no: u8) -> Option<bool> {
+    match asked(book) {
+        Ok(_) => Some(true),
+        Err(refusal) => (refusal.number == no).then_some(false),
+    }
+}
+
+/// Whether one type is below all others: whether a term of the one may be annotated with them.
+pub fn is_below(one: &Book, others: &[Book]) -> Option<bool> {
+    let mut book = Book::new(one.version);
+    let of = append(&mut book, one);
+    let term = stand_in(&mut book, of);
+    let wanted = intersection(&mut book, others);
+    book.add(Kind::Annotation, &[term, wanted]);
+    is_accepted(&book, 15)
+}
+
+/// Whether a type is disjoint with all others: whether terms of them that are no values may be merged.
+pub fn are_disjoint(one: &Book, others: &[Book]) -> Option<bool> {
+    let mut book = Book::new(one.version);
+    let left = append(&mut book, one);
+    let left = stand_in(&mut book, left);
+    let right = intersection(&mut book, others);
+    let right = stand_in(&mut book, right);
+    book.add(Kind::Merge, &[left, right]);
+    is_accepted(&book, 14)
+}
+
+/// The first of several types for which the answer is no, where it is yes for several precisely if it is for each; None if there is none,
+/// or if a question has no answer.
+pub fn first_no(types: &[Book], yes: impl Fn(&[Book]) -> Option<bool>) -> Option<&Book> {
+    let mut left = types;
+    while left.len() > 1 {
+        let (first, second) = left.split_at(left.len() / 2);
+        left = if yes(first)? { second } else { first };
+    }
+    let last = left.first()?;
+    (!yes(left)?).then_some(last)
+}

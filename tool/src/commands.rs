@@ -1,0 +1,253 @@
+//! The commands, a row each: a later one is one more row, and a function.
+
+use crate::ask::{check, run, Ran, Refusal, Stop};
+use crate::assemble::assemble;
+use crate::book::Book;
+use crate::cells::{graph, table};
+use crate::format::{headings, section, NUMBERS};
+use crate::input::{book, form_of, read, text, Form, Input};
+use crate::layout::{lay_out, Laid};
+use crate::names::Names;
+use crate::options::{options, Options, FLAGS};
+use crate::print::{bare_type, whole};
+use crate::refusals::{explained, printed, with_carets};
+use crate::running::{traced, watched};
+use crate::show::{exact, shown};
+use crate::terminal::Terminal;
+use std::ffi::OsString;
+use std::fmt::Write;
+use std::fs;
+
+/// How a command ended: its exit status.
+#[derive(Clone, Copy, PartialEq, Eq, Debug)]
+pub enum Status {
+    Done = 0,
+    Refused = 1,
+    Failed = 2,
+}
+
+/// A command's way to say that it was called wrongly, or that a file was not to be had.
+type Ended = Result<Status, String>;
+
+struct Command {
+    name: &'static str,
+    argument: &'static str,
+    does: &'static str,
+    flags: &'static [&'static str],
+    run: fn(&Options, &mut Terminal) -> Ended,
+}
+
+/// The steps that a run takes at most if no limit is given: the desk program's.
+const LIMIT: u32 = 10_000;
+
+const COMMANDS: [Command; 5] = [
+    Command {
+        name: "make",
+        argument: "FILE",
+        does: "assembles the notation into a book",
+        flags: &["-o", "--version", "--share"],
+        run: make,
+    },
+    Command {
+        name: "show",
+        argument: "BOOK",
+        does: "prints a book in the notation, what is shared by name",
+        flags: &["--exact", "--cells", "--dot", "--book", "--notation"],
+        run: show,
+    },
+    Command {
+        name: "check",
+        argument: "BOOK",
+        does: "prints the book's type, or why it is refused, where, and what would help",
+        flags: &["--quiet", "--book", "--notation"],
+        run: check_book,
+    },
+    Command {
+        name: "run",
+        argument: "BOOK",
+        does: "prints why the run stopped, after how many steps, and the term reached",
+        flags: &["--limit", "--trace", "-o", "--quiet", "--book", "--notation"],
+        run: run_book,
+    },
+    Command { name: "explain", argument: "NUMBER", does: "prints what docs/FORMAT.md says of a refusal", flags: &[], run: explain },
+];
+
+/// Does what the arguments ask for, and says how it ended.
+pub fn main(arguments: &[OsString], terminal: &mut Terminal) -> Status {
+    let ended = match arguments.first().map(|name| name.to_string_lossy()) {
+        None => Err("a command is wanted".into()),
+        Some(name) if ["help", "--help", "-h"].contains(&&*name) => {
+            terminal.print(&usage());
+            Ok(Status::Done)
+        }
+        Some(name) => match COMMANDS.iter().find(|command| command.name == name) {
+            Some(command) => asked(command, &arguments[1..], terminal),
+            None => Err(format!("{name}: there is no such command")),
+        },
+    };
+    let ended = ended.and_then(|status| terminal.finish().map(|()| status));
+    ended.unwrap_or_else(|message| {
+        let hint = if message.ends_with('\n') { "" } else { "\nTry: cerealbank help\n" };
+        terminal.complain(&format!("{message}{hint}"));
+        Status::Failed
+    })
+}
+
+fn asked(command: &Command, arguments: &[OsString], terminal: &mut Terminal) -> Ended {
+    let options = options(arguments, command.flags)?;
+    if options.help {
+        terminal.print(&manual(command));
+        return Ok(Status::Done);
+    }
+    terminal.quiet = options.quiet;
+    (command.run)(&options, terminal)
+}
+
+/// All commands, a line each.
+fn usage() -> String {
+    let mut usage = String::from("Writes, shows, checks, runs and explains folder books. The answers are the proved library's.\n\n");
+    for command in &COMMANDS {
+        writeln!(usage, "  cerealbank {:7} {:6}  {}", command.name, command.argument, command.does).ok();
+    }
+    usage + "\nA book is a file or standard input, in bytes or in the notation of docs/NOTATION.md.\n\
+        `cerealbank COMMAND --help` has the flags. Exit status: 0 accepted or run, 1 refused, 2 no such file or use.\n"
+}
+
+fn manual(command: &Command) -> String {
+    let mut manual = format!("cerealbank {} {}: {}\n\n", command.name, command.argument, command.does);
+    for flag in FLAGS.iter().filter(|flag| command.flags.contains(&flag.name)) {
+        writeln!(manual, "  {:14}  {}", flag.usage(), flag.help).ok();
+    }
+    manual
+}
+
+fn input(options: &Options) -> Result<Input, String> {
+    book(options.argument.as_deref(), options.form)
+}
+
+fn write_book(file: &OsString, bytes: &[u8]) -> Result<(), String> {
+    fs::write(file, bytes).map_err(|error| format!("{}: {error}\n", file.to_string_lossy()))
+}
+
+fn make(options: &Options, terminal: &mut Terminal) -> Ended {
+    let (name, bytes) = read(options.argument.as_deref())?;
+    if form_of(&bytes) == Form::Bytes {
+        return Err(format!("{name}: this is no text in the notation; `cerealbank show` prints a book\n"));
+    }
+    let source = text(name, bytes)?;
+    let made = assemble(&source.text, options.version, options.share).map_err(|fault| source.complaint(&fault))?;
+    let bytes = made.book.bytes();
+    match &options.output {
+        Some(file) => write_book(file, &bytes)?,
+        None if terminal.is_one => return Err("a book is bytes, and this is a terminal: name a file with -o FILE\n".into()),
+        None => terminal.write(&bytes),
+    }
+    Ok(Status::Done)
+}
+
+/// Rows 2 to 8 keep a book from being read; a root that is a type, or too large, or without a type, can be shown.
+fn show(options: &Options, terminal: &mut Terminal) -> Ended {
+    let input = input(options)?;
+    if options.cells {
+        terminal.print(&table(&input.bytes));
+        return Ok(Status::Done);
+    }
+    let refused = check(&input.bytes).err().filter(|refusal| refusal.number < 9);
+    let book = match (refused, Book::read(&input.bytes)) {
+        (None, Some(book)) => book,
+        (refusal, _) => return Ok(refuse(&input, refusal.unwrap_or(Refusal { number: 0, cell: 0 }), terminal)),
+    };
+    terminal.print(&match (options.dot, options.exact) {
+        (true, _) => graph(&book),
+        (_, true) => exact(&book),
+        _ => shown(&book),
+    });
+    Ok(Status::Done)
+}
+
+fn refuse(input: &Input, refusal: Refusal, terminal: &mut Terminal) -> Status {
+    terminal.print(&printed(refusal, &explained(input, refusal)));
+    Status::Refused
+}
+
+fn check_book(options: &Options, terminal: &mut Terminal) -> Ended {
+    let input = input(options)?;
+    match check(&input.bytes) {
+        Ok(found) => {
+            let lines = Book::read(&found).map_or(vec![], |book| lay_out(&bare_type(&book), "accepted: ".len()).lines);
+            terminal.print(&format!("accepted: {}\n", lines.join("\n")));
+            Ok(Status::Done)
+        }
+        Err(refusal) => Ok(refuse(&input, refusal, terminal)),
+    }
+}
+
+fn run_book(options: &Options, terminal: &mut Terminal) -> Ended {
+    let input = input(options)?;
+    let limit = options.limit.unwrap_or(LIMIT);
+    if options.trace && !terminal.quiet {
+        if let Err(refusal) = trace(&input.bytes, limit, terminal) {
+            return Ok(refuse(&input, refusal, terminal));
+        }
+    }
+    let ran = match terminal.watches {
+        true => watched(&input.bytes, limit, |steps, cells| terminal.progress(steps, cells)),
+        false => run(&input.bytes, limit),
+    };
+    terminal.clear();
+    let ran = match ran {
+        Ok(ran) => ran,
+        Err(refusal) => return Ok(refuse(&input, refusal, terminal)),
+    };
+    if let Some(file) = &options.output {
+        write_book(file, &ran.left)?;
+    }
+    terminal.print(&ending(&ran));
+    if !options.trace {
+        terminal.print(&Book::read(&ran.left).map_or(String::new(), |book| term(&book, None).lines.join("\n") + "\n"));
+    }
+    Ok(Status::Done)
+}
+
+/// Why a run stopped, and after how many steps.
+fn ending(ran: &Ran) -> String {
+    let steps = format!("{} step{}", ran.steps, if ran.steps == 1 { "" } else { "s" });
+    match ran.stop {
+        Stop::Value => format!("value after {steps}\n"),
+        Stop::Spent => format!("stopped for steps after {steps}: the term is no value yet\n"),
+        Stop::Room => format!("stopped for room after {steps}: the next term has more than 4095 cells\n"),
+    }
+}
+
+fn term(book: &Book, redex: Option<usize>) -> Laid {
+    lay_out(&whole(book, &Names::none(book), redex), 0)
+}
+
+/// Every term with its number of steps before it.
+fn trace(bytes: &[u8], limit: u32, terminal: &mut Terminal) -> Result<(), Refusal> {
+    traced(bytes, limit, |reached| {
+        let mut margin = format!("{:>5}  ", reached.steps);
+        let mut text = String::new();
+        for line in with_carets(&term(&reached.term, reached.redex)).concat() {
+            writeln!(text, "{margin}{line}").ok();
+            margin = " ".repeat(margin.len());
+        }
+        terminal.print(&text);
+        terminal.is_open()
+    })
+}
+
+fn explain(options: &Options, terminal: &mut Terminal) -> Ended {
+    let Some(argument) = &options.argument else {
+        terminal.print(&headings().map(|heading| format!("{heading}\n")).collect::<String>());
+        return Ok(Status::Done);
+    };
+    let shown = argument.to_string_lossy();
+    match shown.parse().ok().and_then(section) {
+        Some(section) => {
+            terminal.print(&section);
+            Ok(Status::Done)
+        }
+        None => Err(format!("{shown}: the refusals have the numbers {} to {}", NUMBERS.start(), NUMBERS.end())),
+    }
+}

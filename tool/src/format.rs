@@ -1,0 +1,21 @@
+//! The refusals' paragraphs of docs/FORMAT.md.
+
+/// The page itself, as it was when this was built.
+pub const FORMAT: &str = include_str!("../../docs/FORMAT.md");
+
+/// The refusals' numbers.
+pub const NUMBERS: std::ops::RangeInclusive<u8> = 1..=15;
+
+/// The headings of the refusals, `N: condition`.
+pub fn headings() -> impl Iterator<Item = &'static str> {
+    FORMAT.lines().filter_map(|line| line.strip_prefix("### ")).filter(|line| line.starts_with(|sign: char| sign.is_ascii_digit()))
+}
+
+/// A refusal's section, its heading first.
+pub fn section(number: u8) -> Option<String> {
+    let start = format!("### {number}: ");
+    let mut lines = FORMAT.lines().skip_while(|line| !line.starts_with(&start));
+    let heading = lines.next()?.trim_start_matches("### ");
+    let body: Vec<&str> = lines.take_while(|line| !line.starts_with('#')).collect();
+    Some(format!("{heading}\n{}\n", body.join("\n").trim_end()))
+}

@@ -1,0 +1,16 @@
+//! The command-line program: `cerealbank help`.
+
+use std::io;
+use std::process::exit;
+use tool::commands::{main as asked, Status};
+use tool::deep;
+use tool::terminal::Terminal;
+
+fn main() {
+    let arguments: Vec<_> = std::env::args_os().skip(1).collect();
+    let status = deep(move || {
+        let (mut out, mut err) = (io::stdout(), io::stderr());
+        asked(&arguments, &mut Terminal::standard(&mut out, &mut err))
+    });
+    exit(status.map_or(Status::Failed as i32, |status| status as i32));
+}

@@ -1,0 +1,111 @@
+//! The arguments of a command.
+
+use crate::input::Form;
+use std::ffi::OsString;
+
+/// What a command was asked for.
+#[derive(Default)]
+pub struct Options {
+    pub argument: Option<OsString>,
+    pub output: Option<OsString>,
+    pub version: Option<u8>,
+    pub limit: Option<u32>,
+    pub share: bool,
+    pub cells: bool,
+    pub dot: bool,
+    pub exact: bool,
+    pub trace: bool,
+    pub quiet: bool,
+    pub help: bool,
+    pub form: Option<Form>,
+}
+
+/// What a flag does, with the value that it has.
+enum Set {
+    Alone(fn(&mut Options)),
+    With(&'static str, fn(&mut Options, OsString) -> Option<()>),
+}
+
+pub struct Flag {
+    pub name: &'static str,
+    pub help: &'static str,
+    set: Set,
+}
+
+const fn alone(name: &'static str, help: &'static str, set: fn(&mut Options)) -> Flag {
+    Flag { name, help, set: Set::Alone(set) }
+}
+
+fn number<T: std::str::FromStr>(text: OsString) -> Option<T> {
+    text.to_str()?.parse().ok()
+}
+
+/// All flags. A command has those that it names.
+pub const FLAGS: [Flag; 12] = [
+    Flag { name: "-o", help: "write the book to this file", set: Set::With("FILE", |to, file| Some(to.output = Some(file))) },
+    Flag {
+        name: "--version",
+        help: "the version of the book, 1 or 2",
+        set: Set::With("N", |to, text| Some(to.version = Some(number(text).filter(|n| (1..=2).contains(n))?))),
+    },
+    Flag {
+        name: "--limit",
+        help: "the most steps to take, 0 to 4294967295; 10000 if it is not given",
+        set: Set::With("N", |to, text| Some(to.limit = Some(number(text)?))),
+    },
+    alone("--share", "lay equal parts down once", |to| to.share = true),
+    alone("--cells", "the table of cells, and what each is", |to| to.cells = true),
+    alone("--dot", "a graph for Graphviz", |to| to.dot = true),
+    alone("--exact", "hold every cell: making it again gives the same bytes", |to| to.exact = true),
+    alone("--trace", "every term on the way, what steps next marked", |to| to.trace = true),
+    alone("--book", "the input is a book in bytes, whatever it looks like", |to| to.form = Some(Form::Bytes)),
+    alone("--notation", "the input is in the notation, whatever it looks like", |to| to.form = Some(Form::Notation)),
+    alone("--quiet", "print nothing, the exit status tells", |to| to.quiet = true),
+    alone("--help", "what the command does, and its flags", |to| to.help = true),
+];
+
+impl Flag {
+    /// The flag as it is written, with the name of its value.
+    pub fn usage(&self) -> String {
+        match self.set {
+            Set::Alone(_) => self.name.into(),
+            Set::With(value, _) => format!("{} {value}", self.name),
+        }
+    }
+}
+
+/// Reads the arguments of a command that has these flags.
+pub fn options(arguments: &[OsString], flags: &[&str]) -> Result<Options, String> {
+    let mut options = Options::default();
+    let mut left = arguments.iter();
+    let mut only_names = false;
+    while let Some(argument) = left.next() {
+        let text = argument.to_string_lossy();
+        if only_names || !text.starts_with('-') || text == "-" {
+            if options.argument.replace(argument.clone()).is_some() {
+                return Err(format!("{text}: one argument is enough"));
+            }
+        } else if text == "--" {
+            only_names = true;
+        } else {
+            set(&mut options, &text, flags, &mut left)?;
+        }
+    }
+    Ok(options)
+}
+
+/// Sets a flag, its value behind `=` or the next argument.
+fn set<'a>(options: &mut Options, text: &str, flags: &[&str], left: &mut impl Iterator<Item = &'a OsString>) -> Result<(), String> {
+    let (name, value) = text.split_once('=').map_or((text, None), |(name, value)| (name, Some(OsString::from(value))));
+    let known = FLAGS.iter().find(|flag| flag.name == name && (flags.contains(&name) || name == "--help"));
+    match (known.map(|flag| &flag.set), value) {
+        (None, _) => Err(format!("{name}: this command has no such flag")),
+        (Some(Set::Alone(set)), None) => Ok(set(options)),
+        (Some(Set::Alone(_)), Some(_)) => Err(format!("{name}: this flag has no value")),
+        (Some(Set::With(what, set)), value) => {
+            let value = value.or_else(|| left.next().cloned()).ok_or(format!("{name}: {what} is wanted"))?;
+            let shown = value.to_string_lossy().into_owned();
+            set(options, value).ok_or(format!("{name}: {shown} is no {what} for it"))
+        }
+    }
+}

@@ -1,0 +1,68 @@
+//! Runs: whole ones, watched ones, and one step after the other. The library takes every step.
+
+use crate::ask::{run, Ran, Refusal, Stop};
+use crate::book::{Book, CELL};
+use std::time::{Duration, Instant};
+
+/// A watched run is asked for in parts that take about this long.
+const PART: Duration = Duration::from_millis(100);
+
+/// Runs a book in parts, each from where the last one stopped, and tells after each how many steps were taken and how many cells the term
+/// has. What is laid down after some steps is a book, and goes on as the run would have gone on: the answer is that of a whole run.
+pub fn watched(book: &[u8], limit: u32, mut tell: impl FnMut(u32, usize)) -> Result<Ran, Refusal> {
+    let (mut here, mut steps, mut part) = (book.to_vec(), 0, 1);
+    loop {
+        let start = Instant::now();
+        let ran = run(&here, part.min(limit - steps))?;
+        steps += ran.steps;
+        if ran.stop != Stop::Spent || steps == limit {
+            return Ok(Ran { steps, ..ran });
+        }
+        tell(steps, ran.left.len() / CELL - 1);
+        here = ran.left;
+        if start.elapsed() < PART {
+            part = part.saturating_mul(2);
+        }
+    }
+}
+
+/// A term that a run reaches, and the cell of it that the next step changes, if there is one.
+pub struct Reached {
+    pub steps: u32,
+    pub term: Book,
+    pub redex: Option<usize>,
+}
+
+/// Tells every term that a run reaches, the first too, as long as `tell` wants more.
+pub fn traced(book: &[u8], limit: u32, mut tell: impl FnMut(&Reached) -> bool) -> Result<(), Refusal> {
+    let mut here = run(book, 0)?.left;
+    for steps in 0..=limit {
+        let next = run(&here, 1)?;
+        let (Some(term), Some(after)) = (Book::read(&here), Book::read(&next.left)) else { break };
+        let redex = (next.steps == 1).then(|| changed(&term, &after));
+        if !tell(&Reached { steps, term, redex }) || next.steps == 0 {
+            break;
+        }
+        here = next.left;
+    }
+    Ok(())
+}
+
+/// The cell at which two terms, one a step after the other, begin to differ. A step changes the kind of what it steps, and nothing else:
+/// the way goes to the one child that differs until the kinds do.
+fn changed(before: &Book, after: &Book) -> usize {
+    let (mut one, mut other) = (before.root, after.root);
+    loop {
+        let (part, now) = (before.parts[one], after.parts[other]);
+        let children = part.children().iter().zip(now.children());
+        let differing = children.filter(|_| part.kind == now.kind).find(|(&a, &b)| !same(before, a, after, b));
+        let Some((&a, &b)) = differing else { return one };
+        (one, other) = (a, b);
+    }
+}
+
+fn same(one: &Book, a: usize, other: &Book, b: usize) -> bool {
+    let (part, now) = (one.parts[a], other.parts[b]);
+    let alike = part.kind == now.kind && part.datum == now.datum;
+    alike && part.children().iter().zip(now.children()).all(|(&a, &b)| same(one, a, other, b))
+}
