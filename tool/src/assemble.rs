@@ -2,6 +2,7 @@
 
 use crate::book::{Book, Part, MOST_CELLS};
 use crate::kinds::Kind;
+use crate::labels::Labels;
 use crate::parse::{ends, fits, parse, Form, Tree};
 use crate::source::{Fault, Span};
 use std::collections::HashMap;
@@ -10,6 +11,9 @@ use std::collections::HashMap;
 pub struct Assembled {
     pub book: Book,
     pub spans: Vec<Span>,
+    pub labels: Labels,
+    /// The variables of the functions and fixpoints, by their cells.
+    pub variables: HashMap<usize, String>,
 }
 
 struct Assembler<'a> {
@@ -25,7 +29,12 @@ struct Assembler<'a> {
 /// Assembles a text. What is asked for here goes before what the text says.
 pub fn assemble(text: &str, version: Option<u8>, share: bool) -> Result<Assembled, Fault> {
     let tree = parse(text)?;
-    let made = Assembled { book: Book::new(version.or(tree.version).unwrap_or(1)), spans: Vec::new() };
+    let made = Assembled {
+        book: Book::new(version.or(tree.version).unwrap_or(1)),
+        spans: Vec::new(),
+        labels: tree.labels.clone(),
+        variables: HashMap::new(),
+    };
     let named = tree.named.iter().copied().collect();
     let mut assembler = Assembler { tree: &tree, named, laid: HashMap::new(), binders: Vec::new(), made };
     let root = assembler.lay(tree.root)?;
@@ -33,7 +42,10 @@ pub fn assemble(text: &str, version: Option<u8>, share: bool) -> Result<Assemble
     made.book.root = root;
     if share || tree.share {
         let shared = made.book.shared();
-        made = Assembled { book: shared.book, spans: shared.of.iter().map(|&at| made.spans[at]).collect() };
+        made.spans = shared.of.iter().map(|&at| made.spans[at]).collect();
+        let named = shared.of.iter().enumerate().filter_map(|(cell, at)| Some((cell, made.variables.get(at)?.clone())));
+        made.variables = named.collect();
+        made.book = shared.book;
     }
     Ok(made)
 }
@@ -73,7 +85,12 @@ impl Assembler<'_> {
                 self.binders.pop();
             }
         }
-        self.push(node, moved)
+        let cell = self.push(node, moved)?;
+        if part.kind.binds() {
+            let name = self.tree.variables[self.tree.nodes[node].binder].clone();
+            self.made.variables.insert(cell, name);
+        }
+        Ok(cell)
     }
 
     fn push(&mut self, node: usize, part: Part) -> Result<usize, Fault> {

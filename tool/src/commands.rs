@@ -4,13 +4,15 @@ use crate::ask::{check, run, Ran, Refusal, Stop};
 use crate::assemble::assemble;
 use crate::book::Book;
 use crate::cells::{graph, table};
+use crate::explanation::{printed, with_carets};
 use crate::format::{headings, section, NUMBERS};
 use crate::input::{book, form_of, read, text, Form, Input};
+use crate::labels::Labels;
 use crate::layout::{lay_out, Laid};
 use crate::names::Names;
 use crate::options::{options, Options, FLAGS};
 use crate::print::{bare_type, whole};
-use crate::refusals::{explained, printed, with_carets};
+use crate::refusals::explained;
 use crate::running::{traced, watched};
 use crate::show::{exact, shown};
 use crate::terminal::Terminal;
@@ -105,12 +107,14 @@ fn asked(command: &Command, arguments: &[OsString], terminal: &mut Terminal) -> 
 
 /// All commands, a line each.
 fn usage() -> String {
-    let mut usage = String::from("Writes, shows, checks, runs and explains folder books. The answers are the proved library's.\n\n");
+    let mut usage =
+        String::from("Writes, shows, checks, runs and explains folder books. The answers are the proved library's.\n\n");
     for command in &COMMANDS {
         writeln!(usage, "  cerealbank {:7} {:6}  {}", command.name, command.argument, command.does).ok();
     }
-    usage + "\nA book is a file or standard input, in bytes or in the notation of docs/NOTATION.md.\n\
-        `cerealbank COMMAND --help` has the flags. Exit status: 0 accepted or run, 1 refused, 2 no such file or use.\n"
+    usage
+        + "\nA book is a file or standard input, in bytes or in the notation of docs/NOTATION.md.\n\
+        `cerealbank COMMAND --help` has the flags. Exit status: 0 accepted or run, 1 refused, 2 a wrong use or file.\n"
 }
 
 fn manual(command: &Command) -> String {
@@ -159,8 +163,8 @@ fn show(options: &Options, terminal: &mut Terminal) -> Ended {
     };
     terminal.print(&match (options.dot, options.exact) {
         (true, _) => graph(&book),
-        (_, true) => exact(&book),
-        _ => shown(&book),
+        (_, true) => exact(&book, &input.labels),
+        _ => shown(&book, &input.labels),
     });
     Ok(Status::Done)
 }
@@ -174,7 +178,8 @@ fn check_book(options: &Options, terminal: &mut Terminal) -> Ended {
     let input = input(options)?;
     match check(&input.bytes) {
         Ok(found) => {
-            let lines = Book::read(&found).map_or(vec![], |book| lay_out(&bare_type(&book), "accepted: ".len()).lines);
+            let lines =
+                Book::read(&found).map_or(vec![], |book| lay_out(&bare_type(&book, &input.labels), "accepted: ".len()).lines);
             terminal.print(&format!("accepted: {}\n", lines.join("\n")));
             Ok(Status::Done)
         }
@@ -186,7 +191,7 @@ fn run_book(options: &Options, terminal: &mut Terminal) -> Ended {
     let input = input(options)?;
     let limit = options.limit.unwrap_or(LIMIT);
     if options.trace && !terminal.quiet {
-        if let Err(refusal) = trace(&input.bytes, limit, terminal) {
+        if let Err(refusal) = trace(&input, limit, terminal) {
             return Ok(refuse(&input, refusal, terminal));
         }
     }
@@ -204,7 +209,8 @@ fn run_book(options: &Options, terminal: &mut Terminal) -> Ended {
     }
     terminal.print(&ending(&ran));
     if !options.trace {
-        terminal.print(&Book::read(&ran.left).map_or(String::new(), |book| term(&book, None).lines.join("\n") + "\n"));
+        terminal
+            .print(&Book::read(&ran.left).map_or(String::new(), |book| term(&book, &input.labels, None).lines.join("\n") + "\n"));
     }
     Ok(Status::Done)
 }
@@ -219,16 +225,16 @@ fn ending(ran: &Ran) -> String {
     }
 }
 
-fn term(book: &Book, redex: Option<usize>) -> Laid {
-    lay_out(&whole(book, &Names::none(book), redex), 0)
+fn term(book: &Book, labels: &Labels, redex: Option<usize>) -> Laid {
+    lay_out(&whole(book, &Names::none(book), labels, redex), 0)
 }
 
 /// Every term with its number of steps before it.
-fn trace(bytes: &[u8], limit: u32, terminal: &mut Terminal) -> Result<(), Refusal> {
-    traced(bytes, limit, |reached| {
+fn trace(input: &Input, limit: u32, terminal: &mut Terminal) -> Result<(), Refusal> {
+    traced(&input.bytes, limit, |reached| {
         let mut margin = format!("{:>5}  ", reached.steps);
         let mut text = String::new();
-        for line in with_carets(&term(&reached.term, reached.redex)).concat() {
+        for line in with_carets(&term(&reached.term, &input.labels, reached.redex)).concat() {
             writeln!(text, "{margin}{line}").ok();
             margin = " ".repeat(margin.len());
         }

@@ -1,7 +1,9 @@
 //! A book from a file or from standard input, in bytes or in the notation.
 
 use crate::assemble::assemble;
+use crate::labels::Labels;
 use crate::source::{printable, Source, Span};
+use std::collections::HashMap;
 use std::ffi::OsStr;
 use std::fs::File;
 use std::io::{self, Read};
@@ -15,15 +17,26 @@ pub enum Form {
     Notation,
 }
 
-/// A book, and the text that it was written as, if it was.
+/// A book, and the text that it was written as, if it was, with the names of its labels.
 pub struct Input {
     pub bytes: Vec<u8>,
+    pub labels: Labels,
     source: Option<(Source, Vec<Span>)>,
+    variables: HashMap<usize, String>,
 }
 
 impl Input {
     pub fn of_bytes(bytes: Vec<u8>) -> Input {
-        Input { bytes, source: None }
+        Input { bytes, labels: Labels::default(), source: None, variables: HashMap::new() }
+    }
+
+    /// The name that a text gives to the variable of a function or fixpoint.
+    pub fn variable(&self, cell: usize) -> Option<&str> {
+        self.variables.get(&cell).map(String::as_str)
+    }
+
+    pub fn is_text(&self) -> bool {
+        self.source.is_some()
     }
 
     /// The stretch of the text that a cell was written as, marked.
@@ -74,5 +87,5 @@ pub fn book(file: Option<&OsStr>, form: Option<Form>) -> Result<Input, String> {
     }
     let source = text(name, bytes)?;
     let made = assemble(&source.text, None, false).map_err(|fault| source.complaint(&fault))?;
-    Ok(Input { bytes: made.book.bytes(), source: Some((source, made.spans)) })
+    Ok(Input { bytes: made.book.bytes(), labels: made.labels, source: Some((source, made.spans)), variables: made.variables })
 }

@@ -10,6 +10,8 @@ enum Node {
     Text(String),
     /// A space, or the end of a line.
     Break,
+    /// A space, or the end of a line if so much does not fit behind it.
+    BreakBefore(usize),
     /// The end of a line.
     End,
     All(Vec<Doc>),
@@ -31,6 +33,11 @@ pub fn text(text: impl Into<String>) -> Doc {
 
 pub fn line() -> Doc {
     Doc { width: 1, node: Node::Break }
+}
+
+/// A space, or the end of a line if what is to follow does not fit on this one.
+pub fn line_before(next: &Doc) -> Doc {
+    Doc { width: 1, node: Node::BreakBefore(next.width) }
 }
 
 pub fn end() -> Doc {
@@ -109,7 +116,10 @@ pub fn lay_out(doc: &Doc, lead: usize) -> Laid {
         match &doc.node {
             Node::Text(text) => layout.line.push_str(text),
             Node::Break if flat => layout.line.push(' '),
-            Node::Break | Node::End => layout.finish(indent),
+            Node::BreakBefore(next) if flat || (lead + layout.line.len()).saturating_add(next + 1) <= WIDTH => {
+                layout.line.push(' ')
+            }
+            Node::Break | Node::BreakBefore(_) | Node::End => layout.finish(indent),
             Node::All(docs) => tasks.extend(docs.iter().rev().map(|doc| Task::Lay(doc, indent, flat))),
             Node::Nest(inner) => tasks.push(Task::Lay(inner, (indent + INDENT).min(DEEPEST_INDENT), flat)),
             Node::Group(inner) => {

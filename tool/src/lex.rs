@@ -104,12 +104,12 @@ fn word(text: &str) -> Result<(Token<'_>, usize), &'static str> {
         b'0'..=b'9' => digits(0),
         b'-' | b'#' => digits(1),
         byte if is_inner(byte) => length(text, is_inner),
-        b',' => return Err("a merge is written with two commas: ,,"),
+        b',' => return Err("a merge is written with two commas; two fields are two records merged, {1 = 2} ,, {3 = 4}"),
         0x80.. => return Err("this sign is not ASCII, and outside a comment the notation is"),
         _ => return Err("this sign is none of the notation's"),
     };
     match text.as_bytes()[0] {
-        b'-' if end == 1 => Err("- stands only before a number, in ->, and twice before a comment"),
+        b'-' if end == 1 => Err("- stands only before a number, in ->, and twice before a comment; to subtract 1, write + -1"),
         b'#' if end == 1 => Err("# wants a number: how many binders the variable skips"),
         b'0'..=b'9' | b'-' | b'#' if text[end..].bytes().next().is_some_and(is_inner) => Err("a number ends with its digits"),
         b'0'..=b'9' | b'-' => Ok((Token::Number(&text[..end]), end)),
@@ -133,7 +133,7 @@ pub fn words(text: &str) -> Result<Vec<(Token<'_>, Span)>, Fault> {
         at += length;
         at += blank(&text[at..]);
     }
-    let end = words.last().map_or(0, |&(_, (_, end))| end);
+    let end = words.last().map_or(text.trim_end().len(), |&(_, (_, end))| end);
     words.push((Token::End, (end, end)));
     Ok(words)
 }

@@ -9,9 +9,11 @@ pub mod assemble;
 pub mod book;
 pub mod cells;
 pub mod commands;
+pub mod explanation;
 pub mod format;
 pub mod input;
 pub mod kinds;
+pub mod labels;
 pub mod layout;
 pub mod lex;
 pub mod names;
@@ -23,6 +25,7 @@ pub mod running;
 pub mod show;
 pub mod source;
 pub mod terminal;
+pub mod typing;
 
 use std::thread::Builder;
 

@@ -42,7 +42,11 @@ fn number<T: std::str::FromStr>(text: OsString) -> Option<T> {
 
 /// All flags. A command has those that it names.
 pub const FLAGS: [Flag; 12] = [
-    Flag { name: "-o", help: "write the book to this file", set: Set::With("FILE", |to, file| Some(to.output = Some(file))) },
+    Flag {
+        name: "-o",
+        help: "write the book to this file: what is made, or the term that a run reached",
+        set: Set::With("FILE", |to, file| Some(to.output = Some(file))),
+    },
     Flag {
         name: "--version",
         help: "the version of the book, 1 or 2",

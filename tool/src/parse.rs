@@ -2,6 +2,7 @@
 
 use crate::book::{Part, MOST_CELLS};
 use crate::kinds::{Datum, Kind};
+use crate::labels::Labels;
 use crate::lex::{words, Token, Word};
 use crate::source::{Fault, Span};
 
@@ -24,7 +25,7 @@ pub struct Node {
     pub at: Span,
     /// The binder that a function or fixpoint is.
     pub binder: usize,
-    /// The outermost binder whose variable is used in it.
+    /// The outermost binder around it whose variable is used in it; the largest number if there is none.
     pub outermost: usize,
 }
 
@@ -32,9 +33,12 @@ pub struct Node {
 pub struct Tree {
     pub version: Option<u8>,
     pub share: bool,
+    pub labels: Labels,
     pub nodes: Vec<Node>,
     /// The nodes that have a name, and whether a variable of a binder around the name is used in them.
     pub named: Vec<(usize, bool)>,
+    /// The names of the binders' variables.
+    pub variables: Vec<String>,
     pub root: usize,
 }
 
@@ -49,8 +53,8 @@ struct Parser<'a> {
     next: usize,
     depth: usize,
     parts: usize,
-    binders: usize,
-    labels: Vec<(&'a str, i64)>,
+    /// The names of `let`s whose part is being read.
+    unfinished: Vec<&'a str>,
     terms: Vec<(&'a str, Meaning)>,
     types: Vec<(&'a str, usize)>,
     tree: Tree,
@@ -60,9 +64,17 @@ type Read = Result<usize, Fault>;
 
 /// Reads a text.
 pub fn parse(text: &str) -> Result<Tree, Fault> {
-    let tree = Tree { version: None, share: false, nodes: Vec::new(), named: Vec::new(), root: 0 };
-    let (labels, terms, types) = (Vec::new(), Vec::new(), Vec::new());
-    let mut parser = Parser { words: words(text)?, next: 0, depth: 0, parts: 0, binders: 0, labels, terms, types, tree };
+    let tree = Tree {
+        version: None,
+        share: false,
+        labels: Labels::default(),
+        nodes: Vec::new(),
+        named: Vec::new(),
+        variables: Vec::new(),
+        root: 0,
+    };
+    let (terms, types) = (Vec::new(), Vec::new());
+    let mut parser = Parser { words: words(text)?, next: 0, depth: 0, parts: 0, unfinished: Vec::new(), terms, types, tree };
     while parser.declaration()? {}
     let root = parser.whole(true)?;
     if parser.token() != Token::End {
@@ -146,6 +158,9 @@ impl<'a> Parser<'a> {
         let Token::Number(digits) = self.token() else {
             return Err(self.unexpected("the version, 1 or 2,"));
         };
+        if self.tree.version.is_some() {
+            return Err(Fault::new(self.place(), "the version is said already"));
+        }
         self.tree.version = Some(self.number(digits, 1, 2, "a version")? as u8);
         Ok(())
     }
@@ -155,11 +170,16 @@ impl<'a> Parser<'a> {
         let name = self.name("a label")?;
         self.want(Token::Equals, "=")?;
         let number = self.label(false)?;
-        if let Some((earlier, _)) = self.labels.iter().find(|(other, label)| *other == name || *label == number) {
-            let same = if *earlier == name { "this label has its number already".into() } else { format!("label {number} is named {earlier} already") };
-            return Err(Fault::new(at, same));
+        let labels = &mut self.tree.labels.0;
+        if let Some((earlier, _)) = labels.iter().find(|(other, label)| other == name || *label == number) {
+            let message = if earlier == name {
+                "this label has its number already".into()
+            } else {
+                format!("label {number} is named {earlier} already")
+            };
+            return Err(Fault::new(at, message));
         }
-        self.labels.push((name, number));
+        labels.push((name.into(), number));
         Ok(())
     }
 
@@ -168,8 +188,10 @@ impl<'a> Parser<'a> {
         match self.token() {
             Token::Number(digits) => self.number(digits, 0, 255, "a label"),
             Token::Name(name) if by_name => {
-                let found = self.labels.iter().find(|(other, _)| *other == name).map(|&(_, number)| number);
-                let number = found.ok_or_else(|| Fault::new(self.place(), format!("no label has this name: write `label {name} = N` at the top")))?;
+                let found = self.tree.labels.0.iter().find(|(other, _)| other == name).map(|&(_, number)| number);
+                let number = found.ok_or_else(|| {
+                    Fault::new(self.place(), format!("no label has this name: write `label {name} = N` at the top"))
+                })?;
                 self.advance();
                 Ok(number)
             }
@@ -185,7 +207,7 @@ impl<'a> Parser<'a> {
         };
         self.parts += usize::from(!matches!(form, Form::Let(..)));
         if self.parts > MOST_CELLS {
-            return Err(Fault::new(at, format!("with this the text has more than {MOST_CELLS} parts, and no book has so many")));
+            return Err(Fault::new(at, format!("with this the text has more than {MOST_CELLS} cells, even before any are shared")));
         }
         self.tree.nodes.push(Node { form, at, binder, outermost });
         Ok(self.tree.nodes.len() - 1)
@@ -210,55 +232,71 @@ impl<'a> Parser<'a> {
     /// Whatever may stand between brackets; as the whole text, a type too.
     fn whole(&mut self, outermost: bool) -> Read {
         self.deeper()?;
-        let read = match self.token() {
-            Token::Word(Word::Let) => self.named_term(outermost),
-            Token::Word(Word::Type) if self.defines() => self.named_type(outermost),
+        let (from, scope) = (self.place().0, self.scope());
+        let named = self.definitions()?;
+        let root = match self.token() {
             Token::Word(Word::Type) if outermost => {
                 self.advance();
-                self.function_type()
+                self.function_type()?
             }
-            _ => self.annotated(),
+            _ => self.annotated()?,
         };
         self.depth -= 1;
-        read
+        self.within(from, scope, named, root)
+    }
+
+    /// How many names there are, of terms and of types.
+    fn scope(&self) -> (usize, usize) {
+        (self.terms.len(), self.types.len())
+    }
+
+    /// The names end here: what they name is laid down before what they were given for.
+    fn within(&mut self, from: usize, (terms, types): (usize, usize), named: Vec<usize>, rest: usize) -> Read {
+        self.terms.truncate(terms);
+        self.types.truncate(types);
+        let at = (from, self.tree.nodes[rest].at.1);
+        named.into_iter().rev().try_fold(rest, |rest, part| self.add(Form::Let(part, rest), at, 0))
+    }
+
+    /// `let NAME = term in`, `type NAME = type in`, as often as there are such; what is named.
+    fn definitions(&mut self) -> Result<Vec<usize>, Fault> {
+        let mut named = Vec::new();
+        loop {
+            let part = match self.token() {
+                Token::Word(Word::Let) => self.named_term()?,
+                Token::Word(Word::Type) if self.defines() => self.named_type()?,
+                _ => return Ok(named),
+            };
+            let open = self.tree.nodes[part].outermost != usize::MAX;
+            self.tree.named.push((part, open));
+            named.push(part);
+        }
     }
 
     fn defines(&self) -> bool {
         matches!(self.words[self.next..], [_, (Token::Name(_), _), (Token::Equals, _), ..])
     }
 
-    /// `let NAME = part in rest`
-    fn named_term(&mut self, outermost: bool) -> Read {
-        let from = self.place().0;
+    fn named_term(&mut self) -> Read {
         self.advance();
         let name = self.name("a part")?;
         self.want(Token::Equals, "=")?;
-        let around = self.binders;
+        self.unfinished.push(name);
         let part = self.whole(false)?;
         self.want(Token::Word(Word::In), "`in`")?;
-        let open = self.tree.nodes[part].outermost < around;
-        self.tree.named.push((part, open));
+        self.unfinished.pop();
         self.terms.push((name, Meaning::Part(part)));
-        let rest = self.whole(outermost)?;
-        self.terms.pop();
-        let at = (from, self.tree.nodes[rest].at.1);
-        self.add(Form::Let(part, rest), at, 0)
+        Ok(part)
     }
 
-    /// `type NAME = type in rest`
-    fn named_type(&mut self, outermost: bool) -> Read {
-        let from = self.place().0;
+    fn named_type(&mut self) -> Read {
         self.advance();
         let name = self.name("a type")?;
         self.want(Token::Equals, "=")?;
         let part = self.function_type()?;
         self.want(Token::Word(Word::In), "`in`")?;
-        self.tree.named.push((part, false));
         self.types.push((name, part));
-        let rest = self.whole(outermost)?;
-        self.types.pop();
-        let at = (from, self.tree.nodes[rest].at.1);
-        self.add(Form::Let(part, rest), at, 0)
+        Ok(part)
     }
 
     fn annotated(&mut self) -> Read {
@@ -297,10 +335,19 @@ impl<'a> Parser<'a> {
             Token::Lambda => self.function(),
             Token::Word(Word::Fix) => self.fixpoint(),
             Token::Word(Word::If) => self.choice(),
+            Token::Word(Word::Let | Word::Type) => self.named(),
             _ => self.application(),
         };
         self.depth -= 1;
         read
+    }
+
+    /// Names given for what reaches no further than a merge.
+    fn named(&mut self) -> Read {
+        let (from, scope) = (self.place().0, self.scope());
+        let named = self.definitions()?;
+        let rest = self.merge()?;
+        self.within(from, scope, named, rest)
     }
 
     /// `NAME : type .`, the type, and the body with the name in it.
@@ -310,8 +357,8 @@ impl<'a> Parser<'a> {
         self.want(Token::Colon, "`:` and the variable's type")?;
         let of = self.function_type()?;
         self.want(Token::Dot, "`.` and the body")?;
-        let binder = self.binders;
-        self.binders += 1;
+        let binder = self.tree.variables.len();
+        self.tree.variables.push(name.into());
         self.terms.push((name, Meaning::Variable(binder)));
         let body = self.merge()?;
         self.terms.pop();
@@ -324,16 +371,24 @@ impl<'a> Parser<'a> {
         self.want(Token::Colon, "`:` and the function's output type")?;
         let output = self.function_type()?;
         let function = self.part(from, Kind::Function, 0, &[body, input, output])?;
-        self.tree.nodes[function].binder = binder;
-        Ok(function)
+        Ok(self.binding(function, binder))
     }
 
     fn fixpoint(&mut self) -> Read {
         let from = self.place().0;
         let (binder, of, body) = self.bound()?;
         let fixpoint = self.part(from, Kind::Fixpoint, 0, &[body, of])?;
-        self.tree.nodes[fixpoint].binder = binder;
-        Ok(fixpoint)
+        Ok(self.binding(fixpoint, binder))
+    }
+
+    /// A function or fixpoint is a binder. Those around it have lower numbers: if its own variable is the outermost, it uses no other's.
+    fn binding(&mut self, node: usize, binder: usize) -> usize {
+        let bound = &mut self.tree.nodes[node];
+        bound.binder = binder;
+        if bound.outermost == binder {
+            bound.outermost = usize::MAX;
+        }
+        node
     }
 
     fn choice(&mut self) -> Read {
@@ -353,6 +408,9 @@ impl<'a> Parser<'a> {
         while self.begins_operand() {
             let argument = self.read()?;
             function = self.part(from, Kind::Application, 0, &[function, argument])?;
+        }
+        if matches!(self.token(), Token::Lambda | Token::Word(Word::Fix | Word::If | Word::Let)) {
+            return Err(Fault::new(self.place(), "behind a term this needs brackets, or a sign between them"));
         }
         Ok(function)
     }
@@ -407,6 +465,9 @@ impl<'a> Parser<'a> {
         match found {
             Some(Meaning::Part(part)) => Ok(part),
             Some(Meaning::Variable(binder)) => self.add(Form::Bound(binder), at, 0),
+            None if self.unfinished.contains(&name) => {
+                Err(Fault::new(at, "this name is being given here: `in` is missing before it"))
+            }
             None => Err(Fault::new(at, "nothing here has this name: no function, fixpoint or `let` around it binds it")),
         }
     }
@@ -472,7 +533,8 @@ impl<'a> Parser<'a> {
 
     fn type_named(&mut self, name: &str) -> Read {
         let found = self.types.iter().rev().find(|(other, _)| *other == name).map(|&(_, part)| part);
-        found.ok_or_else(|| Fault::new(self.words[self.next - 1].1, "no type has this name: Int, Top and those that a `type` names"))
+        found
+            .ok_or_else(|| Fault::new(self.words[self.next - 1].1, "no type has this name: Int, Top and those that a `type` names"))
     }
 
     fn record_type(&mut self, from: usize) -> Read {

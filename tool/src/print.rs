@@ -2,7 +2,8 @@
 
 use crate::book::Book;
 use crate::kinds::{Kind, Sort};
-use crate::layout::{all, end, group, line, mark, nest, text, Doc};
+use crate::labels::Labels;
+use crate::layout::{all, end, group, line, line_before, mark, nest, text, Doc};
 use crate::names::{name, Names};
 
 /// How loosely a form holds together; brackets keep a looser one within a tighter one.
@@ -14,9 +15,9 @@ enum Hold {
     Sum,
     Merge,
     Choice,
+    Let,
     Binder,
     Annotation,
-    Let,
 }
 
 /// The same of types.
@@ -30,26 +31,27 @@ enum TypeHold {
 pub struct Printer<'a> {
     book: &'a Book,
     names: &'a Names,
+    labels: &'a Labels,
     marked: Option<usize>,
     /// The kinds of the binders around, from the outside.
     binders: Vec<Kind>,
 }
 
 /// The root, its names in front of it; the marked cell is marked.
-pub fn whole(book: &Book, names: &Names, marked: Option<usize>) -> Doc {
-    let mut printer = Printer { book, names, marked, binders: Vec::new() };
+pub fn whole(book: &Book, names: &Names, labels: &Labels, marked: Option<usize>) -> Doc {
+    let mut printer = Printer { book, names, labels, marked, binders: Vec::new() };
     let named = printer.definitions(names.front());
     let root = match book.parts[book.root].sort() {
         Sort::Type => all(vec![text("type "), printer.a_type(book.root, TypeHold::Arrow)]),
-        Sort::Term => printer.term(book.root, Hold::Let),
+        Sort::Term => printer.term(book.root, Hold::Annotation),
     };
     all(vec![named, root])
 }
 
 /// The root type, without the word that stands before a type.
-pub fn bare_type(book: &Book) -> Doc {
+pub fn bare_type(book: &Book, labels: &Labels) -> Doc {
     let names = Names::none(book);
-    Printer { book, names: &names, marked: None, binders: Vec::new() }.a_type(book.root, TypeHold::Arrow)
+    Printer { book, names: &names, labels, marked: None, binders: Vec::new() }.a_type(book.root, TypeHold::Arrow)
 }
 
 /// The name of a binder's variable.
@@ -72,7 +74,7 @@ impl Printer<'_> {
     fn definition(&mut self, at: usize) -> Doc {
         let (word, part) = match self.book.parts[at].sort() {
             Sort::Type => ("type", self.type_itself(at, TypeHold::Arrow)),
-            Sort::Term => ("let", self.itself(at, Hold::Let)),
+            Sort::Term => ("let", self.itself(at, Hold::Annotation)),
         };
         all(vec![text(format!("{word} {} = ", name(self.book, at))), nest(part), text(" in")])
     }
@@ -105,8 +107,7 @@ impl Printer<'_> {
     }
 
     fn hold(&self, at: usize) -> Hold {
-        match self.book.parts[at].kind {
-            _ if !self.names.within(at).is_empty() => Hold::Let,
+        let hold = match self.book.parts[at].kind {
             Kind::Annotation => Hold::Annotation,
             Kind::Function | Kind::Fixpoint => Hold::Binder,
             Kind::Choice => Hold::Choice,
@@ -115,7 +116,16 @@ impl Printer<'_> {
             Kind::Application => Hold::Application,
             Kind::Read => Hold::Read,
             _ => Hold::Atom,
+        };
+        if self.gives_names(at) {
+            hold.max(Hold::Let)
+        } else {
+            hold
         }
+    }
+
+    fn gives_names(&self, at: usize) -> bool {
+        !self.names.within(at).is_empty()
     }
 
     fn form(&mut self, at: usize) -> Doc {
@@ -125,13 +135,17 @@ impl Printer<'_> {
             Kind::Variable => text(self.variable(part.datum as usize)),
             Kind::Number => text(part.datum.to_string()),
             Kind::Annotation => self.annotation(a, b),
-            Kind::Application => group(all(vec![self.term(a, Hold::Application), nest(all(vec![line(), self.term(b, Hold::Read)]))])),
+            Kind::Application => {
+                group(all(vec![self.term(a, Hold::Application), nest(all(vec![line(), self.term(b, Hold::Read)]))]))
+            }
             Kind::Function => self.function(a, b, c),
             Kind::Fixpoint => self.fixpoint(a, b),
             Kind::Merge => group(self.row(at, ",, ", Hold::Merge, Hold::Sum)),
             Kind::Sum => group(self.row(at, "+ ", Hold::Sum, Hold::Application)),
             Kind::Choice => self.choice(a, b, c),
-            Kind::Record => all(vec![text(format!("{{{} = ", part.datum)), nest(self.term(a, Hold::Let)), text("}")]),
+            Kind::Record => {
+                all(vec![text(format!("{{{} = ", self.labels.shown(part.datum))), nest(self.term(a, Hold::Annotation)), text("}")])
+            }
             Kind::Read => self.read(a, part.datum),
             _ => text("T"),
         }
@@ -144,9 +158,10 @@ impl Printer<'_> {
 
     /// To the left of an annotation stands another, or at most a sum: a merge has brackets, though it needs none.
     fn annotation(&mut self, term: usize, wanted: usize) -> Doc {
-        let chained = self.hold(term) == Hold::Annotation;
+        let chained = self.hold(term) == Hold::Annotation && !self.gives_names(term);
         let left = self.term(term, if chained { Hold::Annotation } else { Hold::Sum });
-        group(all(vec![left, nest(all(vec![line(), text(": "), self.a_type(wanted, TypeHold::Arrow)]))]))
+        let annotation = all(vec![text(": "), self.a_type(wanted, TypeHold::Arrow)]);
+        all(vec![left, nest(all(vec![line_before(&annotation), annotation]))])
     }
 
     /// Merges, or sums, in a row: broken all or nowhere.
@@ -165,7 +180,7 @@ impl Printer<'_> {
         let is_number = self.book.parts[from].kind == Kind::Number && !self.names.is_named(from);
         let term = self.term(from, Hold::Read);
         let whole = if is_number { vec![text("("), term, text(")")] } else { vec![term] };
-        all(vec![all(whole), text(format!(".{label}"))])
+        all(vec![all(whole), text(format!(".{}", self.labels.shown(label)))])
     }
 
     fn bound(&mut self, kind: Kind, of: usize, body: usize, within: Hold) -> (Doc, Doc) {
@@ -179,7 +194,7 @@ impl Printer<'_> {
     }
 
     fn function(&mut self, body: usize, input: usize, output: usize) -> Doc {
-        let (head, body) = self.bound(Kind::Function, input, body, Hold::Choice);
+        let (head, body) = self.bound(Kind::Function, input, body, Hold::Let);
         let output = self.a_type(output, TypeHold::Arrow);
         group(all(vec![head, nest(all(vec![line(), body, line(), text(": "), output]))]))
     }
@@ -211,7 +226,7 @@ impl Printer<'_> {
             Kind::And => (TypeHold::And, group(self.intersection(at))),
             Kind::RecordType => {
                 let content = nest(self.a_type(a, TypeHold::Arrow));
-                (TypeHold::Atom, all(vec![text(format!("{{{} : ", part.datum)), content, text("}")]))
+                (TypeHold::Atom, all(vec![text(format!("{{{} : ", self.labels.shown(part.datum))), content, text("}")]))
             }
             Kind::Int => (TypeHold::Atom, text("Int")),
             _ => (TypeHold::Atom, text("Top")),

@@ -1,0 +1,137 @@
+//! How a refusal is printed: a sentence, the part that it names, what is to be known of it, and what would help.
+
+use crate::ask::Refusal;
+use crate::book::Book;
+use crate::labels::Labels;
+use crate::layout::{lay_out, Laid, WIDTH};
+use crate::print::bare_type;
+
+/// The lines of a type that are shown, at most.
+const TYPE_LINES: usize = 6;
+/// The lines about a marked part that are shown, and of a long part those at its ends.
+const CONTEXT: usize = 2;
+/// The columns that stand before a type.
+const MARGIN: usize = 16;
+
+/// A refusal in words, and everything that is shown with it.
+#[derive(Default)]
+pub struct Explanation {
+    pub sentence: String,
+    /// The part, marked.
+    pub place: Vec<String>,
+    /// What is to be known, each under a heading.
+    pub facts: Vec<(&'static str, Vec<String>)>,
+    pub help: Vec<String>,
+}
+
+impl Explanation {
+    pub fn says(sentence: impl Into<String>) -> Explanation {
+        Explanation { sentence: sentence.into(), ..Explanation::default() }
+    }
+
+    pub fn fact(mut self, heading: &'static str, fact: impl Into<String>) -> Explanation {
+        self.facts.push((heading, vec![fact.into()]));
+        self
+    }
+
+    pub fn facts(mut self, heading: &'static str, facts: Vec<String>) -> Explanation {
+        self.facts.extend((!facts.is_empty()).then_some((heading, facts)));
+        self
+    }
+
+    /// A type; where it was too large to be asked about, that is said.
+    pub fn with_type(self, heading: &'static str, a_type: Option<&Book>, labels: &Labels) -> Explanation {
+        let lines = a_type.map_or(vec!["too large to be shown".into()], |a_type| lines_of(a_type, labels));
+        self.facts(heading, lines)
+    }
+
+    pub fn helps(mut self, help: impl Into<String>) -> Explanation {
+        self.help.push(help.into());
+        self
+    }
+}
+
+/// A type in the notation, cut if it is long.
+pub fn lines_of(a_type: &Book, labels: &Labels) -> Vec<String> {
+    let mut lines = lay_out(&bare_type(a_type, labels), MARGIN).lines;
+    if lines.len() > TYPE_LINES {
+        lines.truncate(TYPE_LINES - 1);
+        lines.push(format!("... ({} cells in all)", a_type.sizes()[a_type.root]));
+    }
+    lines
+}
+
+/// A type, if it takes one line.
+pub fn short(a_type: &Book, labels: &Labels) -> Option<String> {
+    match &lines_of(a_type, labels)[..] {
+        [one] => Some(one.clone()),
+        _ => None,
+    }
+}
+
+/// Every line, its carets below it.
+pub fn with_carets(laid: &Laid) -> Vec<Vec<String>> {
+    let carets = |&(from, to): &(usize, usize)| format!("{}{}", " ".repeat(from), "^".repeat((to - from).max(1)));
+    laid.lines
+        .iter()
+        .zip(&laid.marks)
+        .map(|(line, mark)| std::iter::once(line.clone()).chain(mark.as_ref().map(carets)).collect())
+        .collect()
+}
+
+/// The marked lines and those about them.
+pub fn excerpt(laid: &Laid) -> Vec<String> {
+    let first = laid.marks.iter().position(Option::is_some).unwrap_or(0);
+    let last = laid.marks.iter().rposition(Option::is_some).unwrap_or(0);
+    let near = |line: usize| line + CONTEXT >= first && line <= last + CONTEXT;
+    let about_ends = |line: usize| line <= first + CONTEXT || line + CONTEXT >= last;
+    let mut shown: Vec<String> = Vec::new();
+    for (line, text) in with_carets(laid).into_iter().enumerate() {
+        if near(line) && about_ends(line) {
+            shown.extend(text);
+        } else if shown.last().is_none_or(|last| last != "...") {
+            shown.push("...".into());
+        }
+    }
+    shown
+}
+
+/// Words in lines that are not too long.
+fn wrapped(text: &str) -> Vec<String> {
+    let mut lines: Vec<String> = vec![String::new()];
+    for word in text.split(' ') {
+        let here = lines.last_mut().filter(|line| line.is_empty() || line.len() + 1 + word.len() <= WIDTH);
+        match here {
+            Some(line) if line.is_empty() => line.push_str(word),
+            Some(line) => line.extend([" ", word]),
+            None => lines.push(word.into()),
+        }
+    }
+    lines
+}
+
+/// The refusals that name a cell.
+const WITH_CELL: std::ops::RangeInclusive<u8> = 5..=15;
+
+/// The words that a refusal is printed in.
+pub fn printed(refusal: Refusal, explanation: &Explanation) -> String {
+    let Explanation { sentence, place, facts, help } = explanation;
+    let cell = if WITH_CELL.contains(&refusal.number) { format!(", cell {}", refusal.cell) } else { String::new() };
+    let mut lines = wrapped(&format!("refused {}{cell}: {sentence}.", refusal.number));
+    lines.push(String::new());
+    if !place.is_empty() {
+        lines.extend(place.iter().map(|line| format!("  {line}")));
+        lines.push(String::new());
+    }
+    let width = facts.iter().map(|(heading, _)| heading.len()).max().unwrap_or(0) + 1;
+    for (heading, fact) in facts {
+        let margins = std::iter::once(format!("{heading}:")).chain(std::iter::repeat(String::new()));
+        lines.extend(fact.iter().zip(margins).map(|(line, margin)| format!("  {margin:width$}  {line}")));
+    }
+    if !facts.is_empty() {
+        lines.push(String::new());
+    }
+    lines.extend(help.iter().flat_map(|help| wrapped(help)));
+    lines.push(format!("More: cerealbank explain {}", refusal.number));
+    lines.iter().map(|line| format!("{}\n", line.trim_end())).collect()
+}
