@@ -225,7 +225,8 @@ impl<'a> Parser<'a> {
 
     fn deeper(&mut self) -> Result<(), Fault> {
         self.depth += 1;
-        let within = self.depth <= DEEPEST;
+        // The whole text is one.
+        let within = self.depth <= DEEPEST + 1;
         within.then_some(()).ok_or_else(|| Fault::new(self.place(), format!("this is nested more than {DEEPEST} deep")))
     }
 
@@ -330,14 +331,16 @@ impl<'a> Parser<'a> {
     }
 
     fn operand(&mut self) -> Read {
-        self.deeper()?;
-        let read = match self.token() {
-            Token::Lambda => self.function(),
-            Token::Word(Word::Fix) => self.fixpoint(),
-            Token::Word(Word::If) => self.choice(),
-            Token::Word(Word::Let | Word::Type) => self.named(),
-            _ => self.application(),
+        let form: fn(&mut Self) -> Read = match self.token() {
+            Token::Lambda => Self::function,
+            Token::Word(Word::Fix) => Self::fixpoint,
+            Token::Word(Word::If) => Self::choice,
+            Token::Word(Word::Let) => Self::named,
+            Token::Word(Word::Type) if self.defines() => Self::named,
+            _ => return self.application(),
         };
+        self.deeper()?;
+        let read = form(self);
         self.depth -= 1;
         read
     }

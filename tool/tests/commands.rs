@@ -1,0 +1,270 @@
+//! The program as it is called: its exit status, its input, and that nothing makes it panic.
+
+mod common;
+
+use common::{answered, at, bytes, called, files, generated, text};
+use compare::deepest::deepest;
+use std::fs;
+use std::process::{Command, Stdio};
+
+fn status(arguments: &[&str], input: &[u8]) -> i32 {
+    answered(arguments, input).1
+}
+
+#[test]
+fn exit_status() {
+    assert_eq!(status(&["check", "books/first_number.book"], b""), 0);
+    assert_eq!(status(&["run", "books/spent_loop.book", "--limit", "5"], b""), 0);
+    assert_eq!(status(&["run", "books/growing_loop.book"], b""), 0);
+    assert_eq!(status(&["check", "books/unequal_numbers.book"], b""), 1);
+    assert_eq!(status(&["run", "books/unequal_numbers.txt"], b""), 1);
+    assert_eq!(status(&["show", "books/refusals/05.book"], b""), 1);
+    assert_eq!(status(&["show", "books/refusals/05.book", "--cells"], b""), 0);
+    assert_eq!(status(&["show", "books/refusals/14.book"], b""), 0);
+    for wrong in [
+        &[][..],
+        &["nothing"],
+        &["check", "no/such/file"],
+        &["check", "books"],
+        &["check", "--limit", "1"],
+        &["run", "--limit"],
+        &["run", "--limit", "x"],
+        &["run", "--limit", "4294967296"],
+        &["run", "--limit=-1"],
+        &["check", "a", "b"],
+        &["check", "--quiet=1"],
+        &["make", "--version", "3"],
+        &["make", "books/first_number.book"],
+        &["make", "-o", "no/such/folder/file", "books/first_number.txt"],
+        &["check", "--notation", "books/first_number.book"],
+        &["explain", "99"],
+    ] {
+        let (printed, status) = answered(wrong, b"1");
+        assert_eq!(status, 2, "{wrong:?}: {printed}");
+        assert!(!printed.is_empty(), "{wrong:?}");
+    }
+    for help in [&["help"][..], &["--help"], &["-h"], &["run", "--help"], &["make", "x", "--help"]] {
+        assert_eq!(status(help, b""), 0, "{help:?}");
+    }
+}
+
+/// A book from a file, from standard input, as bytes or in the notation.
+#[test]
+fn books_from_anywhere() {
+    let book = bytes("books/hidden_field.book");
+    let notation = text("books/hidden_field.txt");
+    let expected = ("value after 4 steps\n2\n".to_owned(), 0);
+    assert_eq!(answered(&["run", "books/hidden_field.book"], b""), expected);
+    assert_eq!(answered(&["run", "books/hidden_field.txt"], b""), expected);
+    assert_eq!(answered(&["run"], &book), expected);
+    assert_eq!(answered(&["run", "-"], notation.as_bytes()), expected);
+    assert_eq!(answered(&["run", "--notation"], notation.as_bytes()), expected);
+    assert_eq!(answered(&["run", "--book"], &book), expected);
+    // Taken for bytes, a text is no book.
+    assert_eq!(status(&["check", "--book", "books/hidden_field.txt"], b""), 1);
+    // An empty file is a book cut short.
+    assert!(answered(&["check"], b"").0.starts_with("refused 2: "));
+    let made = called(&["make", "books/hidden_field.txt"], b"").stdout;
+    assert_eq!(answered(&["run"], &made), expected);
+    let marked = [b"\xEF\xBB\xBF", notation.as_bytes()].concat();
+    assert_eq!(answered(&["run"], &marked), expected);
+}
+
+#[test]
+fn files_are_written() {
+    let file = at("target/made.book");
+    fs::create_dir_all(at("target")).expect("a folder");
+    let name = file.to_str().expect("a name");
+    assert_eq!(answered(&["make", "books/drawing_register.txt", "-o", name], b""), (String::new(), 0));
+    assert_eq!(fs::read(&file).expect("the book"), called(&["make", "books/drawing_register.txt"], b"").stdout);
+    assert_eq!(status(&["run", "books/spent_loop.book", "--limit=7", "-o", name], b""), 0);
+    let seven = fs::read(&file).expect("the term reached");
+    let on = answered(&["run", "--limit", "3"], &seven).0;
+    let ten = answered(&["run", "books/spent_loop.book", "--limit", "10"], b"").0;
+    assert_eq!(on.lines().skip(1).collect::<Vec<_>>(), ten.lines().skip(1).collect::<Vec<_>>());
+    fs::remove_file(&file).expect("the file goes");
+}
+
+#[test]
+fn quiet_says_nothing() {
+    for (book, expected) in [("books/first_number.book", 0), ("books/refusals/14.book", 1), ("books/refusals/02.book", 1)] {
+        for command in [&["check"][..], &["run"], &["run", "--trace"]] {
+            let arguments = [command, &["--quiet", book]].concat();
+            assert_eq!(answered(&arguments, b""), (String::new(), expected), "{arguments:?}");
+        }
+    }
+}
+
+/// What is no terminal gets no escape character, whatever NO_COLOR says.
+#[test]
+fn plain_where_it_is_no_terminal() {
+    for arguments in [
+        &["check", "books/refusals/14.book"][..],
+        &["run", "books/first_number.book", "--trace"],
+        &["run", "books/spent_loop.book"],
+    ] {
+        let (printed, _) = answered(arguments, b"");
+        assert!(!printed.contains('\x1b') && !printed.contains('\r'), "{printed}");
+    }
+}
+
+/// A reader that goes away early is no error, a full disk is one.
+#[test]
+fn output_that_fails() {
+    let mut child = Command::new(env!("CARGO_BIN_EXE_cerealbank"))
+        .args(["run", "books/spent_loop.book", "--trace"])
+        .current_dir(at("."))
+        .stdout(Stdio::piped())
+        .stderr(Stdio::piped())
+        .spawn()
+        .expect("the program");
+    drop(child.stdout.take());
+    let output = child.wait_with_output().expect("its output");
+    assert_eq!((output.status.code(), output.stderr.len()), (Some(0), 0));
+    if let Ok(full) = fs::OpenOptions::new().write(true).open("/dev/full") {
+        let output = Command::new(env!("CARGO_BIN_EXE_cerealbank")).args(["help"]).stdout(full).output().expect("the program");
+        assert_eq!(output.status.code(), Some(2));
+    }
+}
+
+/// All that a command can do with an input.
+const WAYS: [&[&str]; 9] = [
+    &["make"],
+    &["make", "--share", "--version", "2"],
+    &["show"],
+    &["show", "--exact"],
+    &["show", "--cells"],
+    &["show", "--dot"],
+    &["check"],
+    &["run", "--limit", "3", "--trace"],
+    &["check", "--notation"],
+];
+
+/// Every way ends with a status and without a panic.
+fn survives(input: &[u8]) {
+    for way in WAYS {
+        let status = status(way, input);
+        assert!((0..=2).contains(&status), "{way:?}");
+    }
+}
+
+#[test]
+fn garbage_gets_an_answer() {
+    let mut random = compare::random::Random::of(17, "garbage", 0);
+    for length in [1, 7, 8, 15, 16, 17, 24, 100, 800, 32_768, 32_776, 70_000] {
+        let bytes: Vec<u8> = (0..length).map(|_| random.draw() as u8).collect();
+        survives(&bytes);
+        let signs = b"\\x:Int.,+{}()=#-0T let in type fix\n";
+        let text: Vec<u8> = (0..length).map(|_| *random.pick(signs)).collect();
+        survives(&text);
+    }
+    survives(&[0; 4_096]);
+    survives(&[0xF0; 4_096]);
+    survives("\u{3bb}x. x \u{2192} \u{1F4D6}".as_bytes());
+}
+
+#[test]
+fn cut_books_and_texts_get_an_answer() {
+    let notation = text("books/drawing_register.txt");
+    for end in (0..notation.len()).step_by(11) {
+        survives(&notation.as_bytes()[..end]);
+    }
+    let book = bytes("books/hidden_field.book");
+    for end in (0..book.len()).step_by(5) {
+        survives(&book[..end]);
+    }
+    for place in (0..book.len()).step_by(3) {
+        let mut changed = book.clone();
+        changed[place] ^= 0x15;
+        survives(&changed);
+    }
+}
+
+#[test]
+fn deep_texts_get_an_answer() {
+    let nested = format!("{}1{}", "(".repeat(100_000), ")".repeat(100_000));
+    let (printed, status) = answered(&["make"], nested.as_bytes());
+    assert_eq!(status, 2);
+    assert!(printed.starts_with("standard input:1:10002: this is nested more than 10000 deep\n"), "{printed}");
+    assert!(printed.len() < 500, "{printed}");
+    survives(nested.as_bytes());
+    for sign in [
+        "(",
+        "{1 = ",
+        "1 ,, (",
+        "\\x : Int . ",
+        "fix x : Int . ",
+        "if ",
+        "1 : (",
+        "1 : {1 : ",
+        "let x = ",
+        "1 + ",
+        "T ",
+        "1 ,, ",
+        "1 : Int -> ",
+    ] {
+        survives(sign.repeat(30_000).as_bytes());
+    }
+    // As deep as a book can be.
+    for (sign, end) in [("{1 = ", "}"), ("T ,, (", ")"), ("(", " ,, T)"), ("\\x : Int . (", ") : Int"), ("fix x : Int . ", "")] {
+        let most = 4_094
+            / if sign.starts_with('\\') {
+                3
+            } else if sign.starts_with('{') {
+                1
+            } else {
+                2
+            };
+        survives(format!("{}T{}", sign.repeat(most), end.repeat(most)).as_bytes());
+    }
+}
+
+/// The deepest books of every shape, 4,094 deep, are shown, checked and run.
+#[test]
+fn deep_books_get_an_answer() {
+    let books = evaluator::on_large_stack(deepest);
+    let mut seen = std::collections::HashSet::new();
+    for deep in books.iter().filter(|deep| seen.insert(deep.group)) {
+        for way in [&["show"][..], &["show", "--exact"], &["check"], &["run", "--limit", "2", "--trace"]] {
+            let status = status(way, &deep.book);
+            assert!(status <= 1, "{} {way:?}", deep.name);
+        }
+    }
+    assert!(seen.len() > 5, "{}", seen.len());
+}
+
+/// Books that the typing rules refuse, of many shapes and sizes, are explained.
+#[test]
+fn refused_books_are_explained() {
+    let explained = tool::deep(|| {
+        let mut count = 0;
+        for book in generated(21, 60) {
+            let input = tool::input::Input::of_bytes(book);
+            if let Err(refusal) = tool::ask::check(&input.bytes) {
+                let printed = tool::explanation::printed(refusal, &tool::refusals::explained(&input, refusal));
+                assert!(printed.starts_with(&format!("refused {}", refusal.number)) && printed.lines().count() < 80, "{printed}");
+                assert_eq!(printed.contains('^'), refusal.number > 10, "{printed}");
+                count += 1;
+            }
+        }
+        count
+    });
+    println!("{explained:?} refused books");
+    assert!(explained.expect("no panic") > 500);
+}
+
+/// What a type looks like does not change what it is: every table of cells has its rows, and a graph its edges.
+#[test]
+fn cells_and_graphs() {
+    for path in files("books", ".book") {
+        let book = bytes(&path);
+        let table = answered(&["show", "--cells", &path], b"").0;
+        assert_eq!(table.lines().count(), 1 + book.len().div_ceil(8), "{path}");
+        let (graph, status) = answered(&["show", "--dot", &path], b"");
+        if status == 0 {
+            let cells = book.len() / 8 - 1;
+            assert_eq!(graph.lines().filter(|line| line.contains("[label=") && !line.contains("->")).count(), cells, "{path}");
+            assert!(graph.starts_with("digraph book {\n") && graph.ends_with("}\n"));
+        }
+    }
+}

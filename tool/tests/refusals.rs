@@ -1,0 +1,291 @@
+//! A refusal in words: a sentence for each number, with a book that gets it; the part that is meant; and the types, which are the
+//! evaluator's too.
+
+mod common;
+
+use common::{answered, bytes, generated};
+use compare::contexts::redex;
+use evaluator::{decode, encode_type, infer, successors, Part, Refusal, Term as Tree, Type};
+use tool::ask::{are_disjoint, check, is_below, parts, run, Term};
+use tool::assemble::assemble;
+use tool::book::Book;
+use tool::deep;
+use tool::format::{headings, section, NUMBERS};
+use tool::running::{traced, watched};
+
+/// The first line that the program prints of each book of books/refusals, and a line that says more.
+const SAMPLES: [(&str, &str, &str); 14] = [
+    ("02", "refused 2: the file is no whole book.", "  length:  15 bytes; a book has a multiple of 8, from 16 to 32768"),
+    ("03", "refused 3: the last 8 bytes are no trailer of version 1 or 2.", "  last bytes:  00 01 01 00 00 00 00 00"),
+    (
+        "04",
+        "refused 4: the trailer does not fit the cells before it.",
+        "  last bytes:  F0 01 02 00 00 00 00 00  trailer: version 1, cells 2, root 0",
+    ),
+    ("05", "refused 5, cell 1: the kind of this cell is unknown.", "  the cell:  1  00 00 00 00 00 00 00 00  unknown kind 0"),
+    ("06", "refused 6, cell 1: this cell has something in a field that its kind does not use.", "  what is wrong:  the label, 7"),
+    (
+        "07",
+        "refused 7, cell 1: this cell refers to itself, to a later cell or past the end.",
+        "  what is wrong:  right half: cell 1",
+    ),
+    (
+        "08",
+        "refused 8, cell 1: this cell refers to a type where its kind wants a term, or to a term where it",
+        "  what is wrong:  term: cell 0, a type where a term is wanted",
+    ),
+    ("09", "refused 9, cell 1: the root is a type, and only a term can be checked and run.", "  the type:  Int"),
+    ("10", "refused 10, cell 12: the book is too large: with nothing shared it has more than 4095 cells.", "  size:  8191"),
+    ("11", "refused 11, cell 1: this variable has no binder.", "  binders around it:  1, of x"),
+    ("12", "refused 12, cell 2: what is applied here is no function.", "  its type:  Int"),
+    ("13", "refused 13, cell 2: there is no field 8 here to read.", "  read from:  {7 : Int}"),
+    (
+        "14",
+        "refused 14, cell 2: the two halves of this merge overlap, and nothing says which of them counts.",
+        "  overlap:     Int on the left, Int on the right",
+    ),
+    ("15", "refused 15, cell 1: this term has not the type that is wanted where it stands.", "  found:   Top"),
+];
+
+#[test]
+fn every_refusal_has_its_sentence() {
+    for (number, sentence, more) in SAMPLES {
+        let (printed, status) = answered(&["check", &format!("books/refusals/{number}.book")], b"");
+        let lines: Vec<&str> = printed.lines().collect();
+        assert_eq!(lines[0], sentence);
+        assert!(lines.contains(&more), "{printed}");
+        let explain = format!("More: cerealbank explain {}", number.trim_start_matches('0'));
+        assert_eq!(lines.last(), Some(&explain.as_str()), "{printed}");
+        assert_eq!(status, 1);
+        // A run refuses it in the same words.
+        assert_eq!(answered(&["run", &format!("books/refusals/{number}.book")], b""), (printed, 1));
+    }
+}
+
+/// Texts that are refused: what is printed of each below the first line and above the last.
+const TEXTS: [(&str, &[&str]); 20] = [
+    ("#3", &["binders it skips:   3", "binders around it:  none"]),
+    ("\\a : Int . fix b : Int . #2 : Int", &["^^", "binders around it:  2, of a, b"]),
+    (
+        "(1 ,, \\x : Int . x : Int) 2",
+        &[
+            "its type:  Int & (Int -> Int)",
+            "There is a function in it: annotate it before it is applied, as in (... : Int -> Int).",
+        ],
+    ),
+    ("\\n : Int . n -1 : Int", &["its type:  Int", "There is no subtraction: write + before the minus."]),
+    ("\\f : Top & Top . f 1 : Int", &["its type:  Top & Top", "Apply a function."]),
+    (
+        "label a = 3 ({a = 1} ,, {4 = 2} ,, {4 = \\x : Int . x : Int}).5",
+        &["there is no field 5 here to read.", "Compare the label: there is 4, a."],
+    ),
+    (
+        "({4 = 1} ,, {4 = \\x : Int . x : Int}).4",
+        &["field 4 is there more than once.", "Annotate what is read from, as in (... : {4 : Int})"],
+    ),
+    ("1.4", &[]),
+    ("(1).4", &["there is no field 4 here to read.", "read from:  Int", "Read from a record."]),
+    ("\\x : {1 : Int} . x ,, {1 = 2} : Int", &["left half:   {1 : Int}", "The left half uses a variable from outside"]),
+    ("(1 + 2) ,, 3", &["overlap:     Int on the left, Int on the right", "The left half is no value yet"]),
+    (
+        "({1 = 2} ,, {3 = 4}) ,, ({5 = 6} ,, {3 = 7})",
+        &["overlap:     {3 : Int} on the left, {3 : Int} on the right", "Both halves are values"],
+    ),
+    (
+        "{1 = 2} : {1 : Int} & {3 : Int} & Top",
+        &["wanted:   {1 : Int} & {3 : Int} & Top", "by:       the annotation", "found:    {1 : Int}", "missing:  {3 : Int}"],
+    ),
+    ("\\x : Int . x : Int -> Int", &["wanted:  Int -> Int", "by:      the function, of its body", "found:   Int"]),
+    ("fix x : Int . {1 = x}", &["by:      the fixpoint, of its body", "found:   {1 : Int}"]),
+    ("(\\f : Int -> Int . f T : Int)", &["wanted:  Int", "by:      the function, of its argument", "found:   Top"]),
+    ("T + 1", &["by:      the sum, of its part 'left side'", "wanted:  Int"]),
+    ("1 + {1 = 2}", &["by:      the sum, of its part 'right side'", "found:   {1 : Int}"]),
+    ("if 1 then 2 else T", &["by:      the choice, of its part 'for anything else'"]),
+    ("({1 = 2} ,, T).3 + 1", &["found:   Top", "What it reads from has no such field"]),
+];
+
+#[test]
+fn what_a_refusal_says_of_a_text() {
+    for (text, wanted) in TEXTS {
+        let (printed, status) = answered(&["check"], text.as_bytes());
+        assert_eq!(status, if wanted.is_empty() { 2 } else { 1 }, "{text}\n{printed}");
+        for line in wanted {
+            assert!(printed.contains(line), "{text}: {line} is not in\n{printed}");
+        }
+    }
+}
+
+/// The marked part stands right above its carets, in a text and in a book.
+#[test]
+fn the_part_is_marked() {
+    let cases = [
+        ("{1 = (1 ,, 2)}", "1 ,, 2"),
+        ("1 + (T) + 2", "T"),
+        ("\\x : Int . (3 x) ,, 2 : Int", "3 x"),
+        ("let p = (\\x : Int . x : Int) T in p", "T"),
+        ("{1 = 2} ,, {2 = {3 = 4}.5}", "{3 = 4}.5"),
+    ];
+    for (text, part) in cases {
+        let made = assemble(text, None, false).expect("a text").book.bytes();
+        for input in [text.as_bytes(), &made] {
+            let (printed, _) = answered(&["check"], input);
+            let lines: Vec<&str> = printed.lines().collect();
+            let carets = lines.iter().position(|line| line.contains('^')).expect("carets");
+            let from = lines[carets].find('^').expect("a caret");
+            let to = lines[carets].rfind('^').expect("a caret");
+            assert_eq!(&lines[carets - 1][from..=to], part, "{printed}");
+        }
+    }
+}
+
+/// The type that a term names first: a binder its variable's, an annotation its own.
+fn first_type(term: &Tree) -> Type {
+    let types =
+        term.node().fields.into_iter().filter_map(|part| if let Part::Type(named) = part { Some(named.clone()) } else { None });
+    types.into_iter().next().expect("a type")
+}
+
+/// The types that the evaluator finds for a term and for all its parts, each by its cell in the book with nothing shared.
+fn types(binders: &mut Vec<Type>, term: &Tree, found: &mut Vec<(usize, Result<Type, Refusal>)>) {
+    found.push((term.cell(), infer(binders, term)));
+    let node = term.node();
+    for (_, over, part) in node.terms() {
+        let bound = (over > 0).then(|| first_type(term));
+        binders.extend(bound.clone());
+        types(binders, part, found);
+        if bound.is_some() {
+            binders.pop();
+        }
+    }
+}
+
+/// Of every part of a book that has a type, the library is asked for it, and gives the evaluator's.
+fn types_agree(book: &[u8]) -> usize {
+    let Some(opened) = Book::read(book).and_then(|book| book.opened()) else { return 0 };
+    let Ok((tree, version)) = decode(&opened.book.bytes()) else { return 0 };
+    let term = Term::new(opened.book);
+    let mut found = Vec::new();
+    types(&mut Vec::new(), &tree, &mut found);
+    let mut asked = 0;
+    for (cell, expected) in found {
+        if let (Ok(expected), Some(found)) = (expected, term.type_of(cell)) {
+            assert_eq!(found.bytes(), encode_type(&expected, version));
+            asked += 1;
+        }
+    }
+    asked
+}
+
+#[test]
+fn the_types_that_are_shown_are_the_evaluators() {
+    let asked = deep(|| {
+        let small = generated(19, 40)
+            .into_iter()
+            .filter(|book| book.len() < 400 && matches!(check(book), Err(refusal) if refusal.number > 10));
+        small.map(|book| types_agree(&book)).sum::<usize>()
+    });
+    println!("{asked:?} types");
+    assert!(asked.expect("no panic") > 2_000, "{asked:?}");
+}
+
+/// Below and disjoint, asked of the library in books, are the evaluator's.
+#[test]
+fn questions_about_types_have_the_evaluators_answers() {
+    let types: Vec<Book> = TYPES.iter().map(|text| assemble(&format!("type {text}"), None, false).expect("a type").book).collect();
+    let read = |book: &Book| {
+        let mut term = Book::new(1);
+        for part in &book.parts {
+            term.push(*part);
+        }
+        let variable = term.add(tool::kinds::Kind::TopValue, &[]);
+        term.add(tool::kinds::Kind::Annotation, &[variable, book.root]);
+        let (tree, _) = decode(&term.bytes()).expect("a term");
+        first_type(&tree)
+    };
+    for one in &types {
+        for other in &types {
+            let (a, b) = (read(one), read(other));
+            assert_eq!(is_below(one, std::slice::from_ref(other)), Some(evaluator::subtype(&a, &b)));
+            assert_eq!(are_disjoint(one, &parts(other)), Some(evaluator::disjoint(&a, &b)));
+        }
+    }
+}
+
+const TYPES: [&str; 14] = [
+    "Int",
+    "Top",
+    "Int -> Int",
+    "Int -> Top",
+    "Top -> Int",
+    "{1 : Int}",
+    "{2 : Int}",
+    "{1 : Top}",
+    "Int & Top",
+    "Int & {1 : Int}",
+    "{1 : Int} & {2 : Int}",
+    "(Int -> Int) & {1 : Int -> Int}",
+    "Int & Int",
+    "{1 : {2 : Int & Top}}",
+];
+
+/// The part that a trace marks is the evaluator's redex, and every term is the one that a run with that limit leaves.
+#[test]
+fn a_trace_marks_the_redex() {
+    const LIMIT: u32 = 6;
+    let marked = |book: &[u8]| {
+        let mut count = 0;
+        let _ = traced(book, LIMIT, |reached| {
+            assert_eq!(run(book, reached.steps).expect("a run").left, reached.term.bytes());
+            let (tree, version) = decode(&reached.term.bytes()).expect("a term");
+            assert_eq!(reached.redex, (!tree.is_value() && fits(&successors(&tree, version))).then(|| redex(&tree).cell()));
+            count += usize::from(reached.redex.is_some());
+            true
+        });
+        count
+    };
+    let count = deep(move || generated(20, 12).iter().filter(|book| book.len() < 4_000).map(|book| marked(book)).sum::<usize>());
+    println!("{count:?} redexes");
+    assert!(count.expect("no panic") > 1_000, "{count:?}");
+}
+
+fn fits(next: &[Tree]) -> bool {
+    next.iter().all(|next| next.size() <= 4_095)
+}
+
+/// A run watched in parts gives the whole run's answer.
+#[test]
+fn a_watched_run_is_the_run() {
+    for name in ["spent_loop", "growing_loop", "revision_counter", "first_number", "unequal_numbers", "equal_numbers"] {
+        let book = bytes(&format!("books/{name}.book"));
+        for limit in [0, 1, 2, 5, 37, 38, 39, 2_045, 2_046, 2_047, 10_000] {
+            let mut told = Vec::new();
+            let watched = watched(&book, limit, |steps, _| told.push(steps));
+            let shown = |ran: Result<tool::ask::Ran, tool::ask::Refusal>| ran.map(|ran| (ran.stop, ran.steps, ran.left));
+            assert_eq!(shown(watched), shown(run(&book, limit)), "{name} {limit}");
+            assert!(told.windows(2).all(|pair| pair[0] < pair[1]) && told.iter().all(|&steps| steps < limit));
+        }
+    }
+}
+
+/// `explain` prints the section of docs/FORMAT.md, word for word, and there is one for each number.
+#[test]
+fn explanations_are_the_pages() {
+    let page = common::text("docs/FORMAT.md");
+    let words = |text: &str| text.split_whitespace().map(str::to_owned).collect::<Vec<_>>().join(" ");
+    let plain = words(&page.replace("```book", "").replace("```", ""));
+    assert_eq!(headings().count(), NUMBERS.count());
+    for number in NUMBERS {
+        let said = section(number).expect("a section");
+        assert!(plain.contains(&format!("### {}", words(&said))), "{said}");
+        assert!(
+            said.starts_with(&format!("{number}: ")) && said.contains("\nCell: ") && said.contains("\nTell the writer: "),
+            "{said}"
+        );
+        assert!(said.lines().last().is_some_and(|line| line.starts_with(&format!("    refused {number} "))), "{said}");
+        assert_eq!(answered(&["explain", &number.to_string()], b""), (said, 0));
+    }
+    for wrong in ["0", "16", "256", "-1", "x", ""] {
+        assert_eq!(answered(&["explain", "--", wrong], b"").1, 2);
+    }
+    assert_eq!(answered(&["explain"], b"").0.lines().count(), 15);
+}
