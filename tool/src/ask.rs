@@ -4,6 +4,7 @@
 use crate::book::{Book, Part};
 use crate::kinds::Kind;
 use cerealbank::{Answer, WORK};
+use std::collections::HashMap;
 
 /// A refusal: its number and its cell.
 #[derive(Clone, Copy, PartialEq, Eq, Debug)]
@@ -108,7 +109,8 @@ impl Term {
     /// The type that the library finds for a term that stands under binders; None if it is too large to be asked about. A variable of a
     /// binder around it becomes `fix x : A . x`, a closed term of the type A that the variable has.
     pub fn type_of(&self, at: usize) -> Option<Book> {
-        let mut asking = Asking { term: self, binders: self.binders(at), made: Book::new(self.book.version) };
+        let made = Book::new(self.book.version);
+        let mut asking = Asking { term: self, binders: self.binders(at), stand_ins: HashMap::new(), made };
         asking.copy(at, 0);
         asked(&asking.made).ok()
     }
@@ -123,6 +125,8 @@ impl Term {
 struct Asking<'a> {
     term: &'a Term,
     binders: Vec<usize>,
+    /// What stands for a binder's variable, laid down once.
+    stand_ins: HashMap<usize, usize>,
     made: Book,
 }
 
@@ -131,14 +135,23 @@ impl Asking<'_> {
         let part = self.term.book.parts[at];
         let outer = (part.datum as usize).checked_sub(within).filter(|_| part.kind == Kind::Variable);
         if let Some(&binder) = outer.and_then(|outer| self.binders.get(outer)) {
-            let of = self.copy(self.term.book.parts[binder].references[1], 0);
-            return stand_in(&mut self.made, of);
+            return self.stand_in(binder);
         }
         let mut copied = part;
         for (place, &child) in part.children().iter().enumerate() {
             copied.references[place] = self.copy(child, within + usize::from(part.kind.binds() && place == 0));
         }
         self.made.push(copied)
+    }
+
+    fn stand_in(&mut self, binder: usize) -> usize {
+        if let Some(&known) = self.stand_ins.get(&binder) {
+            return known;
+        }
+        let of = self.copy(self.term.book.parts[binder].references[1], 0);
+        let made = stand_in(&mut self.made, of);
+        self.stand_ins.insert(binder, made);
+        made
     }
 }
 

@@ -1,11 +1,11 @@
 //! Where a command prints: colours and progress on a terminal, plain text anywhere else.
 
+use std::ffi::OsString;
 use std::io::{self, ErrorKind, IsTerminal, Write};
 
 const RED: &str = "\x1b[1;31m";
 const GREEN: &str = "\x1b[1;32m";
 const PLAIN: &str = "\x1b[0m";
-const CLEAR: &str = "\r\x1b[K";
 
 pub struct Terminal<'a> {
     out: &'a mut dyn Write,
@@ -17,19 +17,21 @@ pub struct Terminal<'a> {
     /// Whether someone watches a long run.
     pub watches: bool,
     pub quiet: bool,
+    /// The length of the progress that stands on the terminal.
+    told: usize,
     failed: Option<io::Error>,
 }
 
 impl<'a> Terminal<'a> {
     /// Plain output.
     pub fn plain(out: &'a mut dyn Write, err: &'a mut dyn Write) -> Terminal<'a> {
-        Terminal { out, err, is_one: false, colours: false, watches: false, quiet: false, failed: None }
+        Terminal { out, err, is_one: false, colours: false, watches: false, quiet: false, told: 0, failed: None }
     }
 
-    /// Standard output and standard error, with colours if NO_COLOR is not set.
+    /// Standard output and standard error, as they are.
     pub fn standard(out: &'a mut dyn Write, err: &'a mut dyn Write) -> Terminal<'a> {
         let is_one = io::stdout().is_terminal();
-        let colours = is_one && std::env::var_os("NO_COLOR").is_none_or(|value| value.is_empty());
+        let colours = has_colours(is_one, std::env::var_os("NO_COLOR"));
         Terminal { is_one, colours, watches: io::stderr().is_terminal(), ..Terminal::plain(out, err) }
     }
 
@@ -67,16 +69,24 @@ impl<'a> Terminal<'a> {
     /// How far a long run is.
     pub fn progress(&mut self, steps: u32, cells: usize) {
         if !self.quiet {
-            write!(self.err, "{CLEAR}{steps} steps, {cells} cells").ok();
+            let text = format!("{steps} steps, {cells} cells");
+            self.complain(&format!("\r{text:width$}", width = self.told));
+            self.told = text.len();
         }
     }
 
     /// Takes the progress away.
     pub fn clear(&mut self) {
-        if self.watches && !self.quiet {
-            self.complain(CLEAR);
+        if self.told > 0 {
+            self.complain(&format!("\r{:width$}\r", "", width = self.told));
+            self.told = 0;
         }
     }
+}
+
+/// Colours are for a terminal, and not where NO_COLOR is set to something.
+fn has_colours(is_terminal: bool, no_color: Option<OsString>) -> bool {
+    is_terminal && no_color.is_none_or(|value| value.is_empty())
 }
 
 /// The word of an answer and the carets in colour.
@@ -94,5 +104,45 @@ fn coloured_line(line: &str) -> String {
         Some(first @ "refused") => word(RED, first.len()),
         Some(first @ ("accepted" | "value" | "stopped")) => word(GREEN, first.len()),
         _ => line.into(),
+    }
+}
+
+#[cfg(test)]
+mod tests {
+    use super::{coloured, has_colours, Terminal, GREEN, PLAIN, RED};
+
+    #[test]
+    fn colours_only_on_a_terminal_without_no_color() {
+        assert!(has_colours(true, None) && has_colours(true, Some("".into())));
+        assert!(!has_colours(true, Some("1".into())) && !has_colours(false, None));
+    }
+
+    /// Colours are added to an answer's word and to carets, and nothing is taken away.
+    #[test]
+    fn colours_are_added() {
+        let text =
+            "refused 14, cell 2: a.\n\n  1 ,, 2\n  ^^^^^^\n  1 | 1 ,, 2\n    | ^^^^\naccepted: Int\nvalue after 1 step\n1 ^\n";
+        let shown = coloured(text);
+        for part in [RED, GREEN, PLAIN] {
+            assert!(shown.contains(part));
+        }
+        assert_eq!(shown.matches(PLAIN).count(), 5);
+        assert!(shown.contains(&format!("    | {RED}^^^^{PLAIN}\n")) && shown.contains(&format!("{GREEN}accepted{PLAIN}: Int")));
+        assert_eq!([RED, GREEN, PLAIN].iter().fold(shown, |shown, colour| shown.replace(colour, "")), text);
+    }
+
+    /// Progress is overwritten, the last one with blanks.
+    #[test]
+    fn progress_is_taken_away() {
+        let (mut out, mut err) = (Vec::new(), Vec::new());
+        let mut terminal = Terminal::plain(&mut out, &mut err);
+        terminal.progress(100, 2_000);
+        terminal.progress(200, 3);
+        terminal.clear();
+        terminal.clear();
+        terminal.quiet = true;
+        terminal.progress(300, 3);
+        assert_eq!(String::from_utf8(err).expect("a text"), "\r100 steps, 2000 cells\r200 steps, 3 cells   \r                  \r");
+        assert!(out.is_empty());
     }
 }
