@@ -126,17 +126,22 @@ fn of_checked(term: &Term, at: usize, labels: &Labels) -> Explanation {
     let (by, wanted) = wanted(term, at);
     let found = term.type_of(at);
     let missing = wanted.as_ref().zip(found.as_ref()).and_then(|(wanted, found)| missing(wanted, found));
-    let is_lost =
-        found.as_ref().is_some_and(|found| found.parts[found.root].kind == Kind::Top) && term.book.parts[at].kind == Kind::Read;
     Explanation::says("this term has not the type that is wanted where it stands")
         .with_type("wanted", wanted.as_ref(), labels)
         .fact("by", by)
         .with_type("found", found.as_ref(), labels)
         .facts("missing", missing.map_or(vec![], |missing| lines_of(&missing, labels)))
-        .helps(match is_lost {
-            true => "What it reads from has no such field, and all that is known is Top: compare the label.",
+        .helps(match reads_nothing(term, at) {
+            true => "What it reads from has no such field, so all that is known of it is Top: compare the label.",
             false => "Change the term, or the type that is wanted of it.",
         })
+}
+
+/// Whether a term reads a field that no part of what it reads from has.
+fn reads_nothing(term: &Term, at: usize) -> bool {
+    let part = term.book.parts[at];
+    let has_field = |of: &Book| of.parts[of.root].kind == Kind::RecordType && of.parts[of.root].datum == part.datum;
+    part.kind == Kind::Read && term.type_of(part.references[0]).is_some_and(|from| !parts(&from).iter().any(has_field))
 }
 
 /// Who wants a type of a term, and which: the part above it.

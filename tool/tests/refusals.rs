@@ -63,7 +63,7 @@ fn every_refusal_has_its_sentence() {
 }
 
 /// Texts that are refused: what is printed of each below the first line and above the last.
-const TEXTS: [(&str, &[&str]); 20] = [
+const TEXTS: [(&str, &[&str]); 21] = [
     ("#3", &["binders it skips:   3", "binders around it:  none"]),
     ("\\a : Int . fix b : Int . #2 : Int", &["^^", "binders around it:  2, of a, b"]),
     (
@@ -102,6 +102,7 @@ const TEXTS: [(&str, &[&str]); 20] = [
     ("1 + {1 = 2}", &["by:      the sum, of its part 'right side'", "found:   {1 : Int}"]),
     ("if 1 then 2 else T", &["by:      the choice, of its part 'for anything else'"]),
     ("({1 = 2} ,, T).3 + 1", &["found:   Top", "What it reads from has no such field"]),
+    ("{3 = T}.3 + 1", &["found:   Top", "Change the term, or the type that is wanted of it."]),
 ];
 
 #[test]
