@@ -139,6 +139,21 @@ fn the_part_is_marked() {
     }
 }
 
+/// A part of several lines is marked on each, of many on the first and the last two.
+#[test]
+fn long_parts_are_marked_at_their_ends() {
+    let two = "{1 =\n  1 ,,\n  2}\n";
+    let (printed, _) = answered(&["check"], two.as_bytes());
+    assert!(printed.contains("standard input:2:3\n    2 |   1 ,,\n      |   ^^^^\n    3 |   2}\n      |   ^\n"), "{printed}");
+    let many = format!("1\n,, 2\n{},, 3", "+ 4\n".repeat(8));
+    let (printed, _) = answered(&["check"], many.as_bytes());
+    let place = "    1 | 1\n       | ^\n     2 | ,, 2\n       | ^^^^\n       | ...\n     9 | + 4\n       | ^^^\n    10 | + 4\n       | ^^^\n";
+    assert!(printed.contains(place), "{printed}");
+    let longest = format!("1 ,,{}2", "\n".repeat(4_000_000));
+    let (printed, _) = answered(&["check"], longest.as_bytes());
+    assert!(printed.contains("  4000001 | 2\n"), "{printed}");
+}
+
 /// The type that a term names first: a binder its variable's, an annotation its own.
 fn first_type(term: &Tree) -> Type {
     let types =
