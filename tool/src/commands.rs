@@ -19,6 +19,7 @@ use crate::terminal::Terminal;
 use std::ffi::OsString;
 use std::fmt::Write;
 use std::fs;
+use std::time::{Duration, Instant};
 
 /// How a command ended: its exit status.
 #[derive(Clone, Copy, PartialEq, Eq, Debug)]
@@ -33,7 +34,8 @@ type Ended = Result<Status, String>;
 
 struct Command {
     name: &'static str,
-    argument: &'static str,
+    /// What it is called with; the first may be left out.
+    arguments: &'static [&'static str],
     does: &'static str,
     flags: &'static [&'static str],
     run: fn(&Options, &mut Terminal) -> Ended,
@@ -41,37 +43,45 @@ struct Command {
 
 /// The steps that a run takes at most if no limit is given: the desk program's.
 const LIMIT: u32 = 10_000;
+/// A run that takes longer than this says how far it is.
+const PATIENCE: Duration = Duration::from_millis(500);
 
 const COMMANDS: [Command; 5] = [
     Command {
         name: "make",
-        argument: "FILE",
+        arguments: &["FILE"],
         does: "assembles the notation into a book",
         flags: &["-o", "--version", "--share"],
         run: make,
     },
     Command {
         name: "show",
-        argument: "BOOK",
+        arguments: &["BOOK"],
         does: "prints a book in the notation, what is shared by name",
         flags: &["--exact", "--cells", "--dot", "--book", "--notation"],
         run: show,
     },
     Command {
         name: "check",
-        argument: "BOOK",
+        arguments: &["BOOK"],
         does: "prints the book's type, or why it is refused, where, and what would help",
         flags: &["--quiet", "--book", "--notation"],
         run: check_book,
     },
     Command {
         name: "run",
-        argument: "BOOK",
+        arguments: &["BOOK"],
         does: "prints why the run stopped, after how many steps, and the term reached",
         flags: &["--limit", "--trace", "-o", "--quiet", "--book", "--notation"],
         run: run_book,
     },
-    Command { name: "explain", argument: "NUMBER", does: "prints what docs/FORMAT.md says of a refusal", flags: &[], run: explain },
+    Command {
+        name: "explain",
+        arguments: &["NUMBER"],
+        does: "prints what docs/FORMAT.md says of a refusal",
+        flags: &[],
+        run: explain,
+    },
 ];
 
 /// Does what the arguments ask for, and says how it ended.
@@ -96,7 +106,7 @@ pub fn main(arguments: &[OsString], terminal: &mut Terminal) -> Status {
 }
 
 fn asked(command: &Command, arguments: &[OsString], terminal: &mut Terminal) -> Ended {
-    let options = options(arguments, command.flags)?;
+    let options = options(arguments, command.flags, command.arguments.len())?;
     if options.help {
         terminal.print(&manual(command));
         return Ok(Status::Done);
@@ -110,7 +120,7 @@ fn usage() -> String {
     let mut usage =
         String::from("Writes, shows, checks, runs and explains folder books. The answers are the proved library's.\n\n");
     for command in &COMMANDS {
-        writeln!(usage, "  cerealbank {:7} {:6}  {}", command.name, command.argument, command.does).ok();
+        writeln!(usage, "  cerealbank {:7} {:6}  {}", command.name, command.arguments.join(" "), command.does).ok();
     }
     usage
         + "\nA book is a file or standard input, in bytes or in the notation of docs/NOTATION.md.\n\
@@ -118,7 +128,7 @@ fn usage() -> String {
 }
 
 fn manual(command: &Command) -> String {
-    let mut manual = format!("cerealbank {} {}: {}\n\n", command.name, command.argument, command.does);
+    let mut manual = format!("cerealbank {} {}: {}\n\n", command.name, command.arguments.join(" "), command.does);
     for flag in FLAGS.iter().filter(|flag| command.flags.contains(&flag.name)) {
         writeln!(manual, "  {:14}  {}", flag.usage(), flag.help).ok();
     }
@@ -126,7 +136,7 @@ fn manual(command: &Command) -> String {
 }
 
 fn input(options: &Options) -> Result<Input, String> {
-    book(options.argument.as_deref(), options.form)
+    book(options.first(), options.form)
 }
 
 fn write_book(file: &OsString, bytes: &[u8]) -> Result<(), String> {
@@ -134,7 +144,7 @@ fn write_book(file: &OsString, bytes: &[u8]) -> Result<(), String> {
 }
 
 fn make(options: &Options, terminal: &mut Terminal) -> Ended {
-    let (name, bytes) = read(options.argument.as_deref())?;
+    let (name, bytes) = read(options.first())?;
     if form_of(&bytes) == Form::Bytes {
         return Err(format!("{name}: this is no text in the notation; `cerealbank show` prints a book\n"));
     }
@@ -190,17 +200,8 @@ fn check_book(options: &Options, terminal: &mut Terminal) -> Ended {
 fn run_book(options: &Options, terminal: &mut Terminal) -> Ended {
     let input = input(options)?;
     let limit = options.limit.unwrap_or(LIMIT);
-    if options.trace && !terminal.quiet {
-        if let Err(refusal) = trace(&input, limit, terminal) {
-            return Ok(refuse(&input, refusal, terminal));
-        }
-    }
-    let ran = match terminal.watches {
-        true => watched(&input.bytes, limit, |steps, cells| terminal.progress(steps, cells)),
-        false => run(&input.bytes, limit),
-    };
-    terminal.clear();
-    let ran = match ran {
+    let traced = if options.trace && !terminal.quiet { trace(&input, limit, terminal) } else { Ok(()) };
+    let ran = match traced.and_then(|()| ran(&input.bytes, limit, terminal)) {
         Ok(ran) => ran,
         Err(refusal) => return Ok(refuse(&input, refusal, terminal)),
     };
@@ -208,11 +209,25 @@ fn run_book(options: &Options, terminal: &mut Terminal) -> Ended {
         write_book(file, &ran.left)?;
     }
     terminal.print(&ending(&ran));
-    if !options.trace {
-        terminal
-            .print(&Book::read(&ran.left).map_or(String::new(), |book| term(&book, &input.labels, None).lines.join("\n") + "\n"));
+    if let Some(book) = Book::read(&ran.left).filter(|_| !options.trace) {
+        terminal.print(&(term(&book, &input.labels, None).lines.join("\n") + "\n"));
     }
     Ok(Status::Done)
+}
+
+/// A run, and how far it is if it takes long and someone watches.
+fn ran(bytes: &[u8], limit: u32, terminal: &mut Terminal) -> Result<Ran, Refusal> {
+    if !terminal.watches {
+        return run(bytes, limit);
+    }
+    let start = Instant::now();
+    let ran = watched(bytes, limit, |steps, cells| {
+        if start.elapsed() > PATIENCE {
+            terminal.progress(steps, cells);
+        }
+    });
+    terminal.clear();
+    ran
 }
 
 /// Why a run stopped, and after how many steps.
@@ -244,7 +259,7 @@ fn trace(input: &Input, limit: u32, terminal: &mut Terminal) -> Result<(), Refus
 }
 
 fn explain(options: &Options, terminal: &mut Terminal) -> Ended {
-    let Some(argument) = &options.argument else {
+    let Some(argument) = options.first() else {
         terminal.print(&headings().map(|heading| format!("{heading}\n")).collect::<String>());
         return Ok(Status::Done);
     };

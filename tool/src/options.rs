@@ -1,12 +1,13 @@
 //! The arguments of a command.
 
 use crate::input::Form;
-use std::ffi::OsString;
+use std::ffi::{OsStr, OsString};
 
 /// What a command was asked for.
 #[derive(Default)]
 pub struct Options {
-    pub argument: Option<OsString>,
+    /// What is no flag: files, or a number.
+    pub arguments: Vec<OsString>,
     pub output: Option<OsString>,
     pub version: Option<u8>,
     pub limit: Option<u32>,
@@ -68,6 +69,13 @@ pub const FLAGS: [Flag; 12] = [
     alone("--help", "what the command does, and its flags", |to| to.help = true),
 ];
 
+impl Options {
+    /// The first argument, the book in most commands.
+    pub fn first(&self) -> Option<&OsStr> {
+        self.arguments.first().map(OsString::as_os_str)
+    }
+}
+
 impl Flag {
     /// The flag as it is written, with the name of its value.
     pub fn usage(&self) -> String {
@@ -78,16 +86,17 @@ impl Flag {
     }
 }
 
-/// Reads the arguments of a command that has these flags.
-pub fn options(arguments: &[OsString], flags: &[&str]) -> Result<Options, String> {
+/// Reads the arguments of a command that has these flags, and at most so many other arguments.
+pub fn options(arguments: &[OsString], flags: &[&str], most: usize) -> Result<Options, String> {
     let mut options = Options::default();
     let mut left = arguments.iter();
     let mut only_names = false;
     while let Some(argument) = left.next() {
         let text = argument.to_string_lossy();
         if only_names || !text.starts_with('-') || text == "-" {
-            if options.argument.replace(argument.clone()).is_some() {
-                return Err(format!("{text}: one argument is enough"));
+            options.arguments.push(argument.clone());
+            if options.arguments.len() > most {
+                return Err(format!("{text}: that is an argument too many"));
             }
         } else if text == "--" {
             only_names = true;
