@@ -15,6 +15,7 @@ use crate::print::{bare_type, whole};
 use crate::refusals::explained;
 use crate::running::{traced, watched};
 use crate::show::{exact, shown};
+use crate::source::printable;
 use crate::terminal::Terminal;
 use std::ffi::OsString;
 use std::fmt::Write;
@@ -100,7 +101,8 @@ pub fn main(arguments: &[OsString], terminal: &mut Terminal) -> Status {
     let ended = ended.and_then(|status| terminal.finish().map(|()| status));
     ended.unwrap_or_else(|message| {
         let hint = if message.ends_with('\n') { "" } else { "\nTry: cerealbank help\n" };
-        terminal.complain(&format!("{message}{hint}"));
+        let shown: String = message.chars().map(|sign| if sign == '\n' { sign } else { printable(sign) }).collect();
+        terminal.complain(&format!("{shown}{hint}"));
         Status::Failed
     })
 }

@@ -57,6 +57,11 @@ const fn row(kind: Kind, sort: Sort, name: &'static str, datum: Datum, reference
     Row { kind, sort, name, datum, references }
 }
 
+/// The kinds of types, and then those of terms, have numbers without gaps.
+const FIRST_TYPE: usize = Kind::Int as usize;
+const FIRST_TERM: usize = Kind::Variable as usize;
+const TYPES: usize = 5;
+
 pub const KINDS: [Row; 17] = [
     row(Kind::Int, Type, "Int", Datum::None, &[]),
     row(Kind::Top, Type, "Top", Datum::None, &[]),
@@ -80,8 +85,8 @@ pub const KINDS: [Row; 17] = [
 impl Kind {
     /// The row of a kind.
     pub fn row(self) -> &'static Row {
-        let place = KINDS.iter().position(|row| row.kind == self);
-        &KINDS[place.unwrap_or(0)]
+        let code = self as usize;
+        &KINDS[if code < FIRST_TERM { code - FIRST_TYPE } else { code - FIRST_TERM + TYPES }]
     }
 
     /// Whether the first reference, the body, has one more binder around it.

@@ -61,17 +61,23 @@ impl Names {
         let last = book.parts.len() - 1;
         let mut places = vec![Place::Front; book.parts.len()];
         let mut waiting: Vec<usize> = Vec::new();
+        let mut waits = vec![false; book.parts.len()];
         for (at, part) in book.parts.iter().enumerate() {
-            let within: Vec<usize> = part.children().iter().copied().filter(|child| waiting.contains(child)).collect();
+            let within: Vec<usize> = part.children().iter().copied().filter(|&child| waits[child]).collect();
             let kept = within.iter().rev().zip(waiting.iter().rev()).take_while(|(one, other)| one == other).count();
             let (named, inner) = within.split_at(within.len() - kept);
             inner.iter().for_each(|&child| places[child] = Place::Nowhere);
-            waiting.truncate(waiting.len() - kept);
-            let past = waiting.iter().rposition(|cell| named.contains(cell)).map_or(0, |place| place + 1);
-            waiting.drain(..past);
-            waiting.push(at);
-            if uses[at] != 1 || at == book.root {
-                waiting.clear();
+            waiting.drain(waiting.len() - kept..).for_each(|cell| waits[cell] = false);
+            let past = match named {
+                [] => 0,
+                _ => waiting.iter().rposition(|cell| named.contains(cell)).map_or(0, |place| place + 1),
+            };
+            waiting.drain(..past).for_each(|cell| waits[cell] = false);
+            if uses[at] == 1 && at != book.root {
+                waiting.push(at);
+                waits[at] = true;
+            } else {
+                waiting.drain(..).for_each(|cell| waits[cell] = false);
             }
         }
         if book.root == last {
@@ -123,7 +129,7 @@ fn free(book: &Book) -> Vec<usize> {
     free
 }
 
-/// Of each cell that the root reaches, the nearest cell that every way from the root to it passes, and whether no binder lies between.
+/// Of each cell that the root reaches and that has parts, the nearest cell that every way from the root to it passes, and whether no binder lies between.
 struct Around {
     nearest: Vec<Option<usize>>,
     same_binders: Vec<bool>,
@@ -135,7 +141,8 @@ impl Around {
         let reached = book.reached();
         for at in (0..=book.root).rev().filter(|&at| reached[at]) {
             let part = &book.parts[at];
-            for (place, &child) in part.children().iter().enumerate() {
+            let larger = part.children().iter().enumerate().filter(|(_, &child)| !book.parts[child].children().is_empty());
+            for (place, &child) in larger {
                 around.enter(at, child, part.kind.binds() && place == 0);
             }
         }

@@ -4,7 +4,7 @@ use crate::ask::Refusal;
 use crate::book::{Book, CELL};
 use crate::cells::{hexadecimal, line, trailer};
 use crate::explanation::Explanation;
-use crate::input::Input;
+use crate::input::{Input, MOST_BYTES};
 use crate::kinds::{known, Datum, Row, Sort};
 use crate::labels::Labels;
 use crate::typing::of_term;
@@ -23,9 +23,10 @@ pub fn explained(input: &Input, refusal: Refusal) -> Explanation {
 
 fn of_file(bytes: &[u8], number: u8) -> Explanation {
     let last = &bytes[bytes.len().saturating_sub(CELL)..];
+    let more = if bytes.len() as u64 == MOST_BYTES { " or more" } else { "" };
     match number {
         2 => Explanation::says("the file is no whole book")
-            .fact("length", format!("{} bytes; a book has a multiple of 8, from 16 to 32768", bytes.len()))
+            .fact("length", format!("{} bytes{more}; a book has a multiple of 8, from 16 to 32768", bytes.len()))
             .helps("Compare the length with the one that was sent, and send the file again as it is. A book that is too long must be written with fewer cells."),
         3 => Explanation::says("the last 8 bytes are no trailer of version 1 or 2")
             .fact("last bytes", hexadecimal(last))

@@ -97,6 +97,7 @@ fn the_kinds_are_the_manuals() {
     for kind in &KINDS {
         let code = (kind.kind as u8).to_string();
         let row = rows.iter().find(|row| row[1] == code).unwrap_or_else(|| panic!("kind {code}"));
+        assert_eq!(kind.kind.row().kind, kind.kind);
         assert_eq!(row[2] == "type", kind.sort == Sort::Type, "{row:?}");
         assert_eq!(row[4] != "-", kind.datum == Datum::Label, "{row:?}");
         let sorts: Vec<Sort> = row[5..8].iter().filter_map(|field| sort(field)).collect();

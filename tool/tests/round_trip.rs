@@ -2,7 +2,7 @@
 
 mod common;
 
-use common::{at, files, generated};
+use common::{at, files, generated, largest};
 use evaluator::{decode, encode_term, Refusal, Term, Version};
 use std::fs;
 use tool::assemble::assemble;
@@ -48,7 +48,7 @@ fn every_sample_book_is_made_again() {
 
 #[test]
 fn generated_books_are_made_again() {
-    let count = deep(|| generated(17, 260).iter().filter_map(|book| again(book)).count()).expect("no book fails");
+    let count = deep(|| generated(17, 280).iter().chain(&largest()).filter_map(|book| again(book)).count()).expect("no book fails");
     println!("{count} books");
     assert!(count >= BOOKS, "{count}");
 }
@@ -65,7 +65,7 @@ fn encoded_and_shared_books_keep_their_bytes() {
         assert_eq!(assemble(&shown(&shared, &Labels::default()), None, true).expect("a book").book, shared);
         1
     };
-    let count = deep(move || generated(18, 40).iter().map(|book| held(book)).sum::<usize>()).expect("no book fails");
+    let count = deep(move || generated(18, 60).iter().map(|book| held(book)).sum::<usize>()).expect("no book fails");
     assert!(count >= 1_000, "{count}");
 }
 

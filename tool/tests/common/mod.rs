@@ -37,11 +37,16 @@ pub fn files(folder: &str, ending: &str) -> Vec<String> {
     found
 }
 
-/// Some books of every family of the comparison, and the deepest and largest ones.
+/// Some books of every family of the comparison.
 pub fn generated(seed: u64, of_each: usize) -> Vec<Vec<u8>> {
     let of_families =
         families().into_iter().flat_map(|family| family.in_both_versions(seed, of_each).take(of_each).collect::<Vec<_>>());
-    of_families.chain(extremes()).chain(deepest().into_iter().map(|deep| deep.book)).collect()
+    of_families.collect()
+}
+
+/// The deepest books of every shape, and those at the ends of what a book may have.
+pub fn largest() -> Vec<Vec<u8>> {
+    extremes().into_iter().chain(deepest().into_iter().map(|deep| deep.book)).collect()
 }
 
 /// The program called with arguments and an input.
