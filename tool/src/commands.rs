@@ -30,8 +30,13 @@ pub enum Status {
     Failed = 2,
 }
 
-/// A command's way to say that it was called wrongly, or that a file was not to be had.
-type Ended = Result<Status, String>;
+/// Why a command did nothing: it was called wrongly, or a file was not to be had.
+enum Failure {
+    Call(String),
+    File(String),
+}
+
+type Ended = Result<Status, Failure>;
 
 struct Command {
     name: &'static str,
@@ -88,27 +93,30 @@ const COMMANDS: [Command; 5] = [
 /// Does what the arguments ask for, and says how it ended.
 pub fn main(arguments: &[OsString], terminal: &mut Terminal) -> Status {
     let ended = match arguments.first().map(|name| name.to_string_lossy()) {
-        None => Err("a command is wanted".into()),
+        None => Err(Failure::Call("a command is wanted".into())),
         Some(name) if ["help", "--help", "-h"].contains(&&*name) => {
             terminal.print(&usage());
             Ok(Status::Done)
         }
         Some(name) => match COMMANDS.iter().find(|command| command.name == name) {
             Some(command) => asked(command, &arguments[1..], terminal),
-            None => Err(format!("{name}: there is no such command")),
+            None => Err(Failure::Call(format!("{name}: there is no such command"))),
         },
     };
-    let ended = ended.and_then(|status| terminal.finish().map(|()| status));
-    ended.unwrap_or_else(|message| {
-        let hint = if message.ends_with('\n') { "" } else { "\nTry: cerealbank help\n" };
-        let shown: String = message.chars().map(|sign| if sign == '\n' { sign } else { printable(sign) }).collect();
-        terminal.complain(&format!("{shown}{hint}"));
+    let ended = ended.and_then(|status| terminal.finish().map(|()| status).map_err(Failure::File));
+    ended.unwrap_or_else(|failure| {
+        let (message, hint) = match failure {
+            Failure::Call(message) => (message, "\nTry: cerealbank help"),
+            Failure::File(message) => (message, ""),
+        };
+        let shown: String = message.trim_end().chars().map(|sign| if sign == '\n' { sign } else { printable(sign) }).collect();
+        terminal.complain(&format!("{shown}{hint}\n"));
         Status::Failed
     })
 }
 
 fn asked(command: &Command, arguments: &[OsString], terminal: &mut Terminal) -> Ended {
-    let options = options(arguments, command.flags, command.arguments.len())?;
+    let options = options(arguments, command.flags, command.arguments.len()).map_err(Failure::Call)?;
     if options.help {
         terminal.print(&manual(command));
         return Ok(Status::Done);
@@ -137,25 +145,28 @@ fn manual(command: &Command) -> String {
     manual
 }
 
-fn input(options: &Options) -> Result<Input, String> {
-    book(options.first(), options.form)
+fn input(options: &Options) -> Result<Input, Failure> {
+    book(options.first(), options.form).map_err(Failure::File)
 }
 
-fn write_book(file: &OsString, bytes: &[u8]) -> Result<(), String> {
-    fs::write(file, bytes).map_err(|error| format!("{}: {error}\n", file.to_string_lossy()))
+fn write_book(file: &OsString, bytes: &[u8]) -> Result<(), Failure> {
+    fs::write(file, bytes).map_err(|error| Failure::File(format!("{}: {error}", file.to_string_lossy())))
 }
 
 fn make(options: &Options, terminal: &mut Terminal) -> Ended {
-    let (name, bytes) = read(options.first())?;
+    let (name, bytes) = read(options.first()).map_err(Failure::File)?;
     if form_of(&bytes) == Form::Bytes {
-        return Err(format!("{name}: this is no text in the notation; `cerealbank show` prints a book\n"));
+        return Err(Failure::File(format!("{name}: this is no text in the notation; `cerealbank show` prints a book")));
     }
-    let source = text(name, bytes)?;
-    let made = assemble(&source.text, options.version, options.share).map_err(|fault| source.complaint(&fault))?;
+    let source = text(name, bytes).map_err(Failure::File)?;
+    let made = assemble(&source.text, options.version, options.share);
+    let made = made.map_err(|fault| Failure::File(source.complaint(&fault)))?;
     let bytes = made.book.bytes();
     match &options.output {
         Some(file) => write_book(file, &bytes)?,
-        None if terminal.is_one => return Err("a book is bytes, and this is a terminal: name a file with -o FILE\n".into()),
+        None if terminal.is_one => {
+            return Err(Failure::Call("a book is bytes, and this is a terminal: name a file with -o FILE".into()))
+        }
         None => terminal.write(&bytes),
     }
     Ok(Status::Done)
@@ -271,6 +282,6 @@ fn explain(options: &Options, terminal: &mut Terminal) -> Ended {
             terminal.print(&section);
             Ok(Status::Done)
         }
-        None => Err(format!("{shown}: the refusals have the numbers {} to {}", NUMBERS.start(), NUMBERS.end())),
+        None => Err(Failure::Call(format!("{shown}: the refusals have the numbers {} to {}", NUMBERS.start(), NUMBERS.end()))),
     }
 }

@@ -111,6 +111,7 @@ pub fn options(arguments: &[OsString], flags: &[&str], most: usize) -> Result<Op
 fn set<'a>(options: &mut Options, text: &str, flags: &[&str], left: &mut impl Iterator<Item = &'a OsString>) -> Result<(), String> {
     let (name, value) = text.split_once('=').map_or((text, None), |(name, value)| (name, Some(OsString::from(value))));
     let known = FLAGS.iter().find(|flag| flag.name == name && (flags.contains(&name) || name == "--help"));
+    let help = known.map_or("", |flag| flag.help);
     match (known.map(|flag| &flag.set), value) {
         (None, _) => Err(format!("{name}: this command has no such flag")),
         (Some(Set::Alone(set)), None) => Ok(set(options)),
@@ -118,7 +119,7 @@ fn set<'a>(options: &mut Options, text: &str, flags: &[&str], left: &mut impl It
         (Some(Set::With(what, set)), value) => {
             let value = value.or_else(|| left.next().cloned()).ok_or(format!("{name}: {what} is wanted"))?;
             let shown = value.to_string_lossy().into_owned();
-            set(options, value).ok_or(format!("{name}: {shown} is no {what} for it"))
+            set(options, value).ok_or(format!("{name} {shown}: {what} is {help}"))
         }
     }
 }

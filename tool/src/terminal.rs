@@ -59,7 +59,7 @@ impl<'a> Terminal<'a> {
     /// What went wrong with the output; that its reader has gone is not wrong.
     pub fn finish(&mut self) -> Result<(), String> {
         let failed = self.failed.take().filter(|error| error.kind() != ErrorKind::BrokenPipe);
-        failed.map_or(Ok(()), |error| Err(format!("standard output: {error}\n")))
+        failed.map_or(Ok(()), |error| Err(format!("standard output: {error}")))
     }
 
     pub fn complain(&mut self, text: &str) {
