@@ -106,13 +106,27 @@ impl Term {
             || part.children().iter().enumerate().any(|(place, &child)| self.goes_out(child, inner(place)))
     }
 
-    /// The type that the library finds for a term that stands under binders; None if it is too large to be asked about. A variable of a
-    /// binder around it becomes `fix x : A . x`, a closed term of the type A that the variable has.
+    /// The type that the library finds for a term that stands under binders; None if the question is too large. A variable of a binder around
+    /// it becomes `fix x : A . x`, a closed term of the type A that the variable has, and so does a part that names its type and is no closed
+    /// value: an annotation, a fixpoint, a function with such a variable, a sum and a choice.
     pub fn type_of(&self, at: usize) -> Option<Book> {
         let made = Book::new(self.book.version);
         let mut asking = Asking { term: self, binders: self.binders(at), stand_ins: HashMap::new(), made };
         asking.copy(at, 0);
         asked(&asking.made).ok()
+    }
+
+    /// The parts of a merge: its halves that are no merges themselves, and the parts of those that are; each as a book.
+    pub fn merged(&self, at: usize) -> Vec<Book> {
+        let mut merged = Vec::new();
+        let mut left = vec![at];
+        while let Some(at) = left.pop() {
+            match self.book.parts[at] {
+                Part { kind: Kind::Merge, references: [a, b, _], .. } => left.extend([b, a]),
+                _ => merged.push(self.part(at)),
+            }
+        }
+        merged
     }
 
     /// The subtree of a cell as a book of its own.
@@ -137,11 +151,35 @@ impl Asking<'_> {
         if let Some(&binder) = outer.and_then(|outer| self.binders.get(outer)) {
             return self.stand_in(binder);
         }
+        if within == 0 && self.names_type(at) {
+            let of = self.named_type(part);
+            return stand_in(&mut self.made, of);
+        }
         let mut copied = part;
         for (place, &child) in part.children().iter().enumerate() {
             copied.references[place] = self.copy(child, within + usize::from(part.kind.binds() && place == 0));
         }
         self.made.push(copied)
+    }
+
+    /// Whether a part names its type, and is no closed value.
+    fn names_type(&self, at: usize) -> bool {
+        match self.term.book.parts[at].kind {
+            Kind::Annotation | Kind::Fixpoint | Kind::Sum | Kind::Choice => true,
+            Kind::Function => self.term.uses_binder(at),
+            _ => false,
+        }
+    }
+
+    fn named_type(&mut self, part: Part) -> usize {
+        match part.kind {
+            Kind::Sum | Kind::Choice => self.made.add(Kind::Int, &[]),
+            Kind::Function => {
+                let [input, output] = [1, 2].map(|place| self.copy(part.references[place], 0));
+                self.made.add(Kind::Arrow, &[input, output])
+            }
+            _ => self.copy(part.references[1], 0),
+        }
     }
 
     fn stand_in(&mut self, binder: usize) -> usize {
@@ -189,14 +227,21 @@ fn append(to: &mut Book, book: &Book) -> usize {
     start + book.root
 }
 
-/// The intersection of types.
-fn intersection(to: &mut Book, types: &[Book]) -> usize {
+/// Types in an intersection, or terms in a merge.
+fn joined(to: &mut Book, kind: Kind, books: &[Book]) -> usize {
     let mut whole = None;
-    for a_type in types {
-        let right = append(to, a_type);
-        whole = Some(whole.map_or(right, |left| to.add(Kind::And, &[left, right])));
+    for book in books {
+        let right = append(to, book);
+        whole = Some(whole.map_or(right, |left| to.add(kind, &[left, right])));
     }
-    whole.unwrap_or_else(|| to.add(Kind::Top, &[]))
+    whole.unwrap_or(0)
+}
+
+/// The type Top.
+pub fn top(version: u8) -> Book {
+    let mut book = Book::new(version);
+    book.add(Kind::Top, &[]);
+    book
 }
 
 /// Whether the root is accepted, or refused with this number; any other refusal, such as that of a book too large, says neither.
@@ -212,7 +257,7 @@ pub fn is_below(one: &Book, others: &[Book]) -> Option<bool> {
     let mut book = Book::new(one.version);
     let of = append(&mut book, one);
     let term = stand_in(&mut book, of);
-    let wanted = intersection(&mut book, others);
+    let wanted = joined(&mut book, Kind::And, others);
     book.add(Kind::Annotation, &[term, wanted]);
     is_accepted(&book, 15)
 }
@@ -222,16 +267,25 @@ pub fn are_disjoint(one: &Book, others: &[Book]) -> Option<bool> {
     let mut book = Book::new(one.version);
     let left = append(&mut book, one);
     let left = stand_in(&mut book, left);
-    let right = intersection(&mut book, others);
+    let right = joined(&mut book, Kind::And, others);
     let right = stand_in(&mut book, right);
     book.add(Kind::Merge, &[left, right]);
     is_accepted(&book, 14)
 }
 
-/// The first of several types for which the answer is no, where it is yes for several precisely if it is for each; None if there is none,
+/// Whether closed values may be merged with others.
+pub fn may_be_merged(ones: &[Book], others: &[Book]) -> Option<bool> {
+    let mut book = Book::new(ones.first()?.version);
+    let left = joined(&mut book, Kind::Merge, ones);
+    let right = joined(&mut book, Kind::Merge, others);
+    book.add(Kind::Merge, &[left, right]);
+    is_accepted(&book, 14)
+}
+
+/// The first of several books for which the answer is no, where it is yes for several precisely if it is for each; None if there is none,
 /// or if a question has no answer.
-pub fn first_no(types: &[Book], yes: impl Fn(&[Book]) -> Option<bool>) -> Option<&Book> {
-    let mut left = types;
+pub fn first_no(books: &[Book], yes: impl Fn(&[Book]) -> Option<bool>) -> Option<&Book> {
+    let mut left = books;
     while left.len() > 1 {
         let (first, second) = left.split_at(left.len() / 2);
         left = if yes(first)? { second } else { first };

@@ -51,23 +51,26 @@ fn rows(bytes: &[u8]) -> (Vec<&[u8]>, &[u8], &[u8], u8) {
 /// One line of the table.
 pub fn line(bytes: &[u8], cell: usize) -> Option<String> {
     let (rows, _, _, version) = rows(bytes);
-    let row = rows.get(cell)?;
-    Some(format!("{cell:>5}  {}  {}", hexadecimal(row), described(row, version)))
+    Some(row_line(cell, rows.get(cell)?, version))
+}
+
+fn row_line(cell: usize, row: &[u8], version: u8) -> String {
+    format!("{cell:>5}  {}  {}", hexadecimal(row), described(row, version))
 }
 
 /// The whole table.
 pub fn table(bytes: &[u8]) -> String {
-    let (rows, last, rest, _) = rows(bytes);
+    let (rows, last, rest, version) = rows(bytes);
     let book = Book::read(bytes);
     let reached = book.as_ref().map(Book::reached);
     let mut table = format!("{:>5}  {:23}  {}\n", "cell", "bytes", "what it is");
-    for cell in 0..rows.len() {
+    for (cell, row) in rows.into_iter().enumerate() {
         let note = match (&book, &reached) {
             (Some(book), _) if book.root == cell => ", the root",
             (_, Some(reached)) if !reached[cell] => ", not reached from the root",
             _ => "",
         };
-        writeln!(table, "{}{note}", line(bytes, cell).unwrap_or_default()).ok();
+        writeln!(table, "{}{note}", row_line(cell, row, version)).ok();
     }
     if !last.is_empty() {
         writeln!(table, "{:>5}  {}  {}", "", hexadecimal(last), trailer(last)).ok();

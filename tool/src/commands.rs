@@ -95,7 +95,13 @@ pub fn main(arguments: &[OsString], terminal: &mut Terminal) -> Status {
     let ended = match arguments.first().map(|name| name.to_string_lossy()) {
         None => Err(Failure::Call("a command is wanted".into())),
         Some(name) if ["help", "--help", "-h"].contains(&&*name) => {
-            terminal.print(&usage());
+            let about = arguments.get(1).map(|name| name.to_string_lossy());
+            let command = COMMANDS.iter().find(|command| about.as_deref() == Some(command.name));
+            terminal.print(&command.map_or_else(usage, manual));
+            Ok(Status::Done)
+        }
+        Some(name) if name == "--version" => {
+            terminal.print(concat!("cerealbank ", env!("CARGO_PKG_VERSION"), ", for books of version 1 and 2\n"));
             Ok(Status::Done)
         }
         Some(name) => match COMMANDS.iter().find(|command| command.name == name) {
@@ -155,7 +161,7 @@ fn write_book(file: &OsString, bytes: &[u8]) -> Result<(), Failure> {
 
 fn make(options: &Options, terminal: &mut Terminal) -> Ended {
     let (name, bytes) = read(options.first()).map_err(Failure::File)?;
-    if form_of(&bytes) == Form::Bytes {
+    if form_of(&bytes) == Form::Bytes && !bytes.is_empty() {
         return Err(Failure::File(format!("{name}: this is no text in the notation; `cerealbank show` prints a book")));
     }
     let source = text(name, bytes).map_err(Failure::File)?;
@@ -174,6 +180,9 @@ fn make(options: &Options, terminal: &mut Terminal) -> Ended {
 
 /// Rows 2 to 8 keep a book from being read; a root that is a type, or too large, or without a type, can be shown.
 fn show(options: &Options, terminal: &mut Terminal) -> Ended {
+    if [options.cells, options.dot, options.exact].iter().filter(|&&asked| asked).count() > 1 {
+        return Err(Failure::Call("one of --exact, --cells and --dot is enough".into()));
+    }
     let input = input(options)?;
     if options.cells {
         terminal.print(&table(&input.bytes));
@@ -203,7 +212,7 @@ fn check_book(options: &Options, terminal: &mut Terminal) -> Ended {
         Ok(found) => {
             let lines =
                 Book::read(&found).map_or(vec![], |book| lay_out(&bare_type(&book, &input.labels), "accepted: ".len()).lines);
-            terminal.print(&format!("accepted: {}\n", lines.join("\n")));
+            terminal.print(&format!("accepted: {}\n", lines.join("\n  ")));
             Ok(Status::Done)
         }
         Err(refusal) => Ok(refuse(&input, refusal, terminal)),
@@ -214,6 +223,9 @@ fn run_book(options: &Options, terminal: &mut Terminal) -> Ended {
     let input = input(options)?;
     let limit = options.limit.unwrap_or(LIMIT);
     let traced = if options.trace && !terminal.quiet { trace(&input, limit, terminal) } else { Ok(()) };
+    if !terminal.is_open() && options.output.is_none() {
+        return Ok(Status::Done);
+    }
     let ran = match traced.and_then(|()| ran(&input.bytes, limit, terminal)) {
         Ok(ran) => ran,
         Err(refusal) => return Ok(refuse(&input, refusal, terminal)),
@@ -223,7 +235,7 @@ fn run_book(options: &Options, terminal: &mut Terminal) -> Ended {
     }
     terminal.print(&ending(&ran));
     if let Some(book) = Book::read(&ran.left).filter(|_| !options.trace) {
-        terminal.print(&(term(&book, &input.labels, None).lines.join("\n") + "\n"));
+        terminal.print(&(term(&book, &input.labels, None, 0).lines.join("\n") + "\n"));
     }
     Ok(Status::Done)
 }
@@ -253,8 +265,8 @@ fn ending(ran: &Ran) -> String {
     }
 }
 
-fn term(book: &Book, labels: &Labels, redex: Option<usize>) -> Laid {
-    lay_out(&whole(book, &Names::none(book), labels, redex), 0)
+fn term(book: &Book, labels: &Labels, redex: Option<usize>, lead: usize) -> Laid {
+    lay_out(&whole(book, &Names::none(book), labels, redex), lead)
 }
 
 /// Every term with its number of steps before it.
@@ -262,7 +274,7 @@ fn trace(input: &Input, limit: u32, terminal: &mut Terminal) -> Result<(), Refus
     traced(&input.bytes, limit, |reached| {
         let mut margin = format!("{:>5}  ", reached.steps);
         let mut text = String::new();
-        for line in with_carets(&term(&reached.term, &input.labels, reached.redex)).concat() {
+        for line in with_carets(&term(&reached.term, &input.labels, reached.redex, margin.len())).concat() {
             writeln!(text, "{margin}{line}").ok();
             margin = " ".repeat(margin.len());
         }

@@ -4,10 +4,13 @@ use crate::ask::Refusal;
 use crate::book::Book;
 use crate::labels::Labels;
 use crate::layout::{lay_out, Laid, WIDTH};
-use crate::print::bare_type;
+use crate::names::Names;
+use crate::print::{bare_type, whole};
 
-/// The lines of a type that are shown, at most.
-const TYPE_LINES: usize = 6;
+/// The lines that are shown at either end of a long type.
+const TYPE_ENDS: usize = 3;
+/// What stands within a sentence is shorter than this.
+const SHORT: usize = 60;
 /// The lines about a marked part that are shown, and of a long part those at its ends.
 const CONTEXT: usize = 2;
 /// The columns that stand before a type.
@@ -39,9 +42,10 @@ impl Explanation {
         self
     }
 
-    /// A type; where it was too large to be asked about, that is said.
+    /// A type; where the question was too large to be asked, that is said.
     pub fn with_type(self, heading: &'static str, a_type: Option<&Book>, labels: &Labels) -> Explanation {
-        let lines = a_type.map_or(vec!["too large to be shown".into()], |a_type| lines_of(a_type, labels));
+        let lines =
+            a_type.map_or(vec!["not found: the question is too large for a book".into()], |a_type| lines_of(a_type, labels));
         self.facts(heading, lines)
     }
 
@@ -51,22 +55,29 @@ impl Explanation {
     }
 }
 
-/// A type in the notation, cut if it is long.
+/// A type in the notation; of a long one both ends.
 pub fn lines_of(a_type: &Book, labels: &Labels) -> Vec<String> {
     let mut lines = lay_out(&bare_type(a_type, labels), MARGIN).lines;
-    if lines.len() > TYPE_LINES {
-        lines.truncate(TYPE_LINES - 1);
-        lines.push(format!("... ({} cells in all)", a_type.sizes()[a_type.root]));
+    if lines.len() > 2 * TYPE_ENDS + 1 {
+        let cut = format!("... ({} cells in all)", a_type.sizes()[a_type.root]);
+        lines.splice(TYPE_ENDS..lines.len() - TYPE_ENDS, [cut]);
     }
     lines
 }
 
-/// A type, if it takes one line.
-pub fn short(a_type: &Book, labels: &Labels) -> Option<String> {
-    match &lines_of(a_type, labels)[..] {
-        [one] => Some(one.clone()),
-        _ => None,
-    }
+/// One line, if it is a short one.
+fn short(lines: Vec<String>) -> Option<String> {
+    lines.into_iter().reduce(|_, _| " ".repeat(SHORT)).filter(|line| line.len() < SHORT)
+}
+
+/// A type, if it is short.
+pub fn short_type(a_type: &Book, labels: &Labels) -> Option<String> {
+    short(lines_of(a_type, labels))
+}
+
+/// A term, if it is short.
+pub fn short_term(term: &Book, labels: &Labels) -> Option<String> {
+    short(lay_out(&whole(term, &Names::none(term), labels, None), MARGIN).lines)
 }
 
 /// Every line, its carets below it.

@@ -3,7 +3,6 @@
 use crate::assemble::assemble;
 use crate::labels::Labels;
 use crate::source::{printable, Source, Span};
-use std::collections::HashMap;
 use std::ffi::OsStr;
 use std::fs::File;
 use std::io::{self, Read};
@@ -22,21 +21,16 @@ pub struct Input {
     pub bytes: Vec<u8>,
     pub labels: Labels,
     source: Option<(Source, Vec<Span>)>,
-    variables: HashMap<usize, String>,
 }
 
 impl Input {
     pub fn of_bytes(bytes: Vec<u8>) -> Input {
-        Input { bytes, labels: Labels::default(), source: None, variables: HashMap::new() }
+        Input { bytes, labels: Labels::default(), source: None }
     }
 
-    /// The name that a text gives to the variable of a function or fixpoint.
-    pub fn variable(&self, cell: usize) -> Option<&str> {
-        self.variables.get(&cell).map(String::as_str)
-    }
-
-    pub fn is_text(&self) -> bool {
-        self.source.is_some()
+    /// The text that the book was written as.
+    pub fn source(&self) -> Option<&Source> {
+        self.source.as_ref().map(|(source, _)| source)
     }
 
     /// The stretch of the text that a cell was written as, marked.
@@ -46,12 +40,12 @@ impl Input {
     }
 }
 
-/// What a file holds by its content: a text has no control character but those of lines, and every trailer has a zero.
+/// What a file holds by its content. A book begins with a kind, which is a control character, and its trailer has a zero; a text has neither.
 pub fn form_of(bytes: &[u8]) -> Form {
-    let is_text = |byte: &u8| !byte.is_ascii_control() || matches!(byte, b'\t' | b'\n' | b'\r');
-    match !bytes.is_empty() && bytes.iter().all(is_text) {
-        true => Form::Notation,
-        false => Form::Bytes,
+    let is_control = |byte: &u8| byte.is_ascii_control() && !matches!(byte, b'\t' | b'\n' | b'\r');
+    match bytes.first().is_none_or(is_control) || bytes.contains(&0) {
+        true => Form::Bytes,
+        false => Form::Notation,
     }
 }
 
@@ -87,5 +81,5 @@ pub fn book(file: Option<&OsStr>, form: Option<Form>) -> Result<Input, String> {
     }
     let source = text(name, bytes)?;
     let made = assemble(&source.text, None, false).map_err(|fault| source.complaint(&fault))?;
-    Ok(Input { bytes: made.book.bytes(), labels: made.labels, source: Some((source, made.spans)), variables: made.variables })
+    Ok(Input { bytes: made.book.bytes(), labels: made.labels, source: Some((source, made.spans)) })
 }

@@ -10,8 +10,8 @@ enum Node {
     Text(String),
     /// A space, or the end of a line.
     Break,
-    /// A space, or the end of a line if so much does not fit behind it.
-    BreakBefore(usize),
+    /// These signs, or the end of a line if so much does not fit behind them.
+    BreakBefore(&'static str, usize),
     /// The end of a line.
     End,
     All(Vec<Doc>),
@@ -20,47 +20,61 @@ enum Node {
     Mark(Box<Doc>),
 }
 
-/// What is to be laid out, and its width on one line.
+/// What is to be laid out.
 pub struct Doc {
+    /// Its width on one line.
     width: usize,
+    /// Its width before it may be broken, and whether it may.
+    head: usize,
+    breaks: bool,
     node: Node,
 }
 
 pub fn text(text: impl Into<String>) -> Doc {
     let text = text.into();
-    Doc { width: text.len(), node: Node::Text(text) }
+    Doc { width: text.len(), head: text.len(), breaks: false, node: Node::Text(text) }
+}
+
+fn broken(width: usize, node: Node) -> Doc {
+    Doc { width, head: 0, breaks: true, node }
 }
 
 pub fn line() -> Doc {
-    Doc { width: 1, node: Node::Break }
+    broken(1, Node::Break)
 }
 
-/// A space, or the end of a line if what is to follow does not fit on this one.
-pub fn line_before(next: &Doc) -> Doc {
-    Doc { width: 1, node: Node::BreakBefore(next.width) }
+/// These signs, or the end of a line if what is to follow does not fit on this one.
+pub fn line_before(signs: &'static str, next: &Doc) -> Doc {
+    broken(signs.len(), Node::BreakBefore(signs, next.width))
 }
 
 pub fn end() -> Doc {
-    Doc { width: usize::MAX, node: Node::End }
+    broken(usize::MAX, Node::End)
 }
 
 pub fn all(docs: Vec<Doc>) -> Doc {
     let width = docs.iter().fold(0, |sum: usize, doc| sum.saturating_add(doc.width));
-    Doc { width, node: Node::All(docs) }
+    let unbroken = docs.iter().take_while(|doc| !doc.breaks).count();
+    let head = docs.iter().take(unbroken + 1).fold(0, |sum: usize, doc| sum.saturating_add(doc.head));
+    Doc { width, head, breaks: unbroken < docs.len(), node: Node::All(docs) }
+}
+
+fn about(doc: Doc, node: fn(Box<Doc>) -> Node) -> Doc {
+    Doc { width: doc.width, head: doc.head, breaks: doc.breaks, node: node(Box::new(doc)) }
 }
 
 /// Its lines but the first are indented.
 pub fn nest(doc: Doc) -> Doc {
-    Doc { width: doc.width, node: Node::Nest(Box::new(doc)) }
+    about(doc, Node::Nest)
 }
 
 /// On one line if it fits there, else broken wherever it may be.
 pub fn group(doc: Doc) -> Doc {
-    Doc { width: doc.width, node: Node::Group(Box::new(doc)) }
+    about(doc, Node::Group)
 }
 
 pub fn mark(doc: Doc) -> Doc {
-    Doc { width: doc.width, node: Node::Mark(Box::new(doc)) }
+    about(doc, Node::Mark)
 }
 
 /// Lines, and the columns that are marked, at most one stretch a line.
@@ -79,6 +93,8 @@ enum Task<'a> {
 struct Layout {
     laid: Laid,
     line: String,
+    /// The columns that stand in front of every line.
+    lead: usize,
     mark: Option<usize>,
     seen: Option<(usize, usize)>,
 }
@@ -101,11 +117,28 @@ impl Layout {
             self.mark = Some(0);
         }
     }
+
+    fn has_room(&self, width: usize) -> bool {
+        (self.lead + self.line.len()).saturating_add(width) <= WIDTH
+    }
 }
 
-/// Lays out; the first line has this many columns in front of it.
+/// The width of what follows before it may be broken.
+fn following(tasks: &[Task]) -> usize {
+    let mut width: usize = 0;
+    for task in tasks.iter().rev().take(WIDTH) {
+        let Task::Lay(doc, _, flat) = task else { continue };
+        width = width.saturating_add(if *flat { doc.width } else { doc.head });
+        if doc.breaks && !flat {
+            break;
+        }
+    }
+    width
+}
+
+/// Lays out; every line has so many columns in front of it.
 pub fn lay_out(doc: &Doc, lead: usize) -> Laid {
-    let mut layout = Layout::default();
+    let mut layout = Layout { lead, ..Layout::default() };
     let mut tasks = vec![Task::Lay(doc, 0, false)];
     while let Some(task) = tasks.pop() {
         let Task::Lay(doc, indent, flat) = task else {
@@ -116,15 +149,15 @@ pub fn lay_out(doc: &Doc, lead: usize) -> Laid {
         match &doc.node {
             Node::Text(text) => layout.line.push_str(text),
             Node::Break if flat => layout.line.push(' '),
-            Node::BreakBefore(next) if flat || (lead + layout.line.len()).saturating_add(next + 1) <= WIDTH => {
-                layout.line.push(' ')
+            Node::BreakBefore(signs, next) if flat || layout.has_room(signs.len().saturating_add(*next)) => {
+                layout.line.push_str(signs)
             }
-            Node::Break | Node::BreakBefore(_) | Node::End => layout.finish(indent),
+            Node::Break | Node::BreakBefore(..) | Node::End => layout.finish(indent),
             Node::All(docs) => tasks.extend(docs.iter().rev().map(|doc| Task::Lay(doc, indent, flat))),
             Node::Nest(inner) => tasks.push(Task::Lay(inner, (indent + INDENT).min(DEEPEST_INDENT), flat)),
             Node::Group(inner) => {
-                let room = WIDTH.saturating_sub(lead + layout.line.len());
-                tasks.push(Task::Lay(inner, indent, flat || doc.width <= room));
+                let flat = flat || layout.has_room(doc.width.saturating_add(following(&tasks)));
+                tasks.push(Task::Lay(inner, indent, flat));
             }
             Node::Mark(inner) => {
                 layout.mark = Some(layout.line.len());

@@ -90,7 +90,7 @@ fn blank(text: &str) -> usize {
         if !rest.starts_with("--") {
             return text.len() - rest.len();
         }
-        rest = &rest[rest.find('\n').unwrap_or(rest.len())..];
+        rest = &rest[rest.find(['\n', '\r']).unwrap_or(rest.len())..];
     }
 }
 
@@ -104,7 +104,7 @@ fn word(text: &str) -> Result<(Token<'_>, usize), &'static str> {
         b'0'..=b'9' => digits(0),
         b'-' | b'#' => digits(1),
         byte if is_inner(byte) => length(text, is_inner),
-        b',' => return Err("a merge is written with two commas; two fields are two records merged, {1 = 2} ,, {3 = 4}"),
+        b',' => return Err("there is no single comma: a merge is a ,, b, two fields are {1 = 2} ,, {3 = 4}, two arguments f 1 2"),
         0x80.. => return Err("this sign is not ASCII, and outside a comment the notation is"),
         _ => return Err("this sign is none of the notation's"),
     };

@@ -2,6 +2,7 @@
 
 use crate::input::Form;
 use std::ffi::{OsStr, OsString};
+use std::os::unix::ffi::OsStrExt;
 
 /// What a command was asked for.
 #[derive(Default)]
@@ -101,15 +102,23 @@ pub fn options(arguments: &[OsString], flags: &[&str], most: usize) -> Result<Op
         } else if text == "--" {
             only_names = true;
         } else {
-            set(&mut options, &text, flags, &mut left)?;
+            set(&mut options, argument, flags, &mut left)?;
         }
     }
     Ok(options)
 }
 
 /// Sets a flag, its value behind `=` or the next argument.
-fn set<'a>(options: &mut Options, text: &str, flags: &[&str], left: &mut impl Iterator<Item = &'a OsString>) -> Result<(), String> {
-    let (name, value) = text.split_once('=').map_or((text, None), |(name, value)| (name, Some(OsString::from(value))));
+fn set<'a>(
+    options: &mut Options,
+    argument: &OsStr,
+    flags: &[&str],
+    left: &mut impl Iterator<Item = &'a OsString>,
+) -> Result<(), String> {
+    let bytes = argument.as_bytes();
+    let end = bytes.iter().position(|&byte| byte == b'=').unwrap_or(bytes.len());
+    let name = &*String::from_utf8_lossy(&bytes[..end]);
+    let value = bytes.get(end + 1..).map(|value| OsStr::from_bytes(value).to_owned());
     let known = FLAGS.iter().find(|flag| flag.name == name && (flags.contains(&name) || name == "--help"));
     let help = known.map_or("", |flag| flag.help);
     match (known.map(|flag| &flag.set), value) {

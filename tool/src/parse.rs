@@ -8,6 +8,10 @@ use crate::source::{Fault, Span};
 
 /// How deep brackets and the like may be nested. A book is at most 4,095 deep.
 pub const DEEPEST: usize = 10_000;
+/// How many names `let` and `type` may give. A book has at most 4,095 parts to be named.
+pub const MOST_NAMES: usize = 10_000;
+/// The most characters of a name that an error repeats.
+const SHOWN: usize = 40;
 
 /// What a node of the tree is.
 #[derive(Clone, Copy, Debug)]
@@ -18,6 +22,8 @@ pub enum Form {
     Bound(usize),
     /// A named part, laid down first, and what it is named in.
     Let(usize, usize),
+    /// A named part where its name stands.
+    Use(usize),
 }
 
 pub struct Node {
@@ -106,10 +112,12 @@ impl<'a> Parser<'a> {
     }
 
     fn want(&mut self, token: Token, what: &str) -> Result<(), Fault> {
-        if self.eat(token) {
-            Ok(())
-        } else {
-            Err(self.unexpected(what))
+        match self.eat(token) {
+            true => Ok(()),
+            false if self.token() == Token::Colon && matches!(token, Token::Word(_)) => {
+                Err(Fault::new(self.place(), "an annotation needs brackets here"))
+            }
+            false => Err(self.unexpected(what)),
         }
     }
 
@@ -134,7 +142,8 @@ impl<'a> Parser<'a> {
 
     /// A number between two ends.
     fn number(&mut self, digits: &str, low: i64, high: i64, what: &str) -> Result<i64, Fault> {
-        let fits = digits.parse().ok().filter(|number| (low..=high).contains(number));
+        let signed = low >= 0 && digits.starts_with('-');
+        let fits = digits.parse().ok().filter(|number| (low..=high).contains(number) && !signed);
         let number = fits.ok_or_else(|| Fault::new(self.place(), format!("{what} is a number from {low} to {high}")))?;
         self.advance();
         Ok(number)
@@ -189,9 +198,9 @@ impl<'a> Parser<'a> {
             Token::Number(digits) => self.number(digits, 0, 255, "a label"),
             Token::Name(name) if by_name => {
                 let found = self.tree.labels.0.iter().find(|(other, _)| other == name).map(|&(_, number)| number);
-                let number = found.ok_or_else(|| {
-                    Fault::new(self.place(), format!("no label has this name: write `label {name} = N` at the top"))
-                })?;
+                let shown: String = name.chars().take(SHOWN).collect();
+                let message = format!("no label has this name: write `label {shown} = N` at the top");
+                let number = found.ok_or_else(|| Fault::new(self.place(), message))?;
                 self.advance();
                 Ok(number)
             }
@@ -202,10 +211,11 @@ impl<'a> Parser<'a> {
     fn add(&mut self, form: Form, at: Span, binder: usize) -> Read {
         let outermost = match form {
             Form::Bound(binder) => binder,
+            Form::Use(part) => self.outermost(&[part]),
             Form::Let(part, body) => self.outermost(&[part, body]),
             Form::Part(part) => self.outermost(part.children()),
         };
-        self.parts += usize::from(!matches!(form, Form::Let(..)));
+        self.parts += usize::from(!matches!(form, Form::Let(..) | Form::Use(_)));
         if self.parts > MOST_CELLS {
             return Err(Fault::new(at, format!("with this the text has more than {MOST_CELLS} cells, even before any are shared")));
         }
@@ -225,14 +235,12 @@ impl<'a> Parser<'a> {
 
     fn deeper(&mut self) -> Result<(), Fault> {
         self.depth += 1;
-        // The whole text is one.
-        let within = self.depth <= DEEPEST + 1;
+        let within = self.depth <= DEEPEST;
         within.then_some(()).ok_or_else(|| Fault::new(self.place(), format!("this is nested more than {DEEPEST} deep")))
     }
 
     /// Whatever may stand between brackets; as the whole text, a type too.
     fn whole(&mut self, outermost: bool) -> Read {
-        self.deeper()?;
         let (from, scope) = (self.place().0, self.scope());
         let named = self.definitions()?;
         let root = match self.token() {
@@ -242,7 +250,6 @@ impl<'a> Parser<'a> {
             }
             _ => self.annotated()?,
         };
-        self.depth -= 1;
         self.within(from, scope, named, root)
     }
 
@@ -271,6 +278,9 @@ impl<'a> Parser<'a> {
             let open = self.tree.nodes[part].outermost != usize::MAX;
             self.tree.named.push((part, open));
             named.push(part);
+            if self.tree.named.len() > MOST_NAMES {
+                return Err(Fault::new(self.place(), format!("there are more than {MOST_NAMES} names before this")));
+            }
         }
     }
 
@@ -282,10 +292,12 @@ impl<'a> Parser<'a> {
         self.advance();
         let name = self.name("a part")?;
         self.want(Token::Equals, "=")?;
+        self.deeper()?;
         self.unfinished.push(name);
         let part = self.whole(false)?;
         self.want(Token::Word(Word::In), "`in`")?;
         self.unfinished.pop();
+        self.depth -= 1;
         self.terms.push((name, Meaning::Part(part)));
         Ok(part)
     }
@@ -306,6 +318,9 @@ impl<'a> Parser<'a> {
         while self.eat(Token::Colon) {
             let wanted = self.function_type()?;
             term = self.part(from, Kind::Annotation, 0, &[term, wanted])?;
+            if matches!(self.token(), Token::Merge | Token::Plus | Token::Dot) || self.begins_operand() {
+                return Err(Fault::new(self.place(), "an annotation holds loosest: before this it needs brackets"));
+            }
         }
         Ok(term)
     }
@@ -412,7 +427,8 @@ impl<'a> Parser<'a> {
             let argument = self.read()?;
             function = self.part(from, Kind::Application, 0, &[function, argument])?;
         }
-        if matches!(self.token(), Token::Lambda | Token::Word(Word::Fix | Word::If | Word::Let)) {
+        let is_name = matches!(self.token(), Token::Word(Word::Type)) && self.defines();
+        if is_name || matches!(self.token(), Token::Lambda | Token::Word(Word::Fix | Word::If | Word::Let)) {
             return Err(Fault::new(self.place(), "behind a term this needs brackets, or a sign between them"));
         }
         Ok(function)
@@ -466,42 +482,47 @@ impl<'a> Parser<'a> {
         let found = self.terms.iter().rev().find(|(other, _)| *other == name).map(|&(_, meaning)| meaning);
         self.advance();
         match found {
-            Some(Meaning::Part(part)) => Ok(part),
+            Some(Meaning::Part(part)) => self.add(Form::Use(part), at, 0),
             Some(Meaning::Variable(binder)) => self.add(Form::Bound(binder), at, 0),
             None if self.unfinished.contains(&name) => {
-                Err(Fault::new(at, "this name is being given here: `in` is missing before it"))
+                Err(Fault::new(at, "a `let` cannot use its own name: `in` is missing before it, or `fix` is meant"))
             }
             None => Err(Fault::new(at, "nothing here has this name: no function, fixpoint or `let` around it binds it")),
         }
     }
 
     fn bracketed(&mut self) -> Read {
+        self.deeper()?;
         self.advance();
         let term = self.whole(false)?;
         self.want(Token::Close, "`)`")?;
+        self.depth -= 1;
         Ok(term)
     }
 
     fn record(&mut self) -> Read {
         let from = self.place().0;
+        self.deeper()?;
         self.advance();
         let label = self.label(true)?;
         self.want(Token::Equals, "`=` and the field's content")?;
         let content = self.whole(false)?;
         self.want(Token::CloseBrace, "`}`")?;
+        self.depth -= 1;
         self.part(from, Kind::Record, label, &[content])
     }
 
     fn function_type(&mut self) -> Read {
-        self.deeper()?;
         let from = self.place().0;
-        let mut read = self.intersection()?;
-        if self.eat(Token::Arrow) {
-            let output = self.function_type()?;
-            read = self.part(from, Kind::Arrow, 0, &[read, output])?;
+        let read = self.intersection()?;
+        if self.token() != Token::Arrow {
+            return Ok(read);
         }
+        self.deeper()?;
+        self.advance();
+        let output = self.function_type()?;
         self.depth -= 1;
-        Ok(read)
+        self.part(from, Kind::Arrow, 0, &[read, output])
     }
 
     fn intersection(&mut self) -> Read {
@@ -515,29 +536,47 @@ impl<'a> Parser<'a> {
     }
 
     fn type_atom(&mut self) -> Read {
-        let (from, token) = (self.place().0, self.token());
-        self.advance();
-        match token {
-            Token::Word(Word::Int) => self.part(from, Kind::Int, 0, &[]),
-            Token::Word(Word::Top) => self.part(from, Kind::Top, 0, &[]),
+        let from = self.place().0;
+        match self.token() {
+            Token::Word(Word::Int) => {
+                self.advance();
+                self.part(from, Kind::Int, 0, &[])
+            }
+            Token::Word(Word::Top) => {
+                self.advance();
+                self.part(from, Kind::Top, 0, &[])
+            }
             Token::Name(name) => self.type_named(name),
-            Token::Open => {
-                let read = self.function_type()?;
-                self.want(Token::Close, "`)`")?;
-                Ok(read)
-            }
-            Token::OpenBrace => self.record_type(from),
-            _ => {
-                self.next -= usize::from(token != Token::End);
-                Err(self.unexpected("a type"))
-            }
+            Token::Open | Token::OpenBrace => self.bracketed_type(),
+            _ => Err(self.unexpected("a type")),
         }
     }
 
     fn type_named(&mut self, name: &str) -> Read {
+        let at = self.place();
         let found = self.types.iter().rev().find(|(other, _)| *other == name).map(|&(_, part)| part);
-        found
-            .ok_or_else(|| Fault::new(self.words[self.next - 1].1, "no type has this name: Int, Top and those that a `type` names"))
+        let part = found.ok_or_else(|| Fault::new(at, "no type has this name: Int, Top and those that a `type` names"))?;
+        self.advance();
+        self.add(Form::Use(part), at, 0)
+    }
+
+    /// A type in brackets, or a record type.
+    fn bracketed_type(&mut self) -> Read {
+        let from = self.place().0;
+        self.deeper()?;
+        let read = match self.eat(Token::Open) {
+            true => {
+                let read = self.function_type()?;
+                self.want(Token::Close, "`)`")?;
+                read
+            }
+            false => {
+                self.advance();
+                self.record_type(from)?
+            }
+        };
+        self.depth -= 1;
+        Ok(read)
     }
 
     fn record_type(&mut self, from: usize) -> Read {

@@ -76,7 +76,9 @@ impl Printer<'_> {
             Sort::Type => ("type", self.type_itself(at, TypeHold::Arrow)),
             Sort::Term => ("let", self.itself(at, Hold::Annotation)),
         };
-        all(vec![text(format!("{word} {} = ", name(self.book, at))), nest(part), text(" in")])
+        let head = text(format!("{word} {} =", name(self.book, at)));
+        let gap = if self.gives_names(at) { end() } else { text(" ") };
+        all(vec![head, nest(all(vec![gap, part])), text(" in")])
     }
 
     fn marked(&self, at: usize, doc: Doc) -> Doc {
@@ -144,7 +146,8 @@ impl Printer<'_> {
             Kind::Sum => group(self.row(at, "+ ", Hold::Sum, Hold::Application)),
             Kind::Choice => self.choice(a, b, c),
             Kind::Record => {
-                all(vec![text(format!("{{{} = ", self.labels.shown(part.datum))), nest(self.term(a, Hold::Annotation)), text("}")])
+                let content = self.term(a, Hold::Annotation);
+                self.braced(part.datum, "=", content)
             }
             Kind::Read => self.read(a, part.datum),
             _ => text("T"),
@@ -161,7 +164,7 @@ impl Printer<'_> {
         let chained = self.hold(term) == Hold::Annotation && !self.gives_names(term);
         let left = self.term(term, if chained { Hold::Annotation } else { Hold::Sum });
         let annotation = all(vec![text(": "), self.a_type(wanted, TypeHold::Arrow)]);
-        all(vec![left, nest(all(vec![line_before(&annotation), annotation]))])
+        all(vec![left, nest(all(vec![line_before(" ", &annotation), annotation]))])
     }
 
     /// Merges, or sums, in a row: broken all or nowhere.
@@ -176,11 +179,18 @@ impl Printer<'_> {
         all(vec![first, line(), text(sign), nest(self.term(b, right))])
     }
 
+    /// A record or a record type.
+    fn braced(&self, label: i64, sign: &str, content: Doc) -> Doc {
+        let head = text(format!("{{{} {sign}", self.labels.shown(label)));
+        group(all(vec![head, nest(all(vec![line(), content])), text("}")]))
+    }
+
     fn read(&mut self, from: usize, label: i64) -> Doc {
         let is_number = self.book.parts[from].kind == Kind::Number && !self.names.is_named(from);
         let term = self.term(from, Hold::Read);
         let whole = if is_number { vec![text("("), term, text(")")] } else { vec![term] };
-        all(vec![all(whole), text(format!(".{}", self.labels.shown(label)))])
+        let read = text(format!(".{}", self.labels.shown(label)));
+        all(vec![all(whole), nest(all(vec![line_before("", &read), read]))])
     }
 
     fn bound(&mut self, kind: Kind, of: usize, body: usize, within: Hold) -> (Doc, Doc) {
@@ -225,8 +235,8 @@ impl Printer<'_> {
             Kind::Arrow => (TypeHold::Arrow, self.arrow(a, b)),
             Kind::And => (TypeHold::And, group(self.intersection(at))),
             Kind::RecordType => {
-                let content = nest(self.a_type(a, TypeHold::Arrow));
-                (TypeHold::Atom, all(vec![text(format!("{{{} : ", self.labels.shown(part.datum))), content, text("}")]))
+                let content = self.a_type(a, TypeHold::Arrow);
+                (TypeHold::Atom, self.braced(part.datum, ":", content))
             }
             Kind::Int => (TypeHold::Atom, text("Int")),
             _ => (TypeHold::Atom, text("Top")),

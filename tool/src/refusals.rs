@@ -23,10 +23,10 @@ pub fn explained(input: &Input, refusal: Refusal) -> Explanation {
 
 fn of_file(bytes: &[u8], number: u8) -> Explanation {
     let last = &bytes[bytes.len().saturating_sub(CELL)..];
-    let more = if bytes.len() as u64 == MOST_BYTES { " or more" } else { "" };
     match number {
         2 => Explanation::says("the file is no whole book")
-            .fact("length", format!("{} bytes{more}; a book has a multiple of 8, from 16 to 32768", bytes.len()))
+            .fact("length", length(bytes))
+            .fact("a book", "a multiple of 8 bytes, from 16 to 32768")
             .helps("Compare the length with the one that was sent, and send the file again as it is. A book that is too long must be written with fewer cells."),
         3 => Explanation::says("the last 8 bytes are no trailer of version 1 or 2")
             .fact("last bytes", hexadecimal(last))
@@ -34,8 +34,21 @@ fn of_file(bytes: &[u8], number: u8) -> Explanation {
             .helps("Send the whole file again: its end is missing, or something was added, or it is no book, or it is one of another version."),
         _ => Explanation::says("the trailer does not fit the cells before it")
             .fact("last bytes", format!("{}  {}", hexadecimal(last), trailer(last)))
-            .fact("cells", (bytes.len() / CELL).saturating_sub(1).to_string())
+            .fact("cells", match (bytes.len() / CELL).saturating_sub(1) {
+                1 => "1, number 0".into(),
+                count => format!("{count}, numbers 0 to {}", count.saturating_sub(1)),
+            })
             .helps("Count the cells again, the trailer is none; the root is a cell's number, from 0 on. If the trailer is right, cells were lost or added."),
+    }
+}
+
+/// How long a file is, and how far past a multiple of 8.
+fn length(bytes: &[u8]) -> String {
+    let count = bytes.len();
+    match count % CELL {
+        _ if count as u64 == MOST_BYTES => format!("{count} bytes or more"),
+        0 => format!("{count} bytes"),
+        past => format!("{count} bytes, which is {} and {past}", count - past),
     }
 }
 
@@ -80,11 +93,14 @@ fn unused(kind: &Row, row: &[u8], bytes: &[u8]) -> Vec<String> {
 
 /// The references that are not lower than their cell, or lead to the other sort.
 fn references(kind: &Row, row: &[u8], cell: usize, bytes: &[u8], number: u8) -> Vec<String> {
+    let cells = (bytes.len() / CELL).saturating_sub(1);
     let sort_of = |other: usize| bytes.get(CELL * other).and_then(|&code| known(code)).map(|kind| kind.sort);
     let named = kind.references.iter().enumerate().map(|(place, &(sort, name))| (name, sort, field(row, place)));
     let is_wrong = |&(_, sort, other): &(&str, Sort, usize)| if number == 7 { other >= cell } else { sort_of(other) != Some(sort) };
     let said = |(name, sort, other): (&str, Sort, usize)| match (number, sort) {
-        (7, _) => format!("{name}: cell {other}"),
+        (7, _) if other == cell => format!("{name}: cell {other}, which is itself"),
+        (7, _) if other < cells => format!("{name}: cell {other}, a later one"),
+        (7, _) => format!("{name}: cell {other}, past the end"),
         (_, Sort::Type) => format!("{name}: cell {other}, a term where a type is wanted"),
         (_, Sort::Term) => format!("{name}: cell {other}, a type where a term is wanted"),
     };
@@ -97,7 +113,7 @@ fn of_root(input: &Input, Refusal { number, cell }: Refusal) -> Explanation {
     let place = input.source_of(cell).map_or(vec![], |marked| marked.lines().map(str::to_owned).collect());
     if number == 9 {
         let opened = book.as_ref().and_then(Book::opened).map(|opened| opened.book);
-        let help = match input.is_text() {
+        let help = match input.source().is_some() {
             true => "Write a term: `type A` alone is a book's type, and no book to be sent.",
             false => "Set the trailer's root to the cell of a term. What a check leaves is a type, and no book to be sent.",
         };

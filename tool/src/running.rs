@@ -1,7 +1,8 @@
 //! Runs: whole ones, watched ones, and one step after the other. The library takes every step.
 
 use crate::ask::{run, Ran, Refusal, Stop};
-use crate::book::{Book, CELL};
+use crate::book::{Book, Part, CELL};
+use std::collections::HashMap;
 use std::time::{Duration, Instant};
 
 /// A watched run is asked for in parts that take about this long.
@@ -51,18 +52,24 @@ pub fn traced(book: &[u8], limit: u32, mut tell: impl FnMut(&Reached) -> bool) -
 /// The cell at which two terms, one a step after the other, begin to differ. A step changes the kind of what it steps, and nothing else:
 /// the way goes to the one child that differs until the kinds do.
 fn changed(before: &Book, after: &Book) -> usize {
+    let mut trees = HashMap::new();
+    let [ones, others] = [before, after].map(|book| numbered(book, &mut trees));
     let (mut one, mut other) = (before.root, after.root);
     loop {
         let (part, now) = (before.parts[one], after.parts[other]);
         let children = part.children().iter().zip(now.children());
-        let differing = children.filter(|_| part.kind == now.kind).find(|(&a, &b)| !same(before, a, after, b));
+        let differing = children.filter(|_| part.kind == now.kind).find(|(&a, &b)| ones[a] != others[b]);
         let Some((&a, &b)) = differing else { return one };
         (one, other) = (a, b);
     }
 }
 
-fn same(one: &Book, a: usize, other: &Book, b: usize) -> bool {
-    let (part, now) = (one.parts[a], other.parts[b]);
-    let alike = part.kind == now.kind && part.datum == now.datum;
-    alike && part.children().iter().zip(now.children()).all(|(&a, &b)| same(one, a, other, b))
+/// A number for each cell: the same for the same tree, in every book that the trees were numbered of.
+fn numbered(book: &Book, trees: &mut HashMap<Part, usize>) -> Vec<usize> {
+    let mut numbers: Vec<usize> = Vec::with_capacity(book.parts.len());
+    for part in &book.parts {
+        let next = trees.len();
+        numbers.push(*trees.entry(part.moved(|child| numbers[child])).or_insert(next));
+    }
+    numbers
 }

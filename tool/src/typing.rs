@@ -1,146 +1,245 @@
-//! The refusals of the typing rules, 11 to 15, in words. The library says which part is meant and every type that is shown.
+//! The refusals of the typing rules, 11 to 15, in words. The library says which part is meant, and every type and every conflict that is shown.
 
-use crate::ask::{are_disjoint, check, first_no, is_below, parts, run, Refusal, Stop, Term};
+use crate::ask::{are_disjoint, check, first_no, is_below, may_be_merged, parts, run, top, Refusal, Stop, Term};
+use crate::assemble::{opened, Assembled};
 use crate::book::Book;
-use crate::explanation::{excerpt, lines_of, short, Explanation};
+use crate::explanation::{excerpt, lines_of, short_term, short_type, Explanation};
 use crate::input::Input;
 use crate::kinds::Kind;
 use crate::labels::Labels;
 use crate::layout::lay_out;
 use crate::names::Names;
 use crate::print::{variable, whole};
+use crate::source::Source;
+
+/// The most binders that are named.
+const BINDERS: usize = 8;
 
 /// The library is asked about the book with nothing shared, so that the cell that it names is one place.
 pub fn of_term(input: &Input, refusal: Refusal) -> Explanation {
-    let opened = Book::read(&input.bytes).and_then(|book| book.opened());
-    let place = opened.as_ref().and_then(|opened| check(&opened.book.bytes()).err());
-    let (Some(opened), Some(Refusal { cell, .. })) = (opened, place) else {
+    let book = Book::read(&input.bytes).and_then(|book| book.opened()).map(|opened| opened.book);
+    let place = book.as_ref().and_then(|book| check(&book.bytes()).err());
+    let (Some(book), Some(Refusal { cell, .. })) = (book, place) else {
         return Explanation::says("a part of it has no type");
     };
-    let term = Term::new(opened.book);
+    let term = Term::new(book);
     let labels = &input.labels;
+    let written = input.source().and_then(|source| opened(&source.text, None).ok()).filter(|written| written.book == term.book);
     let explanation = match refusal.number {
-        11 => of_variable(&term, cell, |binder| input.variable(opened.of[binder])),
+        11 => of_variable(&term, cell, |binder| written.as_ref()?.variables.get(&binder).cloned()),
         12 => of_application(&term, cell, labels),
         13 => of_read(&term, cell, labels),
         14 => of_merge(&term, cell, labels),
         _ => of_checked(&term, cell, labels),
     };
-    let place = match input.source_of(refusal.cell) {
-        Some(marked) => marked.lines().map(str::to_owned).collect(),
-        None => excerpt(&lay_out(&whole(&term.book, &Names::none(&term.book), labels, Some(cell)), 2)),
+    let place = match (input.source(), &written) {
+        (Some(source), Some(written)) => where_written(source, written, cell),
+        _ => excerpt(&lay_out(&whole(&term.book, &Names::none(&term.book), labels, Some(cell)), 2)),
     };
     Explanation { place, ..explanation }
 }
 
-fn of_variable<'a>(term: &Term, at: usize, name: impl Fn(usize) -> Option<&'a str>) -> Explanation {
-    let binders: Vec<usize> = term.binders(at).into_iter().rev().collect();
-    let kinds: Vec<Kind> = binders.iter().map(|&binder| term.book.parts[binder].kind).collect();
-    let named = |(place, &binder): (usize, &usize)| name(binder).map_or_else(|| variable(&kinds, place), str::to_owned);
-    let names: Vec<String> = binders.iter().enumerate().map(named).collect();
-    let around = if names.is_empty() { "none".into() } else { format!("{}, of {}", names.len(), names.join(", ")) };
+/// The stretch of the text, and where its name is used if it is inside a named part.
+fn where_written(source: &Source, written: &Assembled, cell: usize) -> Vec<String> {
+    let used = written.used[cell].map(|used| format!("used at {}", source.marked(used)));
+    let marked = source.marked(written.spans[cell]) + used.as_deref().unwrap_or("");
+    marked.lines().map(str::to_owned).collect()
+}
+
+fn of_variable(term: &Term, at: usize, name: impl Fn(usize) -> Option<String>) -> Explanation {
+    let binders = term.binders(at);
+    let kinds: Vec<Kind> = binders.iter().rev().map(|&binder| term.book.parts[binder].kind).collect();
+    let named = |(place, &binder): (usize, &usize)| name(binder).unwrap_or_else(|| variable(&kinds, kinds.len() - 1 - place));
+    let mut names: Vec<String> = binders.iter().enumerate().take(BINDERS).map(named).collect();
+    if binders.len() > BINDERS {
+        names.push("...".into());
+    }
+    let around = if names.is_empty() { "none".into() } else { format!("{}, from the inside {}", binders.len(), names.join(", ")) };
     Explanation::says("this variable has no binder")
         .fact("binders it skips", term.book.parts[at].datum.to_string())
         .fact("binders around it", around)
         .helps("Count the functions and fixpoints around it from the inside: the innermost is 0. In the notation, write the name that is bound.")
 }
 
+fn root(book: &Book) -> (Kind, i64) {
+    (book.parts[book.root].kind, book.parts[book.root].datum)
+}
+
+/// What a record type has in its field, what a function type has as its input; any other type itself.
+fn content(book: &Book) -> Book {
+    let part = book.parts[book.root];
+    let at = part.children().first().copied().unwrap_or(book.root);
+    Book { root: at, ..book.clone() }.shared().book
+}
+
 fn of_application(term: &Term, at: usize, labels: &Labels) -> Explanation {
     let [function, argument, _] = term.book.parts[at].references;
     let found = term.type_of(function);
-    let parts = found.as_ref().map_or(vec![], parts);
+    let parts_found = found.as_ref().map_or(vec![], parts);
+    let is_function = |part: &Book| root(part).0 == Kind::Arrow;
+    let in_field = |part: &Book| root(part).0 == Kind::RecordType && parts(&content(part)).iter().any(is_function);
     let subtracts = term.book.parts[argument].kind == Kind::Number && term.book.parts[argument].datum < 0;
-    let help = match parts.iter().find(|part| part.parts[part.root].kind == Kind::Arrow) {
-        Some(function) => {
-            let meant = short(function, labels).unwrap_or("the function type that is meant".into());
+    let help = match (parts_found.iter().find(|part| is_function(part)), parts_found.iter().find(|part| in_field(part))) {
+        (Some(function), _) => {
+            let meant = short_type(function, labels).unwrap_or("the function type that is meant".into());
             format!("There is a function in it: annotate it before it is applied, as in (... : {meant}).")
         }
-        None if subtracts => "There is no subtraction: write + before the minus.".into(),
-        None => "Apply a function. If function and argument are swapped, swap them.".into(),
+        (_, Some(record)) => {
+            format!("There is a function in field {0}: read it first, as in (...).{0}", labels.shown(root(record).1))
+        }
+        _ if subtracts => "There is no subtraction: write + before the minus.".into(),
+        _ => "Apply a function. If function and argument are swapped, swap them.".into(),
     };
-    Explanation::says("what is applied here is no function").with_type("its type", found.as_ref(), labels).helps(help)
+    Explanation::says("what is applied here is no function").with_type("applied is", found.as_ref(), labels).helps(help)
 }
 
 fn of_read(term: &Term, at: usize, labels: &Labels) -> Explanation {
     let part = term.book.parts[at];
     let found = term.type_of(part.references[0]);
-    let is_record = |part: &Book| part.parts[part.root].kind == Kind::RecordType;
-    let records: Vec<Book> = found.as_ref().map_or(vec![], parts).into_iter().filter(is_record).collect();
-    let label = |record: &Book| record.parts[record.root].datum;
+    let records: Vec<Book> =
+        found.as_ref().map_or(vec![], parts).into_iter().filter(|part| root(part).0 == Kind::RecordType).collect();
     let field = labels.shown(part.datum);
-    let (sentence, help) = match records.iter().find(|record| label(record) == part.datum) {
+    let missing = format!("there is no field {field} here to read");
+    let shows_something = |record: &&Book| is_below(&top(term.book.version), std::slice::from_ref(record)) == Some(false);
+    let (sentence, help) = match records.iter().filter(|record| root(record).1 == part.datum).find(shows_something) {
         Some(record) => {
-            let meant = short(record, labels).unwrap_or("the record type that is meant".into());
+            let meant = short_type(record, labels).unwrap_or("the record type that is meant".into());
             let help = format!("Annotate what is read from, as in (... : {meant}), or take one of them out.");
             (format!("field {field} is there more than once"), help)
         }
-        None if found.is_none() => (format!("field {field} is not there, or more than once"), "Compare the label.".into()),
-        None if records.is_empty() => (format!("there is no field {field} here to read"), "Read from a record.".into()),
+        None if records.is_empty() => (missing, no_fields(found.as_ref()).into()),
         None => {
-            let mut others: Vec<String> = records.iter().map(|record| labels.shown(label(record))).collect();
-            others.sort();
+            let mut others: Vec<i64> = records.iter().map(|record| root(record).1).collect();
+            others.sort_unstable();
             others.dedup();
-            (format!("there is no field {field} here to read"), format!("Compare the label: there is {}.", others.join(", ")))
+            let others: Vec<String> = others.into_iter().map(|label| labels.shown(label)).collect();
+            (missing, format!("Compare the label: there is {}.", others.join(", ")))
         }
     };
     Explanation::says(sentence).with_type("read from", found.as_ref(), labels).helps(help)
 }
 
+fn no_fields(found: Option<&Book>) -> &'static str {
+    match found.map(|found| root(found).0) {
+        Some(Kind::Int) => "It is a number, which has no fields.",
+        Some(Kind::Arrow) => "It is a function, which has no fields: apply it first.",
+        _ => "Read from a record.",
+    }
+}
+
+/// Why a half need not agree with the other.
+#[derive(Clone, Copy, PartialEq, Eq)]
+enum Reason {
+    /// It uses a variable of a binder around the merge.
+    Outside,
+    /// It is no value yet, as a run of no steps says.
+    NoValue,
+}
+
+fn reason(term: &Term, half: usize) -> Option<Reason> {
+    if term.uses_binder(half) {
+        return Some(Reason::Outside);
+    }
+    let stop = run(&term.part(half).bytes(), 0).ok()?.stop;
+    (stop != Stop::Value).then_some(Reason::NoValue)
+}
+
 fn of_merge(term: &Term, at: usize, labels: &Labels) -> Explanation {
     let [left, right, _] = term.book.parts[at].references;
     let [one, other] = [left, right].map(|half| term.type_of(half));
-    let overlap = one.as_ref().zip(other.as_ref()).and_then(|(one, other)| overlap(one, other, labels));
-    let explanation = Explanation::says("the two halves of this merge overlap, and nothing says which of them counts")
+    let reasons = [left, right].map(|half| reason(term, half));
+    let clash = match reasons {
+        [None, None] => conflict(term, left, right),
+        _ => one.as_ref().zip(other.as_ref()).and_then(|(one, other)| overlap(one, other)),
+    };
+    let shown = |part: &Book| if reasons == [None, None] { short_term(part, labels) } else { short_type(part, labels) };
+    let sides =
+        clash.as_ref().and_then(|[one, other]| Some(format!("{} on the left, {} on the right", shown(one)?, shown(other)?)));
+    Explanation::says("the two halves of this merge overlap, and nothing says which of them counts")
         .with_type("left half", one.as_ref(), labels)
         .with_type("right half", other.as_ref(), labels)
-        .facts("overlap", overlap.into_iter().collect());
-    let reasons: Vec<String> =
-        [("left", left), ("right", right)].into_iter().filter_map(|(half, at)| not_closed_value(term, half, at)).collect();
-    let reason = match reasons.is_empty() {
-        true => "Both halves are values, but what they share is not the same in both.".into(),
-        false => reasons.join(" "),
+        .facts("overlap", sides.into_iter().collect())
+        .helps(why(reasons))
+        .helps(way_out(clash.map(|[one, _]| root(&one).0)))
+}
+
+fn why(reasons: [Option<Reason>; 2]) -> String {
+    let said = |half: &str, reason: Reason| match (reason, half) {
+        (Reason::Outside, "Both halves") => "Both halves use variables from outside".into(),
+        (Reason::NoValue, "Both halves") => "Both halves are no values yet".into(),
+        (Reason::Outside, _) => format!("{half} uses a variable from outside"),
+        (Reason::NoValue, _) => format!("{half} is no value yet"),
     };
-    explanation
-        .helps(reason)
-        .helps("Give records different labels, take the part out of one half, or annotate one half with a type that leaves it out.")
+    let why = match reasons {
+        [None, None] => return "Both halves are values, but where they overlap they are not the same.".into(),
+        [Some(one), Some(other)] if one == other => said("Both halves", one),
+        [Some(one), Some(other)] => format!("{}, and {}", said("The left half", one), said("the right half", other)),
+        [Some(one), None] => said("The left half", one),
+        [None, Some(other)] => said("The right half", other),
+    };
+    format!("{why}: only halves of disjoint types may be merged then.")
+}
+
+/// What helps where parts of this kind, terms or types, overlap.
+fn way_out(kind: Option<Kind>) -> &'static str {
+    match kind {
+        Some(Kind::Record | Kind::RecordType) => {
+            "Give the records different labels, take the field out of one half, or annotate one half with a type that leaves it out."
+        }
+        Some(Kind::Function | Kind::Arrow) => {
+            "Take the function out of one half, or annotate one half with a type that leaves it out. Functions agree if body and input type are the same."
+        }
+        Some(Kind::Number | Kind::Int) => "Take the number out of one half, or annotate one half with a type that leaves it out.",
+        _ => "Take the part out of one half, or annotate one half with a type that leaves it out.",
+    }
 }
 
 /// The first parts of two types that are not disjoint.
-fn overlap(one: &Book, other: &Book, labels: &Labels) -> Option<String> {
+fn overlap(one: &Book, other: &Book) -> Option<[Book; 2]> {
     let (ones, others) = (parts(one), parts(other));
     let first = first_no(&ones, |some| are_disjoint(other, some))?;
     let second = first_no(&others, |some| are_disjoint(first, some))?;
-    Some(format!("{} on the left, {} on the right", short(first, labels)?, short(second, labels)?))
+    Some([first.clone(), second.clone()])
 }
 
-/// Why a half need not agree with the other: it uses a variable from outside, or it is no value yet, as a run of no steps says.
-fn not_closed_value(term: &Term, half: &str, at: usize) -> Option<String> {
-    if term.uses_binder(at) {
-        return Some(format!("The {half} half uses a variable from outside: only disjoint types may be merged then."));
-    }
-    let stop = run(&term.part(at).bytes(), 0).ok()?.stop;
-    (stop != Stop::Value).then(|| format!("The {half} half is no value yet: only disjoint types may be merged then."))
+/// The first parts of two closed values that may not be merged.
+fn conflict(term: &Term, left: usize, right: usize) -> Option<[Book; 2]> {
+    let [ones, others] = [left, right].map(|half| term.merged(half));
+    let first = first_no(&ones, |some| may_be_merged(some, &others))?;
+    let second = first_no(&others, |some| may_be_merged(std::slice::from_ref(first), some))?;
+    Some([first.clone(), second.clone()])
 }
 
 fn of_checked(term: &Term, at: usize, labels: &Labels) -> Explanation {
     let (by, wanted) = wanted(term, at);
     let found = term.type_of(at);
     let missing = wanted.as_ref().zip(found.as_ref()).and_then(|(wanted, found)| missing(wanted, found));
-    Explanation::says("this term has not the type that is wanted where it stands")
+    let [wants, finds] = [&wanted, &found].map(|a_type| a_type.as_ref().and_then(|a_type| short_type(a_type, labels)));
+    let sentence = match wants.zip(finds) {
+        Some((wants, finds)) => format!("a term of type {wants} is wanted here, and this one has type {finds}"),
+        None => "this term has not the type that is wanted here".into(),
+    };
+    let help = match term.above(at).map(|(above, _)| term.book.parts[above].kind) {
+        _ if reads_nothing(term, at) => {
+            "What it reads from has no such field, so all that is known of it is Top: compare the label."
+        }
+        Some(Kind::Sum) => "Only numbers can be added: read one from it, or put one in its place.",
+        Some(Kind::Choice) => "A choice tests a number, and is between numbers: read one from it, or put one in its place.",
+        _ if missing.is_some() => "Merge what is missing into the term, or take it out of the type that is wanted.",
+        _ => "Change the term, or the type that is wanted of it.",
+    };
+    Explanation::says(sentence)
         .with_type("wanted", wanted.as_ref(), labels)
         .fact("by", by)
         .with_type("found", found.as_ref(), labels)
         .facts("missing", missing.map_or(vec![], |missing| lines_of(&missing, labels)))
-        .helps(match reads_nothing(term, at) {
-            true => "What it reads from has no such field, so all that is known of it is Top: compare the label.",
-            false => "Change the term, or the type that is wanted of it.",
-        })
+        .helps(help)
 }
 
 /// Whether a term reads a field that no part of what it reads from has.
 fn reads_nothing(term: &Term, at: usize) -> bool {
     let part = term.book.parts[at];
-    let has_field = |of: &Book| of.parts[of.root].kind == Kind::RecordType && of.parts[of.root].datum == part.datum;
+    let has_field = |of: &Book| root(of) == (Kind::RecordType, part.datum);
     part.kind == Kind::Read && term.type_of(part.references[0]).is_some_and(|from| !parts(&from).iter().any(has_field))
 }
 
@@ -166,9 +265,10 @@ fn wanted(term: &Term, at: usize) -> (String, Option<Book>) {
 
 /// The input of a function type; that of Top is Top.
 fn input_of(function: &Book) -> Book {
-    let root = function.parts[function.root];
-    let at = if root.kind == Kind::Arrow { root.references[0] } else { function.root };
-    Book { root: at, ..function.clone() }.shared().book
+    match root(function).0 {
+        Kind::Arrow => content(function),
+        _ => function.clone(),
+    }
 }
 
 /// Of a wanted type with several parts, the first that the found type is not below.

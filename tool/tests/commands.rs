@@ -185,7 +185,7 @@ fn deep_texts_get_an_answer() {
     let nested = format!("{}1{}", "(".repeat(100_000), ")".repeat(100_000));
     let (printed, status) = answered(&["make"], nested.as_bytes());
     assert_eq!(status, 2);
-    assert!(printed.starts_with("standard input:1:10002: this is nested more than 10000 deep\n"), "{printed}");
+    assert!(printed.starts_with("standard input:1:10001: this is nested more than 10000 deep\n"), "{printed}");
     assert!(printed.len() < 500, "{printed}");
     survives(nested.as_bytes());
     for sign in [

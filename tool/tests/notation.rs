@@ -152,10 +152,14 @@ fn errors_name_their_place() {
     let cases = [
         ("", "1:1", "the text ends here: a term is wanted"),
         ("-- nothing\n", "1:11", "the text ends here: a term is wanted"),
-        ("1 , {7 = 5}", "1:3", "a merge is written with two commas; two fields are two records merged, {1 = 2} ,, {3 = 4}"),
+        (
+            "1 , {7 = 5}",
+            "1:3",
+            "there is no single comma: a merge is a ,, b, two fields are {1 = 2} ,, {3 = 4}, two arguments f 1 2",
+        ),
         ("1 ,,\n  ,, 2", "2:3", "this does not belong here: a term is wanted"),
         ("1 ,, x", "1:6", "nothing here has this name: no function, fixpoint or `let` around it binds it"),
-        ("let a = 1\na + a", "2:1", "this name is being given here: `in` is missing before it"),
+        ("let a = 1\na + a", "2:1", "a `let` cannot use its own name: `in` is missing before it, or `fix` is meant"),
         ("(1", "1:3", "the text ends here: `)` is wanted"),
         ("1)", "1:2", "this does not belong here: the end is wanted"),
         ("{7 : Int}", "1:4", "this does not belong here: `=` and the field's content is wanted"),
@@ -166,7 +170,7 @@ fn errors_name_their_place() {
         ("label let = 7 1", "1:7", "this word is the notation's own: the name of a label is wanted"),
         ("version 3 1", "1:9", "a version is a number from 1 to 2"),
         ("version 1 version 2 1", "1:19", "the version is said already"),
-        ("2147483648", "1:1", "a number of version 1 goes from -2147483648 to 2147483647: write `version 2` at the top for more"),
+        ("2147483648", "1:1", "a number of version 1 goes from -2147483648 to 2147483647; version 2 goes further"),
         ("140737488355328", "1:1", "a number is a number from -140737488355328 to 140737488355327"),
         ("5.7", "1:2", "numbers are whole; to read a field of a number, put it in brackets"),
         ("12ab", "1:1", "a number ends with its digits"),
@@ -182,6 +186,10 @@ fn errors_name_their_place() {
         ("1 ; 2", "1:3", "this sign is none of the notation's"),
         ("if 1 then 2", "1:12", "the text ends here: `else` and what is taken for anything but zero is wanted"),
         ("(type Int)", "1:2", "this does not belong here: a term is wanted"),
+        ("1 ,, 2 : Int ,, 3", "1:14", "an annotation holds loosest: before this it needs brackets"),
+        ("if 1 : Int then 2 else 3", "1:6", "an annotation needs brackets here"),
+        ("1 type A = Int in 3", "1:3", "behind a term this needs brackets, or a sign between them"),
+        ("{-0 = 1}", "1:2", "a label is a number from 0 to 255"),
     ];
     for (text, place, message) in cases {
         let fault = assemble(text, None, false).err().unwrap_or_else(|| panic!("{text:?} is assembled"));
@@ -225,6 +233,12 @@ fn bounds() {
     };
     assert_eq!(read(nested(10_000)), Ok(1));
     assert_eq!(read(nested(10_001)), Err("this is nested more than 10000 deep".into()));
+    let in_types = |depth: usize| format!("1 : {}Int{}", "(".repeat(depth), ")".repeat(depth));
+    assert_eq!(read(in_types(10_000)), Ok(3));
+    assert_eq!(read(in_types(10_001)), Err("this is nested more than 10000 deep".into()));
+    let aliases = |count: usize| format!("let a = T in {}a", "let a = a in ".repeat(count));
+    assert_eq!(read(aliases(9_999)), Ok(1));
+    assert_eq!(read(aliases(300_000)), Err("there are more than 10000 names before this".into()));
     assert_eq!(read(nested(100_000)), Err("this is nested more than 10000 deep".into()));
     assert_eq!(read("(".repeat(100_000)), Err("this is nested more than 10000 deep".into()));
     assert_eq!(read(format!("1{}", " + 1".repeat(2_047))), Ok(4_095));

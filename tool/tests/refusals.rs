@@ -15,7 +15,7 @@ use tool::running::{traced, watched};
 
 /// The first line that the program prints of each book of books/refusals, and a line that says more.
 const SAMPLES: [(&str, &str, &str); 14] = [
-    ("02", "refused 2: the file is no whole book.", "  length:  15 bytes; a book has a multiple of 8, from 16 to 32768"),
+    ("02", "refused 2: the file is no whole book.", "  length:  15 bytes, which is 8 and 7"),
     ("03", "refused 3: the last 8 bytes are no trailer of version 1 or 2.", "  last bytes:  00 01 01 00 00 00 00 00"),
     (
         "04",
@@ -27,7 +27,7 @@ const SAMPLES: [(&str, &str, &str); 14] = [
     (
         "07",
         "refused 7, cell 1: this cell refers to itself, to a later cell or past the end.",
-        "  what is wrong:  right half: cell 1",
+        "  what is wrong:  right half: cell 1, which is itself",
     ),
     (
         "08",
@@ -36,15 +36,15 @@ const SAMPLES: [(&str, &str, &str); 14] = [
     ),
     ("09", "refused 9, cell 1: the root is a type, and only a term can be checked and run.", "  the type:  Int"),
     ("10", "refused 10, cell 12: the book is too large: with nothing shared it has more than 4095 cells.", "  size:  8191"),
-    ("11", "refused 11, cell 1: this variable has no binder.", "  binders around it:  1, of x"),
-    ("12", "refused 12, cell 2: what is applied here is no function.", "  its type:  Int"),
+    ("11", "refused 11, cell 1: this variable has no binder.", "  binders around it:  1, from the inside x"),
+    ("12", "refused 12, cell 2: what is applied here is no function.", "  applied is:  Int"),
     ("13", "refused 13, cell 2: there is no field 8 here to read.", "  read from:  {7 : Int}"),
     (
         "14",
         "refused 14, cell 2: the two halves of this merge overlap, and nothing says which of them counts.",
         "  overlap:     Int on the left, Int on the right",
     ),
-    ("15", "refused 15, cell 1: this term has not the type that is wanted where it stands.", "  found:   Top"),
+    ("15", "refused 15, cell 1: a term of type Int is wanted here, and this one has type Top.", "  found:   Top"),
 ];
 
 #[test]
@@ -65,31 +65,31 @@ fn every_refusal_has_its_sentence() {
 /// Texts that are refused: what is printed of each below the first line and above the last.
 const TEXTS: [(&str, &[&str]); 21] = [
     ("#3", &["binders it skips:   3", "binders around it:  none"]),
-    ("\\a : Int . fix b : Int . #2 : Int", &["^^", "binders around it:  2, of a, b"]),
+    ("\\a : Int . fix b : Int . #2 : Int", &["^^", "binders around it:  2, from the inside b, a"]),
     (
         "(1 ,, \\x : Int . x : Int) 2",
         &[
-            "its type:  Int & (Int -> Int)",
+            "applied is:  Int & (Int -> Int)",
             "There is a function in it: annotate it before it is applied, as in (... : Int -> Int).",
         ],
     ),
-    ("\\n : Int . n -1 : Int", &["its type:  Int", "There is no subtraction: write + before the minus."]),
-    ("\\f : Top & Top . f 1 : Int", &["its type:  Top & Top", "Apply a function."]),
+    ("\\n : Int . n -1 : Int", &["applied is:  Int", "There is no subtraction: write + before the minus."]),
+    ("\\f : Top & Top . f 1 : Int", &["applied is:  Top & Top", "Apply a function."]),
     (
         "label a = 3 ({a = 1} ,, {4 = 2} ,, {4 = \\x : Int . x : Int}).5",
-        &["there is no field 5 here to read.", "Compare the label: there is 4, a."],
+        &["there is no field 5 here to read.", "Compare the label: there is a, 4."],
     ),
     (
         "({4 = 1} ,, {4 = \\x : Int . x : Int}).4",
         &["field 4 is there more than once.", "Annotate what is read from, as in (... : {4 : Int})"],
     ),
     ("1.4", &[]),
-    ("(1).4", &["there is no field 4 here to read.", "read from:  Int", "Read from a record."]),
+    ("(1).4", &["there is no field 4 here to read.", "read from:  Int", "It is a number, which has no fields."]),
     ("\\x : {1 : Int} . x ,, {1 = 2} : Int", &["left half:   {1 : Int}", "The left half uses a variable from outside"]),
     ("(1 + 2) ,, 3", &["overlap:     Int on the left, Int on the right", "The left half is no value yet"]),
     (
         "({1 = 2} ,, {3 = 4}) ,, ({5 = 6} ,, {3 = 7})",
-        &["overlap:     {3 : Int} on the left, {3 : Int} on the right", "Both halves are values"],
+        &["overlap:     {3 = 4} on the left, {3 = 7} on the right", "Both halves are values"],
     ),
     (
         "{1 = 2} : {1 : Int} & {3 : Int} & Top",
