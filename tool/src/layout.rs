@@ -48,6 +48,16 @@ pub fn line_before(signs: &'static str, next: &Doc) -> Doc {
     broken(signs.len(), Node::BreakBefore(signs, next.width))
 }
 
+/// Nothing, or the end of a line where there is no room at all for so much.
+fn stay(room: usize) -> Doc {
+    Doc { width: 0, head: 0, breaks: false, node: Node::BreakBefore("", room) }
+}
+
+/// Brackets about something: they stay with it, as long as there is room.
+pub fn bracketed(open: impl Into<String>, inner: Doc, close: &'static str) -> Doc {
+    all(vec![text(open), stay(close.len()), inner, stay(close.len()), text(close)])
+}
+
 pub fn end() -> Doc {
     broken(usize::MAX, Node::End)
 }

@@ -3,7 +3,7 @@
 use crate::book::Book;
 use crate::kinds::{Kind, Sort};
 use crate::labels::Labels;
-use crate::layout::{all, end, group, line, line_before, mark, nest, text, Doc};
+use crate::layout::{all, bracketed, end, group, line, line_before, mark, nest, text, Doc};
 use crate::names::{name, Names};
 
 /// How loosely a form holds together; brackets keep a looser one within a tighter one.
@@ -104,7 +104,7 @@ impl Printer<'_> {
         let doc = self.marked(at, doc);
         match self.hold(at) <= within {
             true => doc,
-            false => all(vec![text("("), nest(group(doc)), text(")")]),
+            false => bracketed("(", nest(group(doc)), ")"),
         }
     }
 
@@ -181,16 +181,16 @@ impl Printer<'_> {
 
     /// A record or a record type.
     fn braced(&self, label: i64, sign: &str, content: Doc) -> Doc {
-        let head = text(format!("{{{} {sign}", self.labels.shown(label)));
-        group(all(vec![head, nest(all(vec![line(), content])), text("}")]))
+        let head = format!("{{{} {sign}", self.labels.shown(label));
+        group(bracketed(head, nest(all(vec![line(), content])), "}"))
     }
 
     fn read(&mut self, from: usize, label: i64) -> Doc {
         let is_number = self.book.parts[from].kind == Kind::Number && !self.names.is_named(from);
         let term = self.term(from, Hold::Read);
-        let whole = if is_number { vec![text("("), term, text(")")] } else { vec![term] };
+        let whole = if is_number { bracketed("(", term, ")") } else { term };
         let read = text(format!(".{}", self.labels.shown(label)));
-        all(vec![all(whole), nest(all(vec![line_before("", &read), read]))])
+        all(vec![whole, nest(all(vec![line_before("", &read), read]))])
     }
 
     fn bound(&mut self, kind: Kind, of: usize, body: usize, within: Hold) -> (Doc, Doc) {
@@ -244,7 +244,7 @@ impl Printer<'_> {
         let doc = self.marked(at, doc);
         match hold <= within {
             true => doc,
-            false => all(vec![text("("), nest(doc), text(")")]),
+            false => bracketed("(", nest(doc), ")"),
         }
     }
 

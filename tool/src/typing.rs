@@ -153,12 +153,11 @@ fn of_merge(term: &Term, at: usize, labels: &Labels) -> Explanation {
         _ => one.as_ref().zip(other.as_ref()).and_then(|(one, other)| overlap(one, other)),
     };
     let shown = |part: &Book| if reasons == [None, None] { short_term(part, labels) } else { short_type(part, labels) };
-    let sides =
-        clash.as_ref().and_then(|[one, other]| Some(format!("{} on the left, {} on the right", shown(one)?, shown(other)?)));
+    let sides = clash.as_ref().and_then(|[one, other]| Some(vec![shown(one)?, shown(other)?]));
     Explanation::says("the two halves of this merge overlap, and nothing says which of them counts")
         .with_type("left half", one.as_ref(), labels)
         .with_type("right half", other.as_ref(), labels)
-        .facts("overlap", sides.into_iter().collect())
+        .facts("overlap", sides.unwrap_or_default())
         .helps(why(reasons))
         .helps(way_out(clash.map(|[one, _]| root(&one).0)))
 }

@@ -6,6 +6,7 @@ use common::{answered, at, bytes, called, files, generated, text};
 use compare::deepest::deepest;
 use std::fs;
 use std::process::{Command, Stdio};
+use std::time::Duration;
 
 fn status(arguments: &[&str], input: &[u8]) -> i32 {
     answered(arguments, input).1
@@ -38,13 +39,19 @@ fn exit_status() {
         &["make", "-o", "no/such/folder/file", "books/first_number.txt"],
         &["check", "--notation", "books/first_number.book"],
         &["explain", "99"],
+        &["show", "--cells", "--dot"],
+        &["make", "--notation"],
     ] {
         let (printed, status) = answered(wrong, b"1");
         assert_eq!(status, 2, "{wrong:?}: {printed}");
         assert!(!printed.is_empty(), "{wrong:?}");
     }
-    for help in [&["help"][..], &["--help"], &["-h"], &["run", "--help"], &["make", "x", "--help"]] {
+    for help in [&["help"][..], &["--help"], &["-h"], &["run", "--help"], &["make", "x", "--help"], &["--version"]] {
         assert_eq!(status(help, b""), 0, "{help:?}");
+    }
+    assert_eq!(answered(&["help", "run"], b""), answered(&["run", "--help"], b""));
+    for command in ["make", "show", "check", "run", "explain"] {
+        assert!(answered(&["help"], b"").0.contains(&format!("  cerealbank {command} ")));
     }
 }
 
@@ -111,14 +118,24 @@ fn plain_where_it_is_no_terminal() {
 /// A reader that goes away early is no error, a full disk is one.
 #[test]
 fn output_that_fails() {
+    fs::create_dir_all(at("target")).expect("a folder");
+    let file = at("target/endless.txt");
+    fs::write(&file, "(fix f : Int -> Int . \\n : Int . if n then 1 else f (n + -1) + f (n + -1) : Int) 40").expect("a file");
+    let endless = file.to_str().expect("a name");
     let mut child = Command::new(env!("CARGO_BIN_EXE_cerealbank"))
-        .args(["run", "books/spent_loop.book", "--trace"])
+        .args(["run", "--trace", "--limit=4294967295", "--", endless])
         .current_dir(at("."))
         .stdout(Stdio::piped())
         .stderr(Stdio::piped())
         .spawn()
         .expect("the program");
     drop(child.stdout.take());
+    let ended = (0..200).any(|_| {
+        std::thread::sleep(Duration::from_millis(100));
+        child.try_wait().expect("a status").is_some()
+    });
+    child.kill().ok();
+    assert!(ended, "a trace that nobody reads goes on");
     let output = child.wait_with_output().expect("its output");
     assert_eq!((output.status.code(), output.stderr.len()), (Some(0), 0));
     if let Ok(full) = fs::OpenOptions::new().write(true).open("/dev/full") {
@@ -159,6 +176,7 @@ fn garbage_gets_an_answer() {
         survives(&text);
     }
     survives(&[0; 4_096]);
+    assert_eq!(answered(&["show", "--cells"], &vec![0; 1 << 22]).0.lines().count(), 1 + (1 << 19));
     survives(&[0xF0; 4_096]);
     survives("\u{3bb}x. x \u{2192} \u{1F4D6}".as_bytes());
 }
@@ -244,6 +262,7 @@ fn refused_books_are_explained() {
                 let printed = tool::explanation::printed(refusal, &tool::refusals::explained(&input, refusal));
                 assert!(printed.starts_with(&format!("refused {}", refusal.number)) && printed.lines().count() < 80, "{printed}");
                 assert_eq!(printed.contains('^'), refusal.number > 10, "{printed}");
+                assert!(printed.lines().all(|line| line.len() < 160), "{printed}");
                 count += 1;
             }
         }

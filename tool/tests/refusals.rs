@@ -39,11 +39,7 @@ const SAMPLES: [(&str, &str, &str); 14] = [
     ("11", "refused 11, cell 1: this variable has no binder.", "  binders around it:  1, from the inside x"),
     ("12", "refused 12, cell 2: what is applied here is no function.", "  applied is:  Int"),
     ("13", "refused 13, cell 2: there is no field 8 here to read.", "  read from:  {7 : Int}"),
-    (
-        "14",
-        "refused 14, cell 2: the two halves of this merge overlap, and nothing says which of them counts.",
-        "  overlap:     Int on the left, Int on the right",
-    ),
+    ("14", "refused 14, cell 2: the two halves of this merge overlap, and nothing says which of them counts.", "  overlap:     1"),
     ("15", "refused 15, cell 1: a term of type Int is wanted here, and this one has type Top.", "  found:   Top"),
 ];
 
@@ -63,7 +59,7 @@ fn every_refusal_has_its_sentence() {
 }
 
 /// Texts that are refused: what is printed of each below the first line and above the last.
-const TEXTS: [(&str, &[&str]); 21] = [
+const TEXTS: [(&str, &[&str]); 31] = [
     ("#3", &["binders it skips:   3", "binders around it:  none"]),
     ("\\a : Int . fix b : Int . #2 : Int", &["^^", "binders around it:  2, from the inside b, a"]),
     (
@@ -86,11 +82,8 @@ const TEXTS: [(&str, &[&str]); 21] = [
     ("1.4", &[]),
     ("(1).4", &["there is no field 4 here to read.", "read from:  Int", "It is a number, which has no fields."]),
     ("\\x : {1 : Int} . x ,, {1 = 2} : Int", &["left half:   {1 : Int}", "The left half uses a variable from outside"]),
-    ("(1 + 2) ,, 3", &["overlap:     Int on the left, Int on the right", "The left half is no value yet"]),
-    (
-        "({1 = 2} ,, {3 = 4}) ,, ({5 = 6} ,, {3 = 7})",
-        &["overlap:     {3 = 4} on the left, {3 = 7} on the right", "Both halves are values"],
-    ),
+    ("(1 + 2) ,, 3", &["overlap:     Int\n               Int\n", "The left half is no value yet"]),
+    ("({1 = 2} ,, {3 = 4}) ,, ({5 = 6} ,, {3 = 7})", &["overlap:     {3 = 4}\n               {3 = 7}\n", "Both halves are values"]),
     (
         "{1 = 2} : {1 : Int} & {3 : Int} & Top",
         &["wanted:   {1 : Int} & {3 : Int} & Top", "by:       the annotation", "found:    {1 : Int}", "missing:  {3 : Int}"],
@@ -102,7 +95,20 @@ const TEXTS: [(&str, &[&str]); 21] = [
     ("1 + {1 = 2}", &["by:      the sum, of its part 'right side'", "found:   {1 : Int}"]),
     ("if 1 then 2 else T", &["by:      the choice, of its part 'for anything else'"]),
     ("({1 = 2} ,, T).3 + 1", &["found:   Top", "What it reads from has no such field"]),
-    ("{3 = T}.3 + 1", &["found:   Top", "Change the term, or the type that is wanted of it."]),
+    ("{3 = T}.3 : Int", &["found:   Top", "Change the term, or the type that is wanted of it."]),
+    ("{3 = T}.3 + 1", &["found:   Top", "Only numbers can be added"]),
+    ("if {1 = 2} then 3 else 4", &["by:      the choice, of its part 'tested'", "A choice tests a number"]),
+    ("{1 = \\x : Int . x : Int} 3", &["applied is:  {1 : Int -> Int}", "There is a function in field 1: read it first"]),
+    ("({7 = T} ,, {7 = 1} ,, {7 = 1}).7", &["field 7 is there more than once.", "as in (... : {7 : Int})"]),
+    ("({10 = 1} ,, {9 = 1} ,, {100 = 1} ,, {9 = 1}).7", &["Compare the label: there is 9, 10, 100."]),
+    ("(\\x : Int . x : Int).7", &["It is a function, which has no fields: apply it first."]),
+    ("(1 ,, {1 = 2}) ,, (1 ,, {1 = 3})", &["overlap:     {1 = 2}\n               {1 = 3}\n", "Give the records different labels"]),
+    ("(\\x : Int . 1 : Int) ,, (\\x : Top . 1 : Int)", &["Functions agree if body and input type are the same."]),
+    (
+        "\\x : Int . x ,, x : Int",
+        &["Both halves use variables from outside: only halves of disjoint types", "Take the number out of one half"],
+    ),
+    ("\\x : Int . x ,, (1 + 2) : Int", &["The left half uses a variable from outside, and the right half is no value yet: only"]),
 ];
 
 #[test]
@@ -137,6 +143,41 @@ fn the_part_is_marked() {
             assert_eq!(&lines[carets - 1][from..=to], part, "{printed}");
         }
     }
+}
+
+/// Where cells are shared, by a name or by `share`, the place that is refused is marked, and where the name is used.
+#[test]
+fn the_place_that_is_refused_is_marked() {
+    let cases = [
+        ("share T ,, (T : Int)", "standard input:1:13\n"),
+        ("share (\\x : Int . #0 : Int) ,, {1 = #0}", "standard input:1:37\n"),
+        ("let p = {1 = 5} in (p : {1 : Int}) ,, {2 = p : {3 : Int}}", "standard input:1:44\n"),
+        ("let p = 1 in let q = p in q ,, {2 = q : Top -> Int}", "standard input:1:37\n"),
+        (
+            "let p = {1 = 2 3} in {4 = p}",
+            "standard input:1:14\n    1 | let p = {1 = 2 3} in {4 = p}\n      |              ^^^\n  used at standard input:1:27\n",
+        ),
+    ];
+    for (text, place) in cases {
+        let (printed, _) = answered(&["check"], text.as_bytes());
+        assert!(printed.contains(place), "{text}\n{printed}");
+    }
+}
+
+/// A type is found where variables of large types are used often, and where it is not, that is said.
+#[test]
+fn large_questions() {
+    let fields: Vec<String> = (0..100).map(|label| format!("{{{label} : Int}}")).collect();
+    let reads: Vec<String> = (0..30).map(|label| format!("x.{label}")).collect();
+    let text = format!("\\x : {} . {} : Top -> Int", fields.join(" & "), reads.join(" + "));
+    let (printed, _) = answered(&["check"], text.as_bytes());
+    assert!(printed.contains("  found:   Int\n"), "{printed}");
+    let text = format!("\\x : {} . 1 ({}) : Int", fields.join(" & "), reads.join(" + "));
+    assert!(answered(&["check"], text.as_bytes()).0.contains("  applied is:  Int\n"));
+    let records: Vec<String> = (0..30).map(|label| format!("{{{label} = x}}")).collect();
+    let text = format!("\\x : {} . ({}) + 1 : Int", fields.join(" & "), records.join(" ,, "));
+    let (printed, _) = answered(&["check"], text.as_bytes());
+    assert!(printed.contains("  found:   not found: the question is too large for a book\n"), "{printed}");
 }
 
 /// A part of several lines is marked on each, of many on the first and the last two.

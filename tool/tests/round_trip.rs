@@ -5,12 +5,14 @@ mod common;
 use common::{at, files, generated, largest};
 use evaluator::{decode, encode_term, Refusal, Term, Version};
 use std::fs;
-use tool::assemble::assemble;
+use tool::assemble::{assemble, opened};
 use tool::book::{Book, MOST_CELLS};
 use tool::labels::Labels;
 use tool::show::{exact, shown};
 use tool::{ask, deep};
 
+/// No line is longer, however deep a book is: the deepest indent, a name given, and a part that cannot be broken.
+const WIDEST: usize = 130;
 /// The fewest books that are generated and well-formed.
 const BOOKS: usize = 10_000;
 
@@ -35,6 +37,10 @@ fn again(bytes: &[u8]) -> Option<bool> {
     let plain = made(&text).bytes();
     assert_eq!(read(&plain), read(bytes), "{text}");
     assert_eq!(plain == bytes, !text.starts_with("-- "), "{text}");
+    assert!(text.lines().all(|line| line.len() <= WIDEST), "{text}");
+    if let Some(expected) = book.opened() {
+        assert_eq!(opened(&text, None).map(|written| written.book), Ok(expected.book), "{text}");
+    }
     Some(plain == bytes)
 }
 
