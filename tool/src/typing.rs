@@ -107,6 +107,7 @@ fn of_read(term: &Term, at: usize, labels: &Labels) -> Explanation {
             let help = format!("Annotate what is read from, as in (... : {meant}), or take one of them out.");
             (format!("field {field} is there more than once"), help)
         }
+        None if found.is_none() => (format!("field {field} is not there, or more than once"), "Compare the label.".into()),
         None if records.is_empty() => (missing, no_fields(found.as_ref()).into()),
         None => {
             let mut others: Vec<i64> = records.iter().map(|record| root(record).1).collect();

@@ -7,6 +7,8 @@ use compare::deepest::deepest;
 use std::fs;
 use std::process::{Command, Stdio};
 use std::time::Duration;
+use tool::assemble::assemble;
+use tool::book::Book;
 
 fn status(arguments: &[&str], input: &[u8]) -> i32 {
     answered(arguments, input).1
@@ -286,4 +288,153 @@ fn cells_and_graphs() {
             assert!(graph.starts_with("digraph book {\n") && graph.ends_with("}\n"));
         }
     }
+}
+
+fn book(text: &str) -> Book {
+    assemble(text, None, false).expect("a text").book
+}
+
+/// Help names every command, a command's help its own flags, and no command takes another's.
+#[test]
+fn help_and_flags() {
+    let usage = answered(&["help"], b"").0;
+    for command in ["make", "show", "check", "run", "explain"] {
+        assert!(usage.contains(&format!("\n  cerealbank {command} ")), "{usage}");
+        let manual = answered(&[command, "--help"], b"").0;
+        assert!(manual.starts_with(&format!("cerealbank {command} ")), "{manual}");
+        assert_eq!(manual.contains("\n  --limit N "), command == "run", "{manual}");
+        assert_eq!(manual.contains("\n  --share "), command == "make", "{manual}");
+    }
+    let own: [(&str, &[&str]); 5] = [
+        ("make", &["-o", "--version", "--share"]),
+        ("show", &["--exact", "--cells", "--dot", "--book", "--notation"]),
+        ("check", &["--quiet", "--book", "--notation"]),
+        ("run", &["--limit", "--trace", "-o", "--quiet", "--book", "--notation"]),
+        ("explain", &[]),
+    ];
+    for (command, flags) in own {
+        for flag in tool::options::FLAGS.iter().filter(|flag| flag.name != "--help") {
+            let said = answered(&[command, flag.name, "1", "2", "3"], b"").0;
+            assert_eq!(
+                said.starts_with(&format!("{}: this command has no such flag\n", flag.name)),
+                !flags.contains(&flag.name),
+                "{command} {said}"
+            );
+        }
+    }
+}
+
+/// What is said of a wrong call; the hint only where help would help.
+#[test]
+fn calls_that_go_wrong_say_how() {
+    assert_eq!(answered(&["nothing"], b"").0, "nothing: there is no such command\nTry: cerealbank help\n");
+    assert!(!answered(&["make"], b"1 ,").0.contains("Try:"));
+    assert_eq!(
+        answered(&["make", "books/first_number.book"], b"").0,
+        "books/first_number.book: this is no text in the notation; `cerealbank show` prints a book\n"
+    );
+    assert!(answered(&["explain", "--", "-1"], b"").0.starts_with("-1: the refusals have the numbers 1 to 15"));
+    assert!(answered(&["check", "no\x1bfile"], b"").0.starts_with("no?file: "));
+    let printed = answered(&["check", "--notation"], b"1 ,, \x1b[31m x").0;
+    assert!(!printed.contains('\x1b') && printed.contains("  1 | 1 ,, ?[31m x\n"), "{printed}");
+    let long = " ".repeat((1 << 22) - 1) + "1";
+    assert_eq!(answered(&["make"], long.as_bytes()).0, "standard input: a text in the notation has fewer than 4194304 bytes\n");
+}
+
+/// Flags do what they say, and a text may have tabs and returns.
+#[test]
+fn flags_are_heeded() {
+    let shared = assemble("1 ,, 1", None, true).expect("a text").book;
+    assert_eq!(called(&["make", "--share"], b"1 ,, 1").stdout, shared.bytes());
+    assert_eq!(called(&["make", "--version=2"], b"version 1 1").stdout, book("version 2 1").bytes());
+    assert_eq!(answered(&["show", "books/refusals/09.book"], b"").1, 0);
+    assert!(answered(&["run", "books/spent_loop.book"], b"").0.starts_with("stopped for steps after 10000 steps: "));
+    assert_eq!(answered(&["check"], b"1\r\n\t,, T\r\n").0, "accepted: Int & Top\n");
+}
+
+/// The names of labels are shown by every command.
+#[test]
+fn labels_are_shown_by_name() {
+    let text = b"label size = 7 {size = 1 + 2}";
+    assert_eq!(answered(&["check"], text).0, "accepted: {size : Int}\n");
+    assert_eq!(answered(&["run"], text).0, "value after 1 step\n{size = 3}\n");
+    assert_eq!(answered(&["show"], text).0, "label size = 7\n{size = 1 + 2}\n");
+    assert!(answered(&["run", "--trace"], text).0.starts_with("    0  {size = 1 + 2}\n               ^^^^^\n    1  {size = 3}\n"));
+}
+
+/// A book is bytes without a line end: it is flushed.
+#[test]
+fn a_full_disk_is_an_error_of_make() {
+    if let Ok(full) = fs::OpenOptions::new().write(true).open("/dev/full") {
+        let mut command = Command::new(env!("CARGO_BIN_EXE_cerealbank"));
+        let output =
+            command.args(["make", "books/first_number.txt"]).current_dir(at(".")).stdout(full).output().expect("the program");
+        assert_eq!(output.status.code(), Some(2));
+    }
+}
+
+const GRAPH: &str = "digraph book {
+  ordering=out;
+  c0 [label=\"0: number 5\"];
+  c1 [label=\"1: number 9\", style=dashed];
+  c2 [label=\"2: record, label 7\"];
+  c2 -> c0 [label=\"content\"];
+  c3 [label=\"3: Int\", shape=box];
+  c4 [label=\"4: annotation\", style=bold];
+  c4 -> c2 [label=\"term\"];
+  c4 -> c3 [label=\"type\"];
+}
+";
+
+/// The root, what is not reached, the version, and every edge.
+#[test]
+fn cells_and_graphs_word_for_word() {
+    let table = answered(&["show", "--cells"], &book("let p = 1 in let q = 2 in p").bytes()).0;
+    let lines: Vec<&str> = table.lines().collect();
+    assert_eq!(lines[1], "    0  11 00 00 00 01 00 00 00  number 1, the root");
+    assert_eq!(lines[2], "    1  11 00 00 00 02 00 00 00  number 2, not reached from the root");
+    let made = called(&["make", "--version", "2"], b"4294967297").stdout;
+    assert!(answered(&["show", "--cells"], &made).0.contains("  11 00 01 00 00 00 01 00  number 4294967297, the root\n"));
+    let table = answered(&["show", "--cells", "books/refusals/07.book"], b"").0;
+    assert!(!table.contains("the root"), "{table}");
+    let made = book("let a = 5 in let b = 9 in {7 = a} : Int").bytes();
+    assert_eq!(answered(&["show", "--dot"], &made), (GRAPH.into(), 0));
+}
+
+/// What the program prints on a terminal, where there is `script` to be one.
+fn on_terminal(arguments: &str, no_color: &str) -> Option<String> {
+    let command = format!("{} {arguments}", env!("CARGO_BIN_EXE_cerealbank"));
+    let mut script = Command::new("script");
+    script.args(["-qec", &command, "/dev/null"]).env("NO_COLOR", no_color).current_dir(at(".")).stdin(std::process::Stdio::null());
+    Some(String::from_utf8_lossy(&script.output().ok()?.stdout).replace("\r\n", "\n"))
+}
+
+#[test]
+fn colours_on_a_terminal() {
+    let Some(printed) = on_terminal("check books/refusals/14.book", "") else { return };
+    assert!(
+        printed.contains("\x1b[1;31mrefused\x1b[0m 14, cell 2: ") && printed.contains("  \x1b[1;31m^^^^^^\x1b[0m\n"),
+        "{printed:?}"
+    );
+    assert_eq!(on_terminal("check books/refusals/14.book", "1"), Some(answered(&["check", "books/refusals/14.book"], b"").0));
+    assert!(on_terminal("check books/first_number.book", "").unwrap().starts_with("\x1b[1;32maccepted\x1b[0m: Int\n"));
+    assert_eq!(on_terminal("run --quiet books/spent_loop.book --limit 1000000", ""), Some(String::new()));
+    assert!(on_terminal("make books/first_number.txt", "").unwrap().contains("this is a terminal: name a file with -o FILE"));
+}
+
+#[test]
+fn progress_on_a_terminal() {
+    let long = "(fix f : Int -> Int . \\n : Int . if n then 1 else f (n + -1) + f (n + -1) : Int) 40";
+    let file = at("target/long.txt");
+    fs::create_dir_all(at("target")).expect("a folder");
+    fs::write(&file, long).expect("a file");
+    let Some(printed) = on_terminal("run target/long.txt --limit 8000000", "1") else { return };
+    let told: Vec<&str> = printed.split('\r').collect();
+    let [first, .., last] = &told[..] else { panic!("{printed:?}") };
+    assert!(first.is_empty() && told[1].contains(" steps, ") && told[1].ends_with(" cells"), "{printed:?}");
+    assert!(told[told.len() - 2].trim().is_empty() && last.starts_with("stopped for steps after 8000000 steps: "), "{printed:?}");
+    assert!(!printed.contains('\x1b'), "{printed:?}");
+    // What does not take long says nothing of how far it is.
+    let quick = on_terminal("run books/spent_loop.book --limit 1000", "1").expect("a terminal");
+    assert!(quick.starts_with("stopped for steps after 1000 steps: "), "{quick:?}");
 }

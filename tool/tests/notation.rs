@@ -93,6 +93,7 @@ fn spaces_and_comments_mean_nothing() {
     same("\\x:Int.x:Int", "\\ x : Int . x : Int");
     same("{1=2}.1", "{1 = 2} . 1");
     same("1+-1", "1 + -1");
+    same("1 -- one", "1");
 }
 
 #[test]
@@ -103,6 +104,7 @@ fn names_are_the_innermost() {
     same("let x = 1 in \\x : Int . x : Int", "let y = 1 in \\x : Int . #0 : Int");
     same("let x = 1 in (let x = 2 in x) ,, {3 = x}", "let a = 1 in let b = 2 in b ,, {3 = a}");
     same("type x = Int in \\x : x . x : x", "type N = Int in \\y : N . y : N");
+    same("type N = Int in type N = Top in 1 : N", "type M = Int in type N = Top in 1 : N");
     same("label x = 7 \\x : Int . {x = x}.x : Int", "\\x : Int . {7 = x}.7 : Int");
     same("label revision = 7 1 : {revision : Int}", "1 : {7 : Int}");
 }
@@ -117,6 +119,10 @@ fn parts_are_laid_once() {
     let under = "\\x : Int . let p = x + 1 in p + (\\y : Int . p : Int) p : Int";
     assert_eq!(term(under), term("\\x : Int . x + 1 + (\\y : Int . #1 + 1 : Int) (x + 1) : Int"));
     assert_eq!(book(under).parts.iter().filter(|part| part.kind as u8 == 26).count(), 2 + 1);
+    same(
+        "\\a : Int . \\b : Int . let p = a + b in p + (\\c : Int . p : Int) 1 : Int : Int -> Int",
+        "\\a : Int . \\b : Int . let p = a + b in p + (\\c : Int . a + b : Int) 1 : Int : Int -> Int",
+    );
     // What `#` skips is not counted anew.
     assert_eq!(term("let p = #0 + 1 in \\x : Int . p : Int"), term("\\x : Int . x + 1 : Int"));
 }
@@ -190,6 +196,11 @@ fn errors_name_their_place() {
         ("if 1 : Int then 2 else 3", "1:6", "an annotation needs brackets here"),
         ("1 type A = Int in 3", "1:3", "behind a term this needs brackets, or a sign between them"),
         ("{-0 = 1}", "1:2", "a label is a number from 0 to 255"),
+        ("(type N = Int in 1 : N) : N", "1:27", "no type has this name: Int, Top and those that a `type` names"),
+        ("\\x : Int . x : Int ,, x", "1:23", "nothing here has this name: no function, fixpoint or `let` around it binds it"),
+        ("(let a = 1 in a) + a", "1:20", "nothing here has this name: no function, fixpoint or `let` around it binds it"),
+        ("1 :", "1:4", "the text ends here: a type is wanted"),
+        ("(1\n\n", "1:3", "the text ends here: `)` is wanted"),
     ];
     for (text, place, message) in cases {
         let fault = assemble(text, None, false).err().unwrap_or_else(|| panic!("{text:?} is assembled"));
@@ -219,6 +230,14 @@ fn carets_in_long_lines() {
     assert!(lines[1].len() < 120, "{complaint}");
     let caret = lines[2].find('^').expect("a caret");
     assert_eq!(&lines[1][caret..=caret], ",", "{complaint}");
+    // In the middle of a line, what stands on both sides is shown.
+    let ones = vec!["1"; 100].join(" ,, ");
+    let long = format!("{ones} , {ones}");
+    let source = Source { name: "a".into(), text: long.clone() };
+    let complaint = source.complaint(&assemble(&long, None, false).err().expect("a fault"));
+    let lines: Vec<&str> = complaint.lines().collect();
+    let caret = lines[2].find('^').expect("a caret");
+    assert!(caret > 40 && lines[1].len() > caret + 40, "{complaint}");
     let source = Source { name: "a".into(), text: "\t1 , 2".into() };
     assert_eq!(source.complaint(&assemble("\t1 , 2", None, false).err().expect("a fault")).lines().nth(2), Some("    | \t  ^"));
 }
@@ -255,8 +274,16 @@ fn bounds() {
     assert_eq!(read("if ".repeat(20_000)), Err("this is nested more than 10000 deep".into()));
     assert_eq!(read("1 : ".to_owned() + &"{1 : ".repeat(20_000)), Err("this is nested more than 10000 deep".into()));
     // A part that uses an outer variable is laid down at every depth that it is used at.
-    let shadows: String = (0..90).map(|n| format!("\\y{n} : Int . let p{n} = x ,, y{n} in ")).collect();
-    assert!(read(format!("\\x : Int . {shadows}")).is_err());
+    let part = vec!["x"; 100].join(" + ");
+    let uses = "\\y : Int . p + ".repeat(40);
+    assert_eq!(
+        read(format!("\\x : Int . let p = {part} in {uses} p{} : Int", " : Int".repeat(40))),
+        Err("with this the book has more than 4095 cells".into())
+    );
+    // Brackets, choices and names that stand side by side are not nested.
+    assert_eq!(read(vec!["((((((1))))))"; 2_000].join(" + ")), Ok(3_999));
+    let choice = "if let a = p in a then let a = p in a else let a = p in ";
+    assert_eq!(read(format!("let p = 1 in {}p", choice.repeat(2_600))), Ok(2_601));
 }
 
 /// Every example of the page is assembled, its error is the one that it shows, and its words are the notation's.

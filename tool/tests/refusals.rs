@@ -346,3 +346,256 @@ fn explanations_are_the_pages() {
     }
     assert_eq!(answered(&["explain"], b"").0.lines().count(), 15);
 }
+
+fn book(text: &str) -> Book {
+    assemble(text, None, false).unwrap_or_else(|fault| panic!("{text}: {fault:?}")).book
+}
+
+fn says(text: &str, wanted: &[&str]) {
+    let (printed, _) = answered(&["check"], text.as_bytes());
+    for line in wanted {
+        assert!(printed.contains(line), "{text}: {line} is not in\n{printed}");
+    }
+}
+
+fn lacks(text: &str, unwanted: &str) {
+    let (printed, _) = answered(&["check"], text.as_bytes());
+    assert!(!printed.contains(unwanted), "{printed}");
+}
+
+#[test]
+fn every_refusal_says_what_helps() {
+    for (number, help) in [
+        ("02", "Compare the length with the one that was sent"),
+        ("03", "Send the whole file again"),
+        ("04", "Count the cells again"),
+        ("05", "The kinds are 1 to 5 and 16 to 27."),
+        ("06", "Write zero there."),
+        ("07", "Write every part before the whole that uses it."),
+        ("08", "Compare its fields with the table of kinds"),
+        ("09", "Set the trailer's root to the cell of a term."),
+        ("10", "A part that is used twice counts twice."),
+    ] {
+        let printed = answered(&["check", &format!("books/refusals/{number}.book")], b"").0;
+        assert!(printed.lines().any(|line| line.starts_with(help)), "{printed}");
+    }
+}
+
+fn cell(version: u8, row: [u8; 8]) -> Vec<u8> {
+    [row, [0xF0, version, 1, 0, 0, 0, 0, 0]].concat()
+}
+
+/// Exactly the fields that the kind does not use in this version.
+#[test]
+fn fields_that_are_not_used() {
+    for (version, row, wrong) in [
+        (1, [17, 0, 9, 0, 5, 0, 0, 0], "field a, 9"),
+        (1, [17, 3, 0, 0, 5, 0, 7, 0], "the label, 3"),
+        (2, [17, 3, 9, 0, 5, 0, 0, 0], "the label, 3"),
+        (1, [16, 0, 1, 0, 2, 0, 0, 0], "field b, 2"),
+        (1, [1, 0, 0, 0, 0, 0, 1, 1], "field c, 257"),
+    ] {
+        let printed = answered(&["check", "--book"], &cell(version, row)).0;
+        let lines: Vec<&str> = printed.lines().skip_while(|line| !line.contains("what is wrong:")).collect();
+        assert_eq!(lines[..2], [format!("  what is wrong:  {wrong}").as_str(), ""], "{printed}");
+    }
+}
+
+/// The other sort, what a trailer is, the cells that are there, sizes that cannot be counted.
+#[test]
+fn what_is_wrong_with_a_file_or_cell() {
+    let rows = [[17, 0, 0, 0, 1, 0, 0, 0], [19, 0, 0, 0, 0, 0, 0, 0], [0xF0, 1, 2, 0, 1, 0, 0, 0]].concat();
+    let printed = answered(&["check", "--book"], &rows).0;
+    assert!(printed.contains("  what is wrong:  type: cell 0, a term where a type is wanted\n"), "{printed}");
+    says("type Int", &["standard input:1:6\n", "Write a term: "]);
+    assert!(answered(&["check", "books/refusals/04.book"], b"").0.contains("\n  cells:       1, number 0\n"));
+    assert!(answered(&["check", "books/refusals/03.book"], b"").0.contains("\n  a trailer:   F0, then 01 or 02, "));
+}
+
+#[test]
+fn a_size_of_twos_that_cannot_be_counted() {
+    let mut rows = vec![[18, 0, 0, 0, 0, 0, 0, 0]];
+    for at in 0..100u8 {
+        rows.push([22, 0, at, 0, at, 0, 0, 0]);
+    }
+    rows.push([0xF0, 1, 101, 0, 100, 0, 0, 0]);
+    assert!(answered(&["check", "--book"], &rows.concat()).0.contains("  size:  more than can be counted here\n"));
+}
+
+#[test]
+fn a_size_of_threes_that_cannot_be_counted() {
+    let mut rows = vec![[18, 0, 0, 0, 0, 0, 0, 0]];
+    for at in 0..100u8 {
+        rows.push([27, 0, at, 0, at, 0, at, 0]);
+    }
+    rows.push([0xF0, 1, 101, 0, 100, 0, 0, 0]);
+    assert!(answered(&["check", "--book"], &rows.concat()).0.contains("  size:  more than can be counted here\n"));
+}
+
+/// Texts whose cells are shared are marked where they stand, and their binders have their names.
+#[test]
+fn marks_and_names_in_shared_texts() {
+    says(
+        "share {1 = 5} ,, {2 = 5} ,, (T + 1)",
+        &["standard input:1:30\n", "  1 | share {1 = 5} ,, {2 = 5} ,, (T + 1)\n      |                              ^\n"],
+    );
+    says("share \\a : Int . 1 + 1 + (\\b : Int . #2 : Int) 1 : Int", &["binders around it:  2, from the inside b, a"]);
+    says(
+        "let p = 1 in let q = p + p in \\a : Int . q + (\\b : Int . q + #2 : Int) 1 : Int",
+        &["binders around it:  2, from the inside b, a"],
+    );
+    says("let p = {1 = 2} in {3 = p} ,, {4 = p} ,, {5 = 6 7}", &["standard input:1:47\n"]);
+}
+
+/// Which half, which side, which part of a type.
+#[test]
+fn halves_and_types_are_not_exchanged() {
+    lacks("(1 + 2) ,, 3", "The right half");
+    says("1 ,, (1 + 2)", &["\nThe right half is no value yet"]);
+    says("({1 = 2} ,, (1 + 2)) ,, ({3 = 4} ,, (3 : Int & Int))", &["overlap:     Int\n               Int\n"]);
+    says(
+        "(T ,, {3 = 1 + 2}) ,, ({4 = 5} ,, {3 = {2 = 1} ,, 2})",
+        &["overlap:     {3 : Int}\n               {3 : {2 : Int} & Int}\n"],
+    );
+    says("({1 = 1 + 2} ,, {3 = 4}) ,, ({3 = 5} ,, {1 = 6})", &["overlap:     {1 : Int}\n               {1 : Int}\n"]);
+    says("\\f : {1 : Int} -> Int . f 2 : Int", &["wanted:  {1 : Int}"]);
+    lacks("1 : {1 : Int}", "missing:");
+}
+
+/// A type of this many records that have a number each: three cells a record, less one.
+fn records(count: usize) -> String {
+    (0..count).map(|label| format!("{{{} : Int}}", label % 256)).collect::<Vec<_>>().join(" & ")
+}
+
+/// What cannot be asked is not said.
+#[test]
+fn types_too_large_to_be_asked_about() {
+    let b = records(467);
+    says(
+        &format!("\\x : {b} . ({{1 = x}} ,, {{2 = x}} ,, {{3 = x}}) ,, {{1 = x}} : Int"),
+        &["refused 14", "left half:   not found: the question is too large for a book"],
+    );
+    says(
+        &format!("\\x : {b} . ({{1 = x}} ,, {{2 = x}} ,, {{3 = x}}).9 : Int"),
+        &["field 9 is not there, or more than once", "read from:  not found: the question is too large for a book"],
+    );
+    let (large, small) = (records(680), records(5));
+    let text = format!("\\x : {large} . ({{1 = x}} ,, {{2 = x}} : {{1 : {small}}} & {{9 : {small}}}) : Top");
+    says(&text, &["refused 15", "found:   {1"]);
+    lacks(&text, "missing:");
+}
+
+/// Lines are as wide as they may be, and no wider.
+#[test]
+fn widths() {
+    for (length, lines) in [(72, 1), (73, 2)] {
+        let name = "a".repeat(length);
+        let printed = answered(&["check"], format!("label {name} = 1 {{{name} = 2}} ,, T").as_bytes()).0;
+        assert_eq!(printed.lines().count(), lines, "{printed}");
+    }
+    for (length, lines) in [(84, 2), (85, 3)] {
+        let name = "a".repeat(length);
+        let printed = answered(&["show"], format!("label {name} = 1 {{{name} = 2}} : Top").as_bytes()).0;
+        assert_eq!(printed.lines().count(), lines, "{printed}");
+    }
+    for (number, broken) in [("22", false), ("222", true)] {
+        let printed = answered(&["check"], &book(&format!("1 {number}{}", " ,, T".repeat(18))).bytes()).0;
+        assert_eq!(printed.contains("\n  ...\n"), broken, "{printed}");
+    }
+    let deep = format!("{}1{}", "(T ,, 1 2 : Int) (".repeat(60), ")".repeat(60));
+    let shown = answered(&["show"], deep.as_bytes()).0;
+    assert!(shown.lines().all(|line| line.len() - line.trim_start().len() <= 40), "{shown}");
+    let name = "a".repeat(67);
+    says(&format!("label {name} = 1 {{{name} = 2}}.5"), &[&format!("\nCompare the label: there is {name}.\n")]);
+    says(&format!("label {name}a = 1 {{{name}a = 2}}.5"), &[&format!("\nCompare the label: there is\n{name}a.\n")]);
+    let name = "a".repeat(66);
+    says(&format!("label {name} = 1 ({{{name} = 1}} ,, T) 2"), &[&format!("  applied is:  {{{name} : Int}} & Top\n")]);
+    says(
+        &format!("label {name}a = 1 ({{{name}a = 1}} ,, T) 2"),
+        &[&format!("  applied is:  {{{name}a : Int}}\n               & Top\n")],
+    );
+}
+
+/// The lines about a marked part; of a long part those at its ends.
+#[test]
+fn excerpts() {
+    let fields: Vec<String> =
+        (10..40).map(|label| if label == 25 { "{25 = 1 2}".into() } else { format!("{{{label} = 3}}") }).collect();
+    let printed = answered(&["check"], &book(&fields.join(" ,, ")).bytes()).0;
+    let wanted = "\n  ...\n  ,, {23 = 3}\n  ,, {24 = 3}\n  ,, {25 = 1 2}\n           ^^^\n  ,, {26 = 3}\n  ,, {27 = 3}\n  ...\n";
+    assert!(printed.contains(wanted), "{printed}");
+    let fields: Vec<String> = (10..40).map(|label| format!("{{{label} = 3}}")).collect();
+    let whole = fields.join(" ,, ");
+    let printed = answered(&["check"], &book(&format!("{{9 = {whole} ,, {{10 = 4}}}}")).bytes()).0;
+    let wanted = "
+  {9 =
+    {10 = 3}
+    ^^^^^^^^
+    ,, {11 = 3}
+    ^^^^^^^^^^^
+    ,, {12 = 3}
+    ^^^^^^^^^^^
+  ...
+    ,, {38 = 3}
+    ^^^^^^^^^^^
+    ,, {39 = 3}
+    ^^^^^^^^^^^
+    ,, {10 = 4}}
+    ^^^^^^^^^^^
+";
+    assert!(printed.contains(wanted), "{printed}");
+}
+
+#[test]
+fn long_types_are_cut() {
+    let label = |n: usize| format!("{}{n}", "a".repeat(40));
+    let declared: String = (1..=8).map(|n| format!("label {} = {n} ", label(n))).collect();
+    let wanted = |count: usize| {
+        let fields: Vec<String> = (1..=count).map(|n| format!("{{{} : Int}}", label(n))).collect();
+        let text = format!("{declared} \\f : {} -> Int . f 1 : Int", fields.join(" & "));
+        let printed = answered(&["check"], text.as_bytes()).0;
+        let lines: Vec<String> = printed
+            .lines()
+            .skip_while(|line| !line.starts_with("  wanted:"))
+            .take_while(|line| !line.starts_with("  by:"))
+            .map(str::to_owned)
+            .collect();
+        lines
+    };
+    let seven = wanted(7);
+    assert_eq!(seven.len(), 7, "{seven:?}");
+    assert_eq!(seven[0], format!("  wanted:   {{{} : Int}}", label(1)));
+    assert_eq!(seven[6], format!("            & {{{} : Int}}", label(7)));
+    let eight = wanted(8);
+    assert_eq!(eight.len(), 7, "{eight:?}");
+    assert_eq!(eight[2], format!("            & {{{} : Int}}", label(3)));
+    assert_eq!(eight[3], "            ... (23 cells in all)");
+    assert_eq!(eight[4], format!("            & {{{} : Int}}", label(6)));
+}
+
+#[test]
+fn carets_end_with_the_line() {
+    for lead in [0, 30, 200] {
+        let text = format!("{}{{1 = {}}} 2", " ".repeat(lead), vec!["1"; 60].join(" + "));
+        let (printed, _) = answered(&["check"], text.as_bytes());
+        let lines: Vec<&str> = printed.lines().collect();
+        let carets = lines.iter().position(|line| line.contains('^')).expect("carets");
+        assert!(lines[carets - 1].ends_with("..."), "{printed}");
+        assert_eq!(lines[carets].len(), lines[carets - 1].trim_end_matches('.').len(), "{printed}");
+    }
+}
+
+/// The last term of a trace is the one at the limit; progress tells the cells of the term.
+#[test]
+fn traces_end_at_the_limit_and_progress_counts_cells() {
+    let printed = answered(&["run", "--trace", "--limit", "1"], b"1 + 2 + 3").0;
+    assert_eq!(
+        printed,
+        "    0  1 + 2 + 3\n       ^^^^^\n    1  3 + 3\n       ^^^^^\nstopped for steps after 1 step: the term is no value yet\n"
+    );
+    let loops = bytes("books/spent_loop.book");
+    let _ = tool::running::watched(&loops, 50, |steps, cells| {
+        let left = tool::ask::run(&loops, steps).expect("a run").left;
+        assert_eq!(cells, Book::read(&left).expect("a book").parts.len());
+    });
+}

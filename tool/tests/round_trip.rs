@@ -2,7 +2,7 @@
 
 mod common;
 
-use common::{at, files, generated, largest};
+use common::{answered, at, files, generated, largest};
 use evaluator::{decode, encode_term, Refusal, Term, Version};
 use std::fs;
 use tool::assemble::{assemble, opened};
@@ -118,4 +118,27 @@ fn books_too_large_to_open_are_made_again() {
         assert_eq!(ask::check(&book).map_err(|refusal| refusal.number), Err(10));
         assert!(deep(move || again(&book)).expect("no panic").is_some());
     }
+}
+
+/// What is printed so is shown so: brackets, names, and where they are given.
+#[test]
+fn shown_as_written() {
+    for text in [
+        "\\x : Int . (\\y : Int . y : Int) : Int -> Int\n",
+        "fix self : Int -> Int . \\x : Int . self x : Int\n",
+        "if 1 then 2 else (\\x : Int . x : Int)\n",
+        "if (if 1 then 2 else 3) then 4 else 5\n",
+        "let part3 = \\x : Int . x : Int in\n{1 = {2 = part3} ,, {3 = part3}}\n",
+        "\\x : Int .\n  (let part1 = {1 = x} in\n    {2 = part1} ,, {3 = part1})\n  ,, T\n  : Top\n",
+        "\\x : Int .\n  if x\n  then 1\n  else (let part4 = x + 1 in\n      part4 + part4)\n  : Top\n",
+        "share\nlet part1 = {1 = #0} in\n\\x : Int . {2 = part1} ,, {3 = \\y : Int . {5 = part1} : Int} : Int\n",
+    ] {
+        assert_eq!(answered(&["show"], text.as_bytes()), (text.to_owned(), 0));
+    }
+}
+
+#[test]
+fn a_root_that_others_use_is_held() {
+    let middle = made("let a = 1 in let b = {1 = a} in a");
+    assert_eq!(made(&exact(&middle, &Labels::default())), middle);
 }
