@@ -1,6 +1,6 @@
 //! The command-line program: `cerealbank help`.
 
-use std::io;
+use std::io::{self, Write};
 use std::process::exit;
 use tool::commands::{main as asked, Status};
 use tool::deep;
@@ -12,5 +12,9 @@ fn main() {
         let (mut out, mut err) = (io::stdout(), io::stderr());
         asked(&arguments, &mut Terminal::standard(&mut out, &mut err))
     });
-    exit(status.map_or(Status::Failed as i32, |status| status as i32));
+    let status = status.unwrap_or_else(|| {
+        writeln!(io::stderr(), "there is no thread with as much stack as this takes").ok();
+        Status::Failed
+    });
+    exit(status as i32);
 }

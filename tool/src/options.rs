@@ -22,10 +22,10 @@ pub struct Options {
     pub form: Option<Form>,
 }
 
-/// What a flag does, with the value that it has.
+/// What a flag does; one with a value says whether the value will do.
 enum Set {
     Alone(fn(&mut Options)),
-    With(&'static str, fn(&mut Options, OsString) -> Option<()>),
+    With(&'static str, fn(&mut Options, OsString) -> bool),
 }
 
 pub struct Flag {
@@ -47,17 +47,26 @@ pub const FLAGS: [Flag; 12] = [
     Flag {
         name: "-o",
         help: "write the book to this file: what is made, or the term that a run reached",
-        set: Set::With("FILE", |to, file| Some(to.output = Some(file))),
+        set: Set::With("FILE", |to, file| {
+            to.output = Some(file);
+            true
+        }),
     },
     Flag {
         name: "--version",
         help: "the version of the book, 1 or 2",
-        set: Set::With("N", |to, text| Some(to.version = Some(number(text).filter(|n| (1..=2).contains(n))?))),
+        set: Set::With("N", |to, text| {
+            to.version = number(text).filter(|version| (1..=2).contains(version));
+            to.version.is_some()
+        }),
     },
     Flag {
         name: "--limit",
         help: "the most steps to take, 0 to 4294967295; 10000 if it is not given",
-        set: Set::With("N", |to, text| Some(to.limit = Some(number(text)?))),
+        set: Set::With("N", |to, text| {
+            to.limit = number(text);
+            to.limit.is_some()
+        }),
     },
     alone("--share", "lay equal parts down once", |to| to.share = true),
     alone("--cells", "the table of cells, and what each is", |to| to.cells = true),
@@ -123,12 +132,15 @@ fn set<'a>(
     let help = known.map_or("", |flag| flag.help);
     match (known.map(|flag| &flag.set), value) {
         (None, _) => Err(format!("{name}: this command has no such flag")),
-        (Some(Set::Alone(set)), None) => Ok(set(options)),
+        (Some(Set::Alone(set)), None) => {
+            set(options);
+            Ok(())
+        }
         (Some(Set::Alone(_)), Some(_)) => Err(format!("{name}: this flag has no value")),
         (Some(Set::With(what, set)), value) => {
             let value = value.or_else(|| left.next().cloned()).ok_or(format!("{name}: {what} is wanted"))?;
             let shown = value.to_string_lossy().into_owned();
-            set(options, value).ok_or(format!("{name} {shown}: {what} is {help}"))
+            set(options, value).then_some(()).ok_or(format!("{name} {shown}: {what} is {help}"))
         }
     }
 }

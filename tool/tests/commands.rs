@@ -428,11 +428,11 @@ fn progress_on_a_terminal() {
     let file = at("target/long.txt");
     fs::create_dir_all(at("target")).expect("a folder");
     fs::write(&file, long).expect("a file");
-    let Some(printed) = on_terminal("run target/long.txt --limit 8000000", "1") else { return };
+    let Some(printed) = on_terminal("run target/long.txt --limit 16000000", "1") else { return };
     let told: Vec<&str> = printed.split('\r').collect();
     let [first, .., last] = &told[..] else { panic!("{printed:?}") };
     assert!(first.is_empty() && told[1].contains(" steps, ") && told[1].ends_with(" cells"), "{printed:?}");
-    assert!(told[told.len() - 2].trim().is_empty() && last.starts_with("stopped for steps after 8000000 steps: "), "{printed:?}");
+    assert!(told[told.len() - 2].trim().is_empty() && last.starts_with("stopped for steps after 16000000 steps: "), "{printed:?}");
     assert!(!printed.contains('\x1b'), "{printed:?}");
     // What does not take long says nothing of how far it is.
     let quick = on_terminal("run books/spent_loop.book --limit 1000", "1").expect("a terminal");
