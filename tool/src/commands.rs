@@ -71,14 +71,14 @@ const COMMANDS: [Command; 5] = [
         name: "check",
         arguments: &["BOOK"],
         does: "prints the book's type, or why it is refused, where, and what would help",
-        flags: &["--quiet", "--book", "--notation"],
+        flags: &["--book", "--notation"],
         run: check_book,
     },
     Command {
         name: "run",
         arguments: &["BOOK"],
         does: "prints why the run stopped, after how many steps, and the term reached",
-        flags: &["--limit", "--trace", "-o", "--quiet", "--book", "--notation"],
+        flags: &["--limit", "--trace", "-o", "--book", "--notation"],
         run: run_book,
     },
     Command {
@@ -145,7 +145,7 @@ fn usage() -> String {
 
 fn manual(command: &Command) -> String {
     let mut manual = format!("cerealbank {} {}: {}\n\n", command.name, command.arguments.join(" "), command.does);
-    for flag in FLAGS.iter().filter(|flag| command.flags.contains(&flag.name)) {
+    for flag in FLAGS.iter().filter(|flag| flag.is_of(command.flags)) {
         writeln!(manual, "  {:14}  {}", flag.usage(), flag.help).ok();
     }
     manual

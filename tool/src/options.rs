@@ -75,7 +75,7 @@ pub const FLAGS: [Flag; 12] = [
     alone("--trace", "every term on the way, what steps next marked", |to| to.trace = true),
     alone("--book", "the input is a book in bytes, whatever it looks like", |to| to.form = Some(Form::Bytes)),
     alone("--notation", "the input is in the notation, whatever it looks like", |to| to.form = Some(Form::Notation)),
-    alone("--quiet", "print nothing, the exit status tells", |to| to.quiet = true),
+    alone("--quiet", "print no text: the exit status tells", |to| to.quiet = true),
     alone("--help", "what the command does, and its flags", |to| to.help = true),
 ];
 
@@ -86,7 +86,15 @@ impl Options {
     }
 }
 
+/// The flags of every command.
+const EVERYWHERE: [&str; 2] = ["--quiet", "--help"];
+
 impl Flag {
+    /// Whether a command with these flags has it.
+    pub fn is_of(&self, flags: &[&str]) -> bool {
+        flags.contains(&self.name) || EVERYWHERE.contains(&self.name)
+    }
+
     /// The flag as it is written, with the name of its value.
     pub fn usage(&self) -> String {
         match self.set {
@@ -128,7 +136,7 @@ fn set<'a>(
     let end = bytes.iter().position(|&byte| byte == b'=').unwrap_or(bytes.len());
     let name = &*String::from_utf8_lossy(&bytes[..end]);
     let value = bytes.get(end + 1..).map(|value| OsStr::from_bytes(value).to_owned());
-    let known = FLAGS.iter().find(|flag| flag.name == name && (flags.contains(&name) || name == "--help"));
+    let known = FLAGS.iter().find(|flag| flag.name == name && flag.is_of(flags));
     let help = known.map_or("", |flag| flag.help);
     match (known.map(|flag| &flag.set), value) {
         (None, _) => Err(format!("{name}: this command has no such flag")),

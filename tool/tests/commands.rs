@@ -102,6 +102,10 @@ fn quiet_says_nothing() {
             assert_eq!(answered(&arguments, b""), (String::new(), expected), "{arguments:?}");
         }
     }
+    assert_eq!(answered(&["show", "--quiet", "books/first_number.book"], b""), (String::new(), 0));
+    assert_eq!(answered(&["show", "--quiet", "books/refusals/05.book"], b""), (String::new(), 1));
+    assert_eq!(answered(&["explain", "--quiet", "14"], b""), (String::new(), 0));
+    assert_eq!(called(&["make", "--quiet"], b"1").stdout, called(&["make"], b"1").stdout);
 }
 
 /// What is no terminal gets no escape character, whatever NO_COLOR says.
@@ -308,12 +312,12 @@ fn help_and_flags() {
     let own: [(&str, &[&str]); 5] = [
         ("make", &["-o", "--version", "--share"]),
         ("show", &["--exact", "--cells", "--dot", "--book", "--notation"]),
-        ("check", &["--quiet", "--book", "--notation"]),
-        ("run", &["--limit", "--trace", "-o", "--quiet", "--book", "--notation"]),
+        ("check", &["--book", "--notation"]),
+        ("run", &["--limit", "--trace", "-o", "--book", "--notation"]),
         ("explain", &[]),
     ];
     for (command, flags) in own {
-        for flag in tool::options::FLAGS.iter().filter(|flag| flag.name != "--help") {
+        for flag in tool::options::FLAGS.iter().filter(|flag| !["--quiet", "--help"].contains(&flag.name)) {
             let said = answered(&[command, flag.name, "1", "2", "3"], b"").0;
             assert_eq!(
                 said.starts_with(&format!("{}: this command has no such flag\n", flag.name)),

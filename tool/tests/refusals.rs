@@ -10,7 +10,10 @@ use tool::ask::{are_disjoint, check, is_below, parts, run, Term};
 use tool::assemble::assemble;
 use tool::book::Book;
 use tool::deep;
+use tool::explanation::printed;
 use tool::format::{headings, section, NUMBERS};
+use tool::input::Input;
+use tool::refusals::explained;
 use tool::running::{traced, watched};
 
 /// The first line that the program prints of each book of books/refusals, and a line that says more.
@@ -42,6 +45,17 @@ const SAMPLES: [(&str, &str, &str); 14] = [
     ("14", "refused 14, cell 2: the two halves of this merge overlap, and nothing says which of them counts.", "  overlap:     1"),
     ("15", "refused 15, cell 1: a term of type Int is wanted here, and this one has type Top.", "  found:   Top"),
 ];
+
+/// No book gets refusal 1 from this program, which lends a whole work buffer; the library gives it for a shorter one.
+#[test]
+fn the_first_refusal_has_its_sentence() {
+    let book = bytes("books/first_number.book");
+    let answer = cerealbank::check(&book, &mut [0; 16]);
+    assert_eq!(answer, cerealbank::Answer::Refused { number: 1, cell: 0 });
+    let refusal = tool::ask::Refusal { number: 1, cell: 0 };
+    let printed = printed(refusal, &explained(&Input::of_bytes(book), refusal));
+    assert!(printed.starts_with("refused 1: the work buffer that was lent to the library has not 65536 bytes.\n"), "{printed}");
+}
 
 #[test]
 fn every_refusal_has_its_sentence() {
