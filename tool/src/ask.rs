@@ -1,5 +1,5 @@
-//! What the library says. Nothing about types and steps is decided here: every question becomes a book, and the library's answer is the
-//! answer.
+//! What the library says. Every question about types and values becomes a book, and the library's answer is the answer; which type a part
+//! names is read off the table of docs/FORMAT.md.
 
 use crate::book::{Book, Part};
 use crate::kinds::Kind;
@@ -29,7 +29,7 @@ pub struct Ran {
 }
 
 /// An answer that the library never gives. It names no cell.
-const NO_ANSWER: Refusal = Refusal { number: 0, cell: 0 };
+pub const NO_ANSWER: Refusal = Refusal { number: 0, cell: 0 };
 
 /// Checks a book: its type as a book, or the refusal.
 pub fn check(book: &[u8]) -> Result<Vec<u8>, Refusal> {
@@ -59,10 +59,11 @@ fn refusal(answer: Answer) -> Refusal {
     }
 }
 
-/// A book with nothing shared, and what is above each of its cells.
+/// A book with nothing shared, and of each of its cells the one above it, and how many binders around it its variables go to.
 pub struct Term {
     pub book: Book,
     above: Vec<Option<usize>>,
+    free: Vec<usize>,
 }
 
 impl Term {
@@ -71,7 +72,8 @@ impl Term {
         for (at, part) in book.parts.iter().enumerate() {
             part.children().iter().for_each(|&child| above[child] = Some(at));
         }
-        Term { book, above }
+        let free = book.free();
+        Term { book, above, free }
     }
 
     /// The cell that refers to this one, and by which field.
@@ -86,24 +88,12 @@ impl Term {
         let mut binders = Vec::new();
         let mut here = at;
         while let Some((above, place)) = self.above(here) {
-            if place == 0 && self.book.parts[above].kind.binds() {
+            if self.book.parts[above].kind.binders_over(place) > 0 {
                 binders.push(above);
             }
             here = above;
         }
         binders
-    }
-
-    /// Whether a variable in a cell, or the cell itself, goes to a binder around the cell.
-    pub fn uses_binder(&self, at: usize) -> bool {
-        self.goes_out(at, 0)
-    }
-
-    fn goes_out(&self, at: usize, within: usize) -> bool {
-        let part = &self.book.parts[at];
-        let inner = |place: usize| within + usize::from(part.kind.binds() && place == 0);
-        (part.kind == Kind::Variable && part.datum as usize >= within)
-            || part.children().iter().enumerate().any(|(place, &child)| self.goes_out(child, inner(place)))
     }
 
     /// The type that the library finds for a term that stands under binders; None if the question is too large. A variable of a binder around
@@ -114,25 +104,6 @@ impl Term {
         let mut asking = Asking { term: self, binders: self.binders(at), stand_ins: HashMap::new(), made };
         asking.copy(at, 0);
         asked(&asking.made).ok()
-    }
-
-    /// The parts of a merge: its halves that are no merges themselves, and the parts of those that are; each as a book.
-    pub fn merged(&self, at: usize) -> Vec<Book> {
-        let mut merged = Vec::new();
-        let mut left = vec![at];
-        while let Some(at) = left.pop() {
-            match self.book.parts[at] {
-                Part { kind: Kind::Merge, references: [a, b, _], .. } => left.extend([b, a]),
-                _ => merged.push(self.part(at)),
-            }
-        }
-        merged
-    }
-
-    /// The subtree of a cell as a book of its own.
-    pub fn part(&self, at: usize) -> Book {
-        let root = Book { root: at, ..self.book.clone() };
-        root.opened().map_or(root, |opened| opened.book)
     }
 }
 
@@ -157,7 +128,7 @@ impl Asking<'_> {
         }
         let mut copied = part;
         for (place, &child) in part.children().iter().enumerate() {
-            copied.references[place] = self.copy(child, within + usize::from(part.kind.binds() && place == 0));
+            copied.references[place] = self.copy(child, within + part.kind.binders_over(place));
         }
         self.made.push(copied)
     }
@@ -166,7 +137,7 @@ impl Asking<'_> {
     fn names_type(&self, at: usize) -> bool {
         match self.term.book.parts[at].kind {
             Kind::Annotation | Kind::Fixpoint | Kind::Sum | Kind::Choice => true,
-            Kind::Function => self.term.uses_binder(at),
+            Kind::Function => self.term.free[at] > 0,
             _ => false,
         }
     }
@@ -205,14 +176,16 @@ fn asked(book: &Book) -> Result<Book, Refusal> {
     Book::read(&type_found).ok_or(NO_ANSWER)
 }
 
-/// The parts of a type: the halves of an intersection that are none themselves, and the parts of those that are.
+/// The parts of a type, or of a merge: the halves of an intersection that are none themselves, and the parts of those that are; the same of
+/// merges. Each is a book.
 pub fn parts(of: &Book) -> Vec<Book> {
+    let joins = |kind: Kind| matches!(kind, Kind::And | Kind::Merge);
     let mut parts = Vec::new();
     let mut left = vec![of.root];
     while let Some(at) = left.pop() {
         match of.parts[at] {
-            Part { kind: Kind::And, references: [a, b, _], .. } => left.extend([b, a]),
-            _ => parts.push(Book { root: at, ..of.clone() }.shared().book),
+            Part { kind, references: [a, b, _], .. } if joins(kind) => left.extend([b, a]),
+            _ => parts.push(of.part(at)),
         }
     }
     parts
@@ -262,13 +235,13 @@ pub fn is_below(one: &Book, others: &[Book]) -> Option<bool> {
     is_accepted(&book, 15)
 }
 
-/// Whether a type is disjoint with all others: whether terms of them that are no values may be merged.
-pub fn are_disjoint(one: &Book, others: &[Book]) -> Option<bool> {
-    let mut book = Book::new(one.version);
-    let left = append(&mut book, one);
-    let left = stand_in(&mut book, left);
-    let right = joined(&mut book, Kind::And, others);
-    let right = stand_in(&mut book, right);
+/// Whether types are disjoint with others: whether terms of them that are no values may be merged.
+pub fn are_disjoint(ones: &[Book], others: &[Book]) -> Option<bool> {
+    let mut book = Book::new(ones.first()?.version);
+    let [left, right] = [ones, others].map(|types| {
+        let of = joined(&mut book, Kind::And, types);
+        stand_in(&mut book, of)
+    });
     book.add(Kind::Merge, &[left, right]);
     is_accepted(&book, 14)
 }
@@ -276,8 +249,7 @@ pub fn are_disjoint(one: &Book, others: &[Book]) -> Option<bool> {
 /// Whether closed values may be merged with others.
 pub fn may_be_merged(ones: &[Book], others: &[Book]) -> Option<bool> {
     let mut book = Book::new(ones.first()?.version);
-    let left = joined(&mut book, Kind::Merge, ones);
-    let right = joined(&mut book, Kind::Merge, others);
+    let [left, right] = [ones, others].map(|values| joined(&mut book, Kind::Merge, values));
     book.add(Kind::Merge, &[left, right]);
     is_accepted(&book, 14)
 }

@@ -7,16 +7,32 @@ use crate::parse::{ends, fits, parse, Form, Tree};
 use crate::source::{Fault, Span};
 use std::collections::HashMap;
 
-/// A book, and how each cell of it was written.
+/// A book, and the stretch of the text that each cell was written as.
 pub struct Assembled {
     pub book: Book,
-    /// The stretch of the text that a cell was written as.
     pub spans: Vec<Span>,
-    /// With nothing shared: where the name stands that a cell is a part of.
-    pub used: Vec<Option<Span>>,
     pub labels: Labels,
+}
+
+/// A book with nothing shared, and how each cell of it came about.
+#[derive(Default)]
+pub struct Written {
+    pub book: Book,
+    pub spans: Vec<Span>,
+    /// The use of a name that a cell is laid down for.
+    used: Vec<Option<usize>>,
+    /// The uses of names, each with the one that it is a part of.
+    uses: Vec<(Span, Option<usize>)>,
     /// The variables of the functions and fixpoints, by their cells.
     pub variables: HashMap<usize, String>,
+}
+
+impl Written {
+    /// Where the names stand that a cell is a part of, the innermost first.
+    pub fn uses(&self, cell: usize) -> impl Iterator<Item = Span> + '_ {
+        let first = self.used.get(cell).copied().flatten();
+        std::iter::successors(first, |&at| self.uses[at].1).map(|at| self.uses[at].0)
+    }
 }
 
 struct Assembler<'a> {
@@ -28,33 +44,33 @@ struct Assembler<'a> {
     /// Where a named node is laid; of one that uses outer variables, by how many binders are around it.
     laid: HashMap<(usize, usize), usize>,
     binders: Vec<usize>,
-    /// The names whose parts are being laid.
-    uses: Vec<Span>,
-    made: Assembled,
+    /// The use of a name whose part is being laid.
+    within: Option<usize>,
+    made: Written,
 }
 
 /// Assembles a text. What is asked for here goes before what the text says.
 pub fn assemble(text: &str, version: Option<u8>, share: bool) -> Result<Assembled, Fault> {
     let tree = parse(text)?;
-    let mut made = assembled(&tree, version, false)?;
+    let Written { mut book, mut spans, .. } = assembled(&tree, version, false)?;
     if share || tree.share {
-        let shared = made.book.shared();
-        made.spans = shared.of.iter().map(|&at| made.spans[at]).collect();
-        made.book = shared.book;
+        let shared = book.shared();
+        spans = shared.of.iter().map(|&at| spans[at]).collect();
+        book = shared.book;
     }
-    Ok(made)
+    Ok(Assembled { book, spans, labels: tree.labels })
 }
 
 /// Assembles a text with nothing shared: every cell is one place of it.
-pub fn opened(text: &str, version: Option<u8>) -> Result<Assembled, Fault> {
-    assembled(&parse(text)?, version, true)
+pub fn opened(text: &str) -> Result<Written, Fault> {
+    assembled(&parse(text)?, None, true)
 }
 
-fn assembled(tree: &Tree, version: Option<u8>, opened: bool) -> Result<Assembled, Fault> {
+fn assembled(tree: &Tree, version: Option<u8>, opened: bool) -> Result<Written, Fault> {
     let book = Book::new(version.or(tree.version).unwrap_or(1));
-    let made = Assembled { book, spans: vec![], used: vec![], labels: tree.labels.clone(), variables: HashMap::new() };
     let named = tree.named.iter().copied().collect();
-    let mut assembler = Assembler { tree, opened, named, laid: HashMap::new(), binders: vec![], uses: vec![], made };
+    let made = Written { book, ..Written::default() };
+    let mut assembler = Assembler { tree, opened, named, laid: HashMap::new(), binders: vec![], within: None, made };
     let root = assembler.lay(tree.root)?;
     assembler.made.book.root = root;
     Ok(assembler.made)
@@ -86,23 +102,19 @@ impl Assembler<'_> {
         Ok(cell)
     }
 
-    /// With nothing shared, the part as a whole stands where its name does.
     fn lay_use(&mut self, node: usize, part: usize) -> Result<usize, Fault> {
-        let at = self.tree.nodes[node].at;
-        self.uses.push(at);
+        let around = self.within;
+        self.made.uses.push((self.tree.nodes[node].at, around));
+        self.within = Some(self.made.uses.len() - 1);
         let cell = self.lay(part)?;
-        self.uses.pop();
-        if self.opened {
-            self.made.spans[cell] = at;
-            self.made.used[cell] = self.uses.last().copied();
-        }
+        self.within = around;
         Ok(cell)
     }
 
     fn lay_part(&mut self, node: usize, part: Part) -> Result<usize, Fault> {
         let mut moved = part;
         for (place, &child) in part.children().iter().enumerate() {
-            let within = part.kind.binds() && place == 0;
+            let within = part.kind.binders_over(place) > 0;
             if within {
                 self.binders.push(self.tree.nodes[node].binder);
             }
@@ -131,7 +143,7 @@ impl Assembler<'_> {
             return Err(Fault::new(at, format!("with this the book has more than {MOST_CELLS} cells")));
         }
         self.made.spans.push(at);
-        self.made.used.push(self.uses.last().copied());
+        self.made.used.push(self.within);
         Ok(self.made.book.push(part))
     }
 }

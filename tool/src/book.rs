@@ -48,15 +48,14 @@ impl Part {
     /// The part that 8 bytes are, if their kind is known.
     pub fn read(row: &[u8], version: u8) -> Option<Part> {
         let kind = known(row[0])?;
-        let field = |at: usize| u16::from_le_bytes([row[at], row[at + 1]]);
         let datum = match (kind.datum, version) {
             (Datum::None, _) => 0,
             (Datum::Label, _) => i64::from(row[1]),
-            (Datum::Skipped, _) => i64::from(field(2)),
+            (Datum::Skipped, _) => field(row, 0) as i64,
             (Datum::Number, 1) => i64::from(i32::from_le_bytes([row[4], row[5], row[6], row[7]])),
             (Datum::Number, _) => i64::from_le_bytes([0, 0, row[2], row[3], row[4], row[5], row[6], row[7]]) >> 16,
         };
-        let fields = [2, 4, 6].map(|at| usize::from(field(at)));
+        let fields = [0, 1, 2].map(|place| field(row, place));
         Some(Part::new(kind.kind, datum, &fields[..kind.references.len()]))
     }
 
@@ -78,16 +77,21 @@ impl Part {
     }
 }
 
+/// One of the fields a, b and c of a cell; of the trailer the second is the root.
+pub fn field(row: &[u8], place: usize) -> usize {
+    usize::from(u16::from_le_bytes([row[2 + 2 * place], row[3 + 2 * place]]))
+}
+
 /// A book. Every reference goes to a lower cell.
-#[derive(Clone, PartialEq, Eq, Debug)]
+#[derive(Clone, Default, PartialEq, Eq, Debug)]
 pub struct Book {
     pub version: u8,
     pub parts: Vec<Part>,
     pub root: usize,
 }
 
-/// A book with nothing shared, its cells in the order of the encoding, and for each the cell that it was before.
-pub struct Opened {
+/// A root laid down anew, in the order of the encoding, and for each cell the one that it was before.
+pub struct Relaid {
     pub book: Book,
     pub of: Vec<usize>,
 }
@@ -102,7 +106,7 @@ impl Book {
         let count = (bytes.len() / CELL).checked_sub(1)?;
         let (cells, trailer) = bytes.split_at(count * CELL);
         let version = trailer[1];
-        let root = usize::from(u16::from_le_bytes([trailer[4], trailer[5]]));
+        let root = field(trailer, 1);
         let parts: Option<Vec<Part>> = cells.chunks_exact(CELL).map(|row| Part::read(row, version)).collect();
         let book = Book { version, parts: parts?, root };
         let lower = book.parts.iter().enumerate().all(|(at, part)| part.children().iter().all(|&child| child < at));
@@ -155,31 +159,46 @@ impl Book {
         reached
     }
 
+    /// How many binders around each cell its variables go to, at most.
+    pub fn free(&self) -> Vec<usize> {
+        let mut free: Vec<usize> = Vec::with_capacity(self.parts.len());
+        for part in &self.parts {
+            let within = part.children().iter().enumerate();
+            let of_children = within.map(|(place, &child)| free[child].saturating_sub(part.kind.binders_over(place))).max();
+            free.push(if part.kind == Kind::Variable { part.datum as usize + 1 } else { of_children.unwrap_or(0) });
+        }
+        free
+    }
+
     /// The root with nothing shared; None if that has too many cells.
-    pub fn opened(&self) -> Option<Opened> {
+    pub fn opened(&self) -> Option<Book> {
         let fits = self.sizes()[self.root] <= MOST_CELLS as u64;
         fits.then(|| {
-            let mut opened = Opened { book: Book::new(self.version), of: Vec::new() };
+            let mut opened = Book::new(self.version);
             self.open(self.root, &mut opened);
             opened
         })
     }
 
-    fn open(&self, at: usize, opened: &mut Opened) -> usize {
+    fn open(&self, at: usize, opened: &mut Book) -> usize {
         let part = self.parts[at].moved(|child| self.open(child, opened));
-        opened.of.push(at);
-        opened.book.push(part)
+        opened.push(part)
+    }
+
+    /// A cell as the root of a book of its own.
+    pub fn part(&self, at: usize) -> Book {
+        Book { root: at, ..self.clone() }.shared().book
     }
 
     /// The root with equal parts laid once, each where it comes first in the encoding, and for each cell the one that it was before.
-    pub fn shared(&self) -> Opened {
-        let mut shared = Opened { book: Book::new(self.version), of: Vec::new() };
+    pub fn shared(&self) -> Relaid {
+        let mut shared = Relaid { book: Book::new(self.version), of: Vec::new() };
         let root = self.share(self.root, &mut shared, &mut vec![None; self.parts.len()], &mut HashMap::new());
         shared.book.root = root;
         shared
     }
 
-    fn share(&self, at: usize, to: &mut Opened, seen: &mut [Option<usize>], laid: &mut HashMap<Part, usize>) -> usize {
+    fn share(&self, at: usize, to: &mut Relaid, seen: &mut [Option<usize>], laid: &mut HashMap<Part, usize>) -> usize {
         if let Some(known) = seen[at] {
             return known;
         }

@@ -1,7 +1,7 @@
 //! A book cell by cell: a table, and a graph for Graphviz. Both show any bytes, also those that are no book.
 
-use crate::book::{Book, Part, CELL, TRAILER};
-use crate::kinds::{known, Datum, Sort};
+use crate::book::{field, Book, Part, CELL, TRAILER};
+use crate::kinds::{Datum, Sort};
 use std::fmt::Write;
 
 /// Bytes in hexadecimal.
@@ -9,31 +9,32 @@ pub fn hexadecimal(bytes: &[u8]) -> String {
     bytes.iter().map(|byte| format!("{byte:02X}")).collect::<Vec<_>>().join(" ")
 }
 
-/// What a cell is, by the table of kinds.
-pub fn described(row: &[u8], version: u8) -> String {
-    let Some(kind) = known(row[0]) else {
+/// What a part is, by the table of kinds, without its references.
+fn what(part: &Part) -> String {
+    let (name, datum) = (part.kind.row().name, part.datum);
+    match part.kind.row().datum {
+        Datum::None => name.to_owned(),
+        Datum::Label => format!("{name}, label {datum}"),
+        Datum::Skipped => format!("{name}, skips {datum}"),
+        Datum::Number => format!("{name} {datum}"),
+    }
+}
+
+/// What a cell is, with its references.
+fn described(row: &[u8], version: u8) -> String {
+    let Some(part) = Part::read(row, version) else {
         return format!("unknown kind {}", row[0]);
     };
-    let part = Part::read(row, version);
-    let datum = part.map_or(0, |part| part.datum);
-    let mut what = match kind.datum {
-        Datum::None => kind.name.to_owned(),
-        Datum::Label => format!("{}, label {datum}", kind.name),
-        Datum::Skipped => format!("{}, skips {datum}", kind.name),
-        Datum::Number => format!("{} {datum}", kind.name),
-    };
-    let references = part.into_iter().flat_map(|part| part.references).zip(kind.references);
-    for (place, (cell, (_, name))) in references.enumerate() {
-        write!(what, "{} {name} {cell}", if place == 0 { ":" } else { "," }).ok();
-    }
-    what
+    let named = part.children().iter().zip(part.kind.row().references).map(|(cell, (_, name))| format!("{name} {cell}"));
+    let named: Vec<String> = named.collect();
+    let gap = if named.is_empty() { "" } else { ": " };
+    format!("{}{gap}{}", what(&part), named.join(", "))
 }
 
 /// What the last 8 bytes say, if they begin as a trailer does.
 pub fn trailer(row: &[u8]) -> String {
-    let field = |at: usize| u16::from_le_bytes([row[at], row[at + 1]]);
     match row[0] {
-        TRAILER => format!("trailer: version {}, cells {}, root {}", row[1], field(2), field(4)),
+        TRAILER => format!("trailer: version {}, cells {}, root {}", row[1], field(row, 0), field(row, 1)),
         _ => "no trailer".into(),
     }
 }
@@ -84,22 +85,17 @@ pub fn table(bytes: &[u8]) -> String {
 /// A graph for Graphviz: a node a cell, types as boxes, an edge a reference; what the root does not reach is dashed.
 pub fn graph(book: &Book) -> String {
     let reached = book.reached();
-    let bytes = book.bytes();
-    let (rows, ..) = rows(&bytes);
     let mut graph = String::from("digraph book {\n  ordering=out;\n");
     for (at, part) in book.parts.iter().enumerate() {
-        let what = described(rows[at], book.version);
-        let what = what.split(':').next().unwrap_or_default();
         let shape = if part.sort() == Sort::Type { ", shape=box" } else { "" };
         let style = match (at == book.root, reached[at]) {
             (true, _) => ", style=bold",
             (_, false) => ", style=dashed",
             _ => "",
         };
-        writeln!(graph, "  c{at} [label=\"{at}: {what}\"{shape}{style}];").ok();
-        for (child, (_, name)) in part.children().iter().zip(part.kind.row().references) {
-            writeln!(graph, "  c{at} -> c{child} [label=\"{name}\"];").ok();
-        }
+        writeln!(graph, "  c{at} [label=\"{at}: {}\"{shape}{style}];", what(part)).ok();
+        let edges = part.children().iter().zip(part.kind.row().references);
+        graph.extend(edges.map(|(child, (_, name))| format!("  c{at} -> c{child} [label=\"{name}\"];\n")));
     }
     graph + "}\n"
 }

@@ -1,17 +1,15 @@
 //! The commands, a row each: a later one is one more row, and a function.
 
-use crate::ask::{check, run, Ran, Refusal, Stop};
+use crate::ask::{check, run, Ran, Refusal, Stop, NO_ANSWER};
 use crate::assemble::assemble;
 use crate::book::Book;
 use crate::cells::{graph, table};
 use crate::explanation::{printed, with_carets};
 use crate::format::{headings, section, NUMBERS};
 use crate::input::{book, form_of, read, text, Form, Input};
-use crate::labels::Labels;
-use crate::layout::{lay_out, Laid};
-use crate::names::Names;
+use crate::layout::lay_out;
 use crate::options::{options, Options, FLAGS};
-use crate::print::{bare_type, whole};
+use crate::print::{bare_type, laid};
 use crate::refusals::explained;
 use crate::running::{traced, watched};
 use crate::show::{exact, shown};
@@ -40,7 +38,7 @@ type Ended = Result<Status, Failure>;
 
 struct Command {
     name: &'static str,
-    /// What it is called with; the first may be left out.
+    /// What it may be called with; a book that is left out is standard input.
     arguments: &'static [&'static str],
     does: &'static str,
     flags: &'static [&'static str],
@@ -52,7 +50,7 @@ const LIMIT: u32 = 10_000;
 /// A run that takes longer than this says how far it is.
 const PATIENCE: Duration = Duration::from_millis(500);
 
-const COMMANDS: [Command; 5] = [
+static COMMANDS: [Command; 5] = [
     Command {
         name: "make",
         arguments: &["FILE"],
@@ -95,19 +93,13 @@ pub fn main(arguments: &[OsString], terminal: &mut Terminal) -> Status {
     let ended = match arguments.first().map(|name| name.to_string_lossy()) {
         None => Err(Failure::Call("a command is wanted".into())),
         Some(name) if ["help", "--help", "-h"].contains(&&*name) => {
-            let about = arguments.get(1).map(|name| name.to_string_lossy());
-            let command = COMMANDS.iter().find(|command| about.as_deref() == Some(command.name));
-            terminal.print(&command.map_or_else(usage, manual));
-            Ok(Status::Done)
+            helped(arguments.get(1).map(|about| about.to_string_lossy()).as_deref(), terminal)
         }
         Some(name) if name == "--version" => {
             terminal.print(concat!("cerealbank ", env!("CARGO_PKG_VERSION"), ", for books of version 1 and 2\n"));
             Ok(Status::Done)
         }
-        Some(name) => match COMMANDS.iter().find(|command| command.name == name) {
-            Some(command) => asked(command, &arguments[1..], terminal),
-            None => Err(Failure::Call(format!("{name}: there is no such command"))),
-        },
+        Some(name) => command(&name).and_then(|command| asked(command, &arguments[1..], terminal)),
     };
     let ended = ended.and_then(|status| terminal.finish().map(|()| status).map_err(Failure::File));
     ended.unwrap_or_else(|failure| {
@@ -119,6 +111,21 @@ pub fn main(arguments: &[OsString], terminal: &mut Terminal) -> Status {
         terminal.complain(&format!("{shown}{hint}\n"));
         Status::Failed
     })
+}
+
+fn command(name: &str) -> Result<&'static Command, Failure> {
+    let found = COMMANDS.iter().find(|command| command.name == name);
+    found.ok_or_else(|| Failure::Call(format!("{name}: there is no such command")))
+}
+
+/// What there is, or what a command does.
+fn helped(about: Option<&str>, terminal: &mut Terminal) -> Ended {
+    let text = match about {
+        Some(name) => manual(command(name)?),
+        None => usage(),
+    };
+    terminal.print(&text);
+    Ok(Status::Done)
 }
 
 fn asked(command: &Command, arguments: &[OsString], terminal: &mut Terminal) -> Ended {
@@ -136,7 +143,7 @@ fn usage() -> String {
     let mut usage =
         String::from("Writes, shows, checks, runs and explains folder books. The answers are the proved library's.\n\n");
     for command in &COMMANDS {
-        writeln!(usage, "  cerealbank {:7} {:6}  {}", command.name, command.arguments.join(" "), command.does).ok();
+        writeln!(usage, "  cerealbank {:7} {:9}  {}", command.name, command.arguments.join(" "), command.does).ok();
     }
     usage
         + "\nA book is a file or standard input, in bytes or in the notation of docs/NOTATION.md.\n\
@@ -155,7 +162,12 @@ fn input(options: &Options) -> Result<Input, Failure> {
     book(options.first(), options.form).map_err(Failure::File)
 }
 
-fn write_book(file: &OsString, bytes: &[u8]) -> Result<(), Failure> {
+/// Writes a book to a file; `-` is standard output.
+fn write_book(file: &OsString, bytes: &[u8], terminal: &mut Terminal) -> Result<(), Failure> {
+    if file == "-" {
+        terminal.write(bytes);
+        return Ok(());
+    }
     fs::write(file, bytes).map_err(|error| Failure::File(format!("{}: {error}", file.to_string_lossy())))
 }
 
@@ -169,7 +181,7 @@ fn make(options: &Options, terminal: &mut Terminal) -> Ended {
     let made = made.map_err(|fault| Failure::File(source.complaint(&fault)))?;
     let bytes = made.book.bytes();
     match &options.output {
-        Some(file) => write_book(file, &bytes)?,
+        Some(file) => write_book(file, &bytes, terminal)?,
         None if terminal.is_one => {
             return Err(Failure::Call("a book is bytes, and this is a terminal: name a file with -o FILE".into()))
         }
@@ -178,7 +190,7 @@ fn make(options: &Options, terminal: &mut Terminal) -> Ended {
     Ok(Status::Done)
 }
 
-/// Rows 2 to 8 keep a book from being read; a root that is a type, or too large, or without a type, can be shown.
+/// Refusals 2 to 8 keep a book from being read; a root that is a type, or too large, or without a type, can be shown.
 fn show(options: &Options, terminal: &mut Terminal) -> Ended {
     if [options.cells, options.dot, options.exact].iter().filter(|&&asked| asked).count() > 1 {
         return Err(Failure::Call("one of --exact, --cells and --dot is enough".into()));
@@ -191,7 +203,7 @@ fn show(options: &Options, terminal: &mut Terminal) -> Ended {
     let refused = check(&input.bytes).err().filter(|refusal| refusal.number < 9);
     let book = match (refused, Book::read(&input.bytes)) {
         (None, Some(book)) => book,
-        (refusal, _) => return Ok(refuse(&input, refusal.unwrap_or(Refusal { number: 0, cell: 0 }), terminal)),
+        (refusal, _) => return Ok(refuse(&input, refusal.unwrap_or(NO_ANSWER), terminal)),
     };
     terminal.print(&match (options.dot, options.exact) {
         (true, _) => graph(&book),
@@ -231,11 +243,11 @@ fn run_book(options: &Options, terminal: &mut Terminal) -> Ended {
         Err(refusal) => return Ok(refuse(&input, refusal, terminal)),
     };
     if let Some(file) = &options.output {
-        write_book(file, &ran.left)?;
+        write_book(file, &ran.left, terminal)?;
     }
     terminal.print(&ending(&ran));
     if let Some(book) = Book::read(&ran.left).filter(|_| !options.trace) {
-        terminal.print(&(term(&book, &input.labels, None, 0).lines.join("\n") + "\n"));
+        terminal.print(&(laid(&book, &input.labels, None, 0).lines.join("\n") + "\n"));
     }
     Ok(Status::Done)
 }
@@ -265,16 +277,12 @@ fn ending(ran: &Ran) -> String {
     }
 }
 
-fn term(book: &Book, labels: &Labels, redex: Option<usize>, lead: usize) -> Laid {
-    lay_out(&whole(book, &Names::none(book), labels, redex), lead)
-}
-
 /// Every term with its number of steps before it.
 fn trace(input: &Input, limit: u32, terminal: &mut Terminal) -> Result<(), Refusal> {
     traced(&input.bytes, limit, |reached| {
         let mut margin = format!("{:>5}  ", reached.steps);
         let mut text = String::new();
-        for line in with_carets(&term(&reached.term, &input.labels, reached.redex, margin.len())).concat() {
+        for line in with_carets(&laid(&reached.term, &input.labels, reached.redex, margin.len())).concat() {
             writeln!(text, "{margin}{line}").ok();
             margin = " ".repeat(margin.len());
         }

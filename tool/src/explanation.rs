@@ -2,18 +2,18 @@
 
 use crate::ask::Refusal;
 use crate::book::Book;
+use crate::kinds::Sort;
 use crate::labels::Labels;
 use crate::layout::{lay_out, Laid, WIDTH};
-use crate::names::Names;
-use crate::print::{bare_type, whole};
+use crate::print::{bare_type, laid};
 
-/// The lines that are shown at either end of a long type.
-const TYPE_ENDS: usize = 3;
+/// The lines that are shown at either end of a long type or term.
+const ENDS: usize = 3;
 /// What stands within a sentence is shorter than this.
 const SHORT: usize = 60;
 /// The lines about a marked part that are shown, and of a long part those at its ends.
 const CONTEXT: usize = 2;
-/// The columns that stand before a type.
+/// The columns that stand before a type or a term.
 const MARGIN: usize = 16;
 
 /// A refusal in words, and everything that is shown with it.
@@ -55,29 +55,23 @@ impl Explanation {
     }
 }
 
-/// A type in the notation; of a long one both ends.
-pub fn lines_of(a_type: &Book, labels: &Labels) -> Vec<String> {
-    let mut lines = lay_out(&bare_type(a_type, labels), MARGIN).lines;
-    if lines.len() > 2 * TYPE_ENDS + 1 {
-        let cut = format!("... ({} cells in all)", a_type.sizes()[a_type.root]);
-        lines.splice(TYPE_ENDS..lines.len() - TYPE_ENDS, [cut]);
+/// A type or a term in the notation; of a long one both ends.
+pub fn lines_of(book: &Book, labels: &Labels) -> Vec<String> {
+    let mut lines = match book.parts[book.root].sort() {
+        Sort::Type => lay_out(&bare_type(book, labels), MARGIN).lines,
+        Sort::Term => laid(book, labels, None, MARGIN).lines,
+    };
+    if lines.len() > 2 * ENDS + 1 {
+        let cut = format!("... ({} cells in all)", book.sizes()[book.root]);
+        lines.splice(ENDS..lines.len() - ENDS, [cut]);
     }
     lines
 }
 
-/// One line, if it is a short one.
-fn short(lines: Vec<String>) -> Option<String> {
-    lines.into_iter().reduce(|_, _| " ".repeat(SHORT)).filter(|line| line.len() < SHORT)
-}
-
-/// A type, if it is short.
-pub fn short_type(a_type: &Book, labels: &Labels) -> Option<String> {
-    short(lines_of(a_type, labels))
-}
-
-/// A term, if it is short.
-pub fn short_term(term: &Book, labels: &Labels) -> Option<String> {
-    short(lay_out(&whole(term, &Names::none(term), labels, None), MARGIN).lines)
+/// The same on one line, if it is short.
+pub fn short(book: &Book, labels: &Labels) -> Option<String> {
+    let [line] = <[String; 1]>::try_from(lines_of(book, labels)).ok()?;
+    (line.len() < SHORT).then_some(line)
 }
 
 /// Every line, its carets below it.

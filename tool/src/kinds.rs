@@ -89,9 +89,14 @@ impl Kind {
         &KINDS[if code < FIRST_TERM { code - FIRST_TYPE } else { code - FIRST_TERM + TYPES }]
     }
 
-    /// Whether the first reference, the body, has one more binder around it.
+    /// Whether a function or a fixpoint, which binds a variable.
     pub fn binds(self) -> bool {
         matches!(self, Kind::Function | Kind::Fixpoint)
+    }
+
+    /// How many binders more are around a reference: one around a body, the first.
+    pub fn binders_over(self, place: usize) -> usize {
+        usize::from(self.binds() && place == 0)
     }
 }
 

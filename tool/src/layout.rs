@@ -133,7 +133,7 @@ impl Layout {
     }
 }
 
-/// The width of what follows before it may be broken.
+/// The width of what follows before it may be broken. More than a line of it need not be looked at.
 fn following(tasks: &[Task]) -> usize {
     let mut width: usize = 0;
     for task in tasks.iter().rev().take(WIDTH) {

@@ -33,7 +33,7 @@ use std::thread::Builder;
 const OWN_STACK: usize = 64 << 20;
 
 /// Does something in a thread with the stack that the library asks for, and what this program needs for the deepest text and book; None if
-/// there is no such thread.
+/// there is no such thread, or if it panics.
 pub fn deep<T: Send + 'static>(does: impl FnOnce() -> T + Send + 'static) -> Option<T> {
     Builder::new().stack_size(cerealbank::STACK + OWN_STACK).spawn(does).ok()?.join().ok()
 }

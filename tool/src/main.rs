@@ -13,7 +13,11 @@ fn main() {
         asked(&arguments, &mut Terminal::standard(&mut out, &mut err))
     });
     let status = status.unwrap_or_else(|| {
-        writeln!(io::stderr(), "there is no thread with as much stack as this takes").ok();
+        writeln!(
+            io::stderr(),
+            "this could not be done: there is no thread with as much stack as it takes, or the program has a fault"
+        )
+        .ok();
         Status::Failed
     });
     exit(status as i32);

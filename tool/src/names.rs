@@ -1,7 +1,7 @@
 //! Which parts of a book are shown by name, and where the name is given.
 
 use crate::book::Book;
-use crate::kinds::{Kind, Sort};
+use crate::kinds::Sort;
 use std::collections::HashMap;
 
 /// Where a part is named.
@@ -44,7 +44,7 @@ impl Names {
     /// Every part of more than one cell that stands in more than one place has a name.
     pub fn of_shared(book: &Book) -> Names {
         let uses = uses(book, &book.reached());
-        let free = free(book);
+        let free = book.free();
         let around = Around::of(book);
         let place = |at: usize| match around.nearest[at] {
             _ if uses[at] < 2 || book.parts[at].children().is_empty() => Place::Nowhere,
@@ -55,33 +55,31 @@ impl Names {
     }
 
     /// As few names, all in front of the whole, as it takes to lay every cell down where it stands. The cells from one name's to the next
-    /// are the tree of that name, in the order of the encoding.
+    /// are the tree of that name, in the order of the encoding: a cell waits for the one that refers to it, and is laid down within it if
+    /// those that wait last are its children, in their order.
     pub fn of_cells(book: &Book) -> Names {
         let uses = uses(book, &vec![true; book.parts.len()]);
-        let last = book.parts.len() - 1;
         let mut places = vec![Place::Front; book.parts.len()];
         let mut waiting: Vec<usize> = Vec::new();
-        let mut waits = vec![false; book.parts.len()];
         for (at, part) in book.parts.iter().enumerate() {
-            let within: Vec<usize> = part.children().iter().copied().filter(|&child| waits[child]).collect();
-            let kept = within.iter().rev().zip(waiting.iter().rev()).take_while(|(one, other)| one == other).count();
-            let (named, inner) = within.split_at(within.len() - kept);
-            inner.iter().for_each(|&child| places[child] = Place::Nowhere);
-            waiting.drain(waiting.len() - kept..).for_each(|cell| waits[cell] = false);
-            let past = match named {
-                [] => 0,
-                _ => waiting.iter().rposition(|cell| named.contains(cell)).map_or(0, |place| place + 1),
+            let children = part.children();
+            let mut before = children.len();
+            let mut is_next = |cell: &usize| {
+                let place = children[..before].iter().rposition(|child| child == cell);
+                before = place.unwrap_or(0);
+                place.is_some()
             };
-            waiting.drain(..past).for_each(|cell| waits[cell] = false);
-            if uses[at] == 1 && at != book.root {
-                waiting.push(at);
-                waits[at] = true;
-            } else {
-                waiting.drain(..).for_each(|cell| waits[cell] = false);
+            let kept = waiting.iter().rev().take_while(|cell| is_next(cell)).count();
+            waiting.drain(waiting.len() - kept..).for_each(|cell| places[cell] = Place::Nowhere);
+            let named = waiting.iter().rposition(|cell| children.contains(cell));
+            waiting.drain(..named.map_or(0, |place| place + 1));
+            waiting.push(at);
+            if uses[at] != 1 || at == book.root {
+                waiting.clear();
             }
         }
-        if book.root == last {
-            places[last] = Place::Nowhere;
+        if book.root + 1 == book.parts.len() {
+            places[book.root] = Place::Nowhere;
         }
         Names::new(places)
     }
@@ -118,17 +116,6 @@ fn uses(book: &Book, counts: &[bool]) -> Vec<usize> {
     uses
 }
 
-/// How many binders around each cell its variables go to, at most.
-fn free(book: &Book) -> Vec<usize> {
-    let mut free: Vec<usize> = Vec::with_capacity(book.parts.len());
-    for part in &book.parts {
-        let of_child = |(place, &child): (usize, &usize)| free[child].saturating_sub(usize::from(part.kind.binds() && place == 0));
-        let of_children = part.children().iter().enumerate().map(of_child).max().unwrap_or(0);
-        free.push(if part.kind == Kind::Variable { part.datum as usize + 1 } else { of_children });
-    }
-    free
-}
-
 /// Of each cell that the root reaches and that has parts, the nearest cell that every way from the root to it passes, and whether no binder lies between.
 struct Around {
     nearest: Vec<Option<usize>>,
@@ -143,7 +130,7 @@ impl Around {
             let part = &book.parts[at];
             let larger = part.children().iter().enumerate().filter(|(_, &child)| !book.parts[child].children().is_empty());
             for (place, &child) in larger {
-                around.enter(at, child, part.kind.binds() && place == 0);
+                around.enter(at, child, part.kind.binders_over(place) > 0);
             }
         }
         around

@@ -42,7 +42,7 @@ fn number<T: std::str::FromStr>(text: OsString) -> Option<T> {
     text.to_str()?.parse().ok()
 }
 
-/// All flags. A command has those that it names.
+/// All flags. A command has those that it names, and those of every command.
 pub const FLAGS: [Flag; 12] = [
     Flag {
         name: "-o",

@@ -144,7 +144,7 @@ impl<'a> Parser<'a> {
     fn number(&mut self, digits: &str, low: i64, high: i64, what: &str) -> Result<i64, Fault> {
         let signed = low >= 0 && digits.starts_with('-');
         let fits = digits.parse().ok().filter(|number| (low..=high).contains(number) && !signed);
-        let number = fits.ok_or_else(|| Fault::new(self.place(), format!("{what} is a number from {low} to {high}")))?;
+        let number = fits.ok_or_else(|| Fault::new(self.place(), format!("{what} goes from {low} to {high}")))?;
         self.advance();
         Ok(number)
     }
@@ -177,7 +177,7 @@ impl<'a> Parser<'a> {
     fn label_name(&mut self) -> Result<(), Fault> {
         let at = self.place();
         let name = self.name("a label")?;
-        self.want(Token::Equals, "=")?;
+        self.want(Token::Equals, "`=`")?;
         let number = self.label(false)?;
         let labels = &mut self.tree.labels.0;
         if let Some((earlier, _)) = labels.iter().find(|(other, label)| other == name || *label == number) {
@@ -208,7 +208,7 @@ impl<'a> Parser<'a> {
         }
     }
 
-    fn add(&mut self, form: Form, at: Span, binder: usize) -> Read {
+    fn add(&mut self, form: Form, at: Span) -> Read {
         let outermost = match form {
             Form::Bound(binder) => binder,
             Form::Use(part) => self.outermost(&[part]),
@@ -217,9 +217,12 @@ impl<'a> Parser<'a> {
         };
         self.parts += usize::from(!matches!(form, Form::Let(..) | Form::Use(_)));
         if self.parts > MOST_CELLS {
-            return Err(Fault::new(at, format!("with this the text has more than {MOST_CELLS} cells, even before any are shared")));
+            return Err(Fault::new(
+                at,
+                format!("with this the text has more than {MOST_CELLS} cells, which `share` does not lower"),
+            ));
         }
-        self.tree.nodes.push(Node { form, at, binder, outermost });
+        self.tree.nodes.push(Node { form, at, binder: 0, outermost });
         Ok(self.tree.nodes.len() - 1)
     }
 
@@ -230,7 +233,7 @@ impl<'a> Parser<'a> {
     /// A part that begins at a place and ends with the last word that was read.
     fn part(&mut self, from: usize, kind: Kind, datum: i64, references: &[usize]) -> Read {
         let at = (from, self.words[self.next.max(1) - 1].1 .1);
-        self.add(Form::Part(Part::new(kind, datum, references)), at, 0)
+        self.add(Form::Part(Part::new(kind, datum, references)), at)
     }
 
     fn deeper(&mut self) -> Result<(), Fault> {
@@ -263,7 +266,7 @@ impl<'a> Parser<'a> {
         self.terms.truncate(terms);
         self.types.truncate(types);
         let at = (from, self.tree.nodes[rest].at.1);
-        named.into_iter().rev().try_fold(rest, |rest, part| self.add(Form::Let(part, rest), at, 0))
+        named.into_iter().rev().try_fold(rest, |rest, part| self.add(Form::Let(part, rest), at))
     }
 
     /// `let NAME = term in`, `type NAME = type in`, as often as there are such; what is named.
@@ -291,7 +294,7 @@ impl<'a> Parser<'a> {
     fn named_term(&mut self) -> Read {
         self.advance();
         let name = self.name("a part")?;
-        self.want(Token::Equals, "=")?;
+        self.want(Token::Equals, "`=`")?;
         self.deeper()?;
         self.unfinished.push(name);
         let part = self.whole(false)?;
@@ -305,7 +308,7 @@ impl<'a> Parser<'a> {
     fn named_type(&mut self) -> Read {
         self.advance();
         let name = self.name("a type")?;
-        self.want(Token::Equals, "=")?;
+        self.want(Token::Equals, "`=`")?;
         let part = self.function_type()?;
         self.want(Token::Word(Word::In), "`in`")?;
         self.types.push((name, part));
@@ -482,8 +485,8 @@ impl<'a> Parser<'a> {
         let found = self.terms.iter().rev().find(|(other, _)| *other == name).map(|&(_, meaning)| meaning);
         self.advance();
         match found {
-            Some(Meaning::Part(part)) => self.add(Form::Use(part), at, 0),
-            Some(Meaning::Variable(binder)) => self.add(Form::Bound(binder), at, 0),
+            Some(Meaning::Part(part)) => self.add(Form::Use(part), at),
+            Some(Meaning::Variable(binder)) => self.add(Form::Bound(binder), at),
             None if self.unfinished.contains(&name) => {
                 Err(Fault::new(at, "a `let` cannot use its own name: `in` is missing before it, or `fix` is meant"))
             }
@@ -557,7 +560,7 @@ impl<'a> Parser<'a> {
         let found = self.types.iter().rev().find(|(other, _)| *other == name).map(|&(_, part)| part);
         let part = found.ok_or_else(|| Fault::new(at, "no type has this name: Int, Top and those that a `type` names"))?;
         self.advance();
-        self.add(Form::Use(part), at, 0)
+        self.add(Form::Use(part), at)
     }
 
     /// A type in brackets, or a record type.

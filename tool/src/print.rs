@@ -3,7 +3,7 @@
 use crate::book::Book;
 use crate::kinds::{Kind, Sort};
 use crate::labels::Labels;
-use crate::layout::{all, bracketed, end, group, line, line_before, mark, nest, text, Doc};
+use crate::layout::{all, bracketed, end, group, lay_out, line, line_before, mark, nest, text, Doc, Laid};
 use crate::names::{name, Names};
 
 /// How loosely a form holds together; brackets keep a looser one within a tighter one.
@@ -46,6 +46,11 @@ pub fn whole(book: &Book, names: &Names, labels: &Labels, marked: Option<usize>)
         Sort::Term => printer.term(book.root, Hold::Annotation),
     };
     all(vec![named, root])
+}
+
+/// The root with nothing named, laid out; the marked cell is marked, and so many columns stand in front of every line.
+pub fn laid(book: &Book, labels: &Labels, marked: Option<usize>, lead: usize) -> Laid {
+    lay_out(&whole(book, &Names::none(book), labels, marked), lead)
 }
 
 /// The root type, without the word that stands before a type.

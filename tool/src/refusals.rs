@@ -1,12 +1,11 @@
 //! What each refusal says of a book: those of the file, of a cell's form, of the root; `typing` has those of the typing rules.
 
 use crate::ask::Refusal;
-use crate::book::{Book, CELL};
+use crate::book::{field, Book, CELL};
 use crate::cells::{hexadecimal, line, trailer};
-use crate::explanation::Explanation;
+use crate::explanation::{lines_of, Explanation};
 use crate::input::{Input, MOST_BYTES};
 use crate::kinds::{known, Datum, Row, Sort};
-use crate::labels::Labels;
 use crate::typing::of_term;
 
 /// A refusal in words.
@@ -15,7 +14,8 @@ pub fn explained(input: &Input, refusal: Refusal) -> Explanation {
         1 => Explanation::says("the work buffer that was lent to the library has not 65536 bytes"),
         2..=4 => of_file(&input.bytes, refusal.number),
         5..=8 => of_cell(&input.bytes, refusal),
-        9 | 10 => of_root(input, refusal),
+        9 => of_type(input, refusal.cell),
+        10 => of_size(input, refusal.cell),
         11..=15 => of_term(input, refusal),
         _ => Explanation::says("the library gave an answer that this program does not know"),
     }
@@ -48,7 +48,7 @@ fn length(bytes: &[u8]) -> String {
     match count % CELL {
         _ if count as u64 == MOST_BYTES => format!("{count} bytes or more"),
         0 => format!("{count} bytes"),
-        past => format!("{count} bytes, which is {} and {past}", count - past),
+        past => format!("{count} bytes, which is {} and {past} more", count - past),
     }
 }
 
@@ -71,10 +71,6 @@ fn of_cell(bytes: &[u8], Refusal { number, cell }: Refusal) -> Explanation {
     };
     let cells = line(bytes, cell).into_iter().map(|line| line.trim_start().to_owned()).collect();
     explanation.facts("the cell", cells).facts("what is wrong", wrong)
-}
-
-fn field(row: &[u8], place: usize) -> usize {
-    usize::from(u16::from_le_bytes([row[2 + 2 * place], row[3 + 2 * place]]))
 }
 
 /// The fields that a kind does not name and that are not zero.
@@ -107,23 +103,29 @@ fn references(kind: &Row, row: &[u8], cell: usize, bytes: &[u8], number: u8) -> 
     named.filter(is_wrong).map(said).collect()
 }
 
-fn of_root(input: &Input, Refusal { number, cell }: Refusal) -> Explanation {
-    let book = Book::read(&input.bytes);
-    let labels: &Labels = &input.labels;
-    let place = input.source_of(cell).map_or(vec![], |marked| marked.lines().map(str::to_owned).collect());
-    if number == 9 {
-        let opened = book.as_ref().and_then(Book::opened).map(|opened| opened.book);
-        let help = match input.source().is_some() {
-            true => "Write a term: `type A` alone is a book's type, and no book to be sent.",
-            false => "Set the trailer's root to the cell of a term. What a check leaves is a type, and no book to be sent.",
-        };
-        let explanation = Explanation::says("the root is a type, and only a term can be checked and run").helps(help);
-        return Explanation { place, ..explanation.with_type("the type", opened.as_ref(), labels) };
-    }
-    let size = book.and_then(|book| book.sizes().get(cell).copied()).unwrap_or(0);
+/// Where the root was written, if it was.
+fn root_written(input: &Input, cell: usize) -> Vec<String> {
+    input.source_of(cell).map_or(vec![], |marked| marked.lines().map(str::to_owned).collect())
+}
+
+fn of_type(input: &Input, cell: usize) -> Explanation {
+    let help = match input.source() {
+        Some(_) => "Write a term: `type A` alone is a book's type, and no book to be sent.",
+        None => "Set the trailer's root to the cell of a term. What a check leaves is a type, and no book to be sent.",
+    };
+    let opened = Book::read(&input.bytes).and_then(|book| book.opened());
+    let lines =
+        opened.map_or(vec!["of more than 4095 cells with nothing shared".into()], |opened| lines_of(&opened, &input.labels));
+    let explanation =
+        Explanation::says("the root is a type, and only a term can be checked and run").facts("the type", lines).helps(help);
+    Explanation { place: root_written(input, cell), ..explanation }
+}
+
+fn of_size(input: &Input, cell: usize) -> Explanation {
+    let size = Book::read(&input.bytes).and_then(|book| book.sizes().get(cell).copied()).unwrap_or(0);
     let size = if size == u64::MAX { "more than can be counted here".into() } else { size.to_string() };
     let explanation = Explanation::says("the book is too large: with nothing shared it has more than 4095 cells")
         .fact("size", size)
         .helps("A part that is used twice counts twice. Use large parts less often, shorten the types, or split the book.");
-    Explanation { place, ..explanation }
+    Explanation { place: root_written(input, cell), ..explanation }
 }

@@ -5,8 +5,8 @@ use crate::book::{Book, Part, CELL};
 use std::collections::HashMap;
 use std::time::{Duration, Instant};
 
-/// A watched run is asked for in parts that take about this long.
-const PART: Duration = Duration::from_millis(100);
+/// A watched run is asked for in parts that are doubled until one takes this long.
+const LONG: Duration = Duration::from_millis(100);
 
 /// Runs a book in parts, each from where the last one stopped, and tells after each how many steps were taken and how many cells the term
 /// has. What is laid down after some steps is a book, and goes on as the run would have gone on: the answer is that of a whole run.
@@ -21,7 +21,7 @@ pub fn watched(book: &[u8], limit: u32, mut tell: impl FnMut(u32, usize)) -> Res
         }
         tell(steps, ran.left.len() / CELL - 1);
         here = ran.left;
-        if start.elapsed() < PART {
+        if start.elapsed() < LONG {
             part = part.saturating_mul(2);
         }
     }

@@ -1,30 +1,30 @@
 //! The refusals of the typing rules, 11 to 15, in words. The library says which part is meant, and every type and every conflict that is shown.
 
 use crate::ask::{are_disjoint, check, first_no, is_below, may_be_merged, parts, run, top, Refusal, Stop, Term};
-use crate::assemble::{opened, Assembled};
+use crate::assemble::{opened, Written};
 use crate::book::Book;
-use crate::explanation::{excerpt, lines_of, short_term, short_type, Explanation};
+use crate::explanation::{excerpt, lines_of, short, Explanation};
 use crate::input::Input;
 use crate::kinds::Kind;
 use crate::labels::Labels;
-use crate::layout::lay_out;
-use crate::names::Names;
-use crate::print::{variable, whole};
+use crate::print::{laid, variable};
 use crate::source::Source;
 
 /// The most binders that are named.
 const BINDERS: usize = 8;
+/// The most uses of names that are shown.
+const USES: usize = 3;
 
 /// The library is asked about the book with nothing shared, so that the cell that it names is one place.
 pub fn of_term(input: &Input, refusal: Refusal) -> Explanation {
-    let book = Book::read(&input.bytes).and_then(|book| book.opened()).map(|opened| opened.book);
+    let book = Book::read(&input.bytes).and_then(|book| book.opened());
     let place = book.as_ref().and_then(|book| check(&book.bytes()).err());
     let (Some(book), Some(Refusal { cell, .. })) = (book, place) else {
         return Explanation::says("a part of it has no type");
     };
     let term = Term::new(book);
     let labels = &input.labels;
-    let written = input.source().and_then(|source| opened(&source.text, None).ok()).filter(|written| written.book == term.book);
+    let written = input.source().and_then(|source| opened(&source.text).ok()).filter(|written| written.book == term.book);
     let explanation = match refusal.number {
         11 => of_variable(&term, cell, |binder| written.as_ref()?.variables.get(&binder).cloned()),
         12 => of_application(&term, cell, labels),
@@ -34,15 +34,15 @@ pub fn of_term(input: &Input, refusal: Refusal) -> Explanation {
     };
     let place = match (input.source(), &written) {
         (Some(source), Some(written)) => where_written(source, written, cell),
-        _ => excerpt(&lay_out(&whole(&term.book, &Names::none(&term.book), labels, Some(cell)), 2)),
+        _ => excerpt(&laid(&term.book, labels, Some(cell), 2)),
     };
     Explanation { place, ..explanation }
 }
 
-/// The stretch of the text, and where its name is used if it is inside a named part.
-fn where_written(source: &Source, written: &Assembled, cell: usize) -> Vec<String> {
-    let used = written.used[cell].map(|used| format!("used at {}", source.marked(used)));
-    let marked = source.marked(written.spans[cell]) + used.as_deref().unwrap_or("");
+/// The stretch of the text, and where the names are used that it is a part of.
+fn where_written(source: &Source, written: &Written, cell: usize) -> Vec<String> {
+    let used = written.uses(cell).take(USES).map(|used| format!("used at {}", source.marked(used)));
+    let marked: String = std::iter::once(source.marked(written.spans[cell])).chain(used).collect();
     marked.lines().map(str::to_owned).collect()
 }
 
@@ -65,11 +65,9 @@ fn root(book: &Book) -> (Kind, i64) {
     (book.parts[book.root].kind, book.parts[book.root].datum)
 }
 
-/// What a record type has in its field, what a function type has as its input; any other type itself.
+/// The first part of a record, a record type or a function type: the content, or the input.
 fn content(book: &Book) -> Book {
-    let part = book.parts[book.root];
-    let at = part.children().first().copied().unwrap_or(book.root);
-    Book { root: at, ..book.clone() }.shared().book
+    book.part(book.parts[book.root].references[0])
 }
 
 fn of_application(term: &Term, at: usize, labels: &Labels) -> Explanation {
@@ -81,7 +79,7 @@ fn of_application(term: &Term, at: usize, labels: &Labels) -> Explanation {
     let subtracts = term.book.parts[argument].kind == Kind::Number && term.book.parts[argument].datum < 0;
     let help = match (parts_found.iter().find(|part| is_function(part)), parts_found.iter().find(|part| in_field(part))) {
         (Some(function), _) => {
-            let meant = short_type(function, labels).unwrap_or("the function type that is meant".into());
+            let meant = short(function, labels).unwrap_or("the function type that is meant".into());
             format!("There is a function in it: annotate it before it is applied, as in (... : {meant}).")
         }
         (_, Some(record)) => {
@@ -103,7 +101,7 @@ fn of_read(term: &Term, at: usize, labels: &Labels) -> Explanation {
     let shows_something = |record: &&Book| is_below(&top(term.book.version), std::slice::from_ref(record)) == Some(false);
     let (sentence, help) = match records.iter().filter(|record| root(record).1 == part.datum).find(shows_something) {
         Some(record) => {
-            let meant = short_type(record, labels).unwrap_or("the record type that is meant".into());
+            let meant = short(record, labels).unwrap_or("the record type that is meant".into());
             let help = format!("Annotate what is read from, as in (... : {meant}), or take one of them out.");
             (format!("field {field} is there more than once"), help)
         }
@@ -131,51 +129,82 @@ fn no_fields(found: Option<&Book>) -> &'static str {
 /// Why a half need not agree with the other.
 #[derive(Clone, Copy, PartialEq, Eq)]
 enum Reason {
-    /// It uses a variable of a binder around the merge.
+    /// It uses a variable of a binder around the merge: alone it has a variable without a binder.
     Outside,
     /// It is no value yet, as a run of no steps says.
     NoValue,
 }
 
-fn reason(term: &Term, half: usize) -> Option<Reason> {
-    if term.uses_binder(half) {
-        return Some(Reason::Outside);
+fn reason(half: &Book) -> Option<Reason> {
+    match run(&half.bytes(), 0) {
+        Ok(ran) => (ran.stop != Stop::Value).then_some(Reason::NoValue),
+        Err(refusal) => (refusal.number == 11).then_some(Reason::Outside),
     }
-    let stop = run(&term.part(half).bytes(), 0).ok()?.stop;
-    (stop != Stop::Value).then_some(Reason::NoValue)
 }
 
 fn of_merge(term: &Term, at: usize, labels: &Labels) -> Explanation {
     let [left, right, _] = term.book.parts[at].references;
-    let [one, other] = [left, right].map(|half| term.type_of(half));
-    let reasons = [left, right].map(|half| reason(term, half));
-    let clash = match reasons {
-        [None, None] => conflict(term, left, right),
-        _ => one.as_ref().zip(other.as_ref()).and_then(|(one, other)| overlap(one, other)),
+    let types = [left, right].map(|half| term.type_of(half));
+    let halves = [left, right].map(|half| term.book.part(half));
+    let reasons = [&halves[0], &halves[1]].map(reason);
+    let clash = match (reasons, &types) {
+        ([None, None], _) => clash(&halves[0], &halves[1], may_be_merged),
+        (_, [Some(one), Some(other)]) => clash(one, other, are_disjoint),
+        _ => None,
     };
-    let shown = |part: &Book| if reasons == [None, None] { short_term(part, labels) } else { short_type(part, labels) };
-    let sides = clash.as_ref().and_then(|[one, other]| Some(vec![shown(one)?, shown(other)?]));
+    let Clash { fields, parts: [one, other] } = clash.unwrap_or_default();
+    let fields: Vec<String> = fields.into_iter().map(|label| labels.shown(label)).collect();
+    let shown = |part: &Option<Book>| part.as_ref().map_or(vec![], |part| lines_of(part, labels));
     Explanation::says("the two halves of this merge overlap, and nothing says which of them counts")
-        .with_type("left half", one.as_ref(), labels)
-        .with_type("right half", other.as_ref(), labels)
-        .facts("overlap", sides.unwrap_or_default())
+        .with_type("left half", types[0].as_ref(), labels)
+        .with_type("right half", types[1].as_ref(), labels)
+        .facts("in field", if fields.is_empty() { vec![] } else { vec![fields.join(".")] })
+        .facts("overlap", shown(&one))
+        .facts("with", shown(&other))
         .helps(why(reasons))
-        .helps(way_out(clash.map(|[one, _]| root(&one).0)))
+        .helps(way_out(one.map(|one| root(&one).0)))
+}
+
+/// What overlaps in two halves: the first parts that may not stand beside each other, and the fields that they are found in.
+#[derive(Default)]
+struct Clash {
+    fields: Vec<i64>,
+    parts: [Option<Book>; 2],
+}
+
+/// Two types or two closed values, and whether parts of them may stand beside each other. Of records of one label that clash the contents
+/// do, and are looked into if they have fields.
+fn clash(one: &Book, other: &Book, fit: fn(&[Book], &[Book]) -> Option<bool>) -> Option<Clash> {
+    let (mut fields, mut one, mut other) = (Vec::new(), one.clone(), other.clone());
+    loop {
+        let (ones, others) = (parts(&one), parts(&other));
+        let first = first_no(&ones, |some| fit(some, &others))?;
+        let second = first_no(&others, |some| fit(std::slice::from_ref(first), some))?;
+        let is_record = |part: &Book| matches!(root(part).0, Kind::Record | Kind::RecordType);
+        let has_fields = |part: &Book| parts(&content(part)).iter().any(is_record);
+        if !is_record(first) || !has_fields(first) && !has_fields(second) {
+            return Some(Clash { fields, parts: [Some(first.clone()), Some(second.clone())] });
+        }
+        fields.push(root(first).1);
+        (one, other) = (content(first), content(second));
+    }
 }
 
 fn why(reasons: [Option<Reason>; 2]) -> String {
-    let said = |half: &str, reason: Reason| match (reason, half) {
-        (Reason::Outside, "Both halves") => "Both halves use variables from outside".into(),
-        (Reason::NoValue, "Both halves") => "Both halves are no values yet".into(),
-        (Reason::Outside, _) => format!("{half} uses a variable from outside"),
-        (Reason::NoValue, _) => format!("{half} is no value yet"),
+    let one = |reason: Reason| match reason {
+        Reason::Outside => "uses a variable from outside",
+        Reason::NoValue => "is no value yet",
+    };
+    let both = |reason: Reason| match reason {
+        Reason::Outside => "use variables from outside",
+        Reason::NoValue => "are no values yet",
     };
     let why = match reasons {
         [None, None] => return "Both halves are values, but where they overlap they are not the same.".into(),
-        [Some(one), Some(other)] if one == other => said("Both halves", one),
-        [Some(one), Some(other)] => format!("{}, and {}", said("The left half", one), said("the right half", other)),
-        [Some(one), None] => said("The left half", one),
-        [None, Some(other)] => said("The right half", other),
+        [Some(left), Some(right)] if left == right => format!("Both halves {}", both(left)),
+        [Some(left), Some(right)] => format!("The left half {}, and the right half {}", one(left), one(right)),
+        [Some(left), None] => format!("The left half {}", one(left)),
+        [None, Some(right)] => format!("The right half {}", one(right)),
     };
     format!("{why}: only halves of disjoint types may be merged then.")
 }
@@ -194,27 +223,11 @@ fn way_out(kind: Option<Kind>) -> &'static str {
     }
 }
 
-/// The first parts of two types that are not disjoint.
-fn overlap(one: &Book, other: &Book) -> Option<[Book; 2]> {
-    let (ones, others) = (parts(one), parts(other));
-    let first = first_no(&ones, |some| are_disjoint(other, some))?;
-    let second = first_no(&others, |some| are_disjoint(first, some))?;
-    Some([first.clone(), second.clone()])
-}
-
-/// The first parts of two closed values that may not be merged.
-fn conflict(term: &Term, left: usize, right: usize) -> Option<[Book; 2]> {
-    let [ones, others] = [left, right].map(|half| term.merged(half));
-    let first = first_no(&ones, |some| may_be_merged(some, &others))?;
-    let second = first_no(&others, |some| may_be_merged(std::slice::from_ref(first), some))?;
-    Some([first.clone(), second.clone()])
-}
-
 fn of_checked(term: &Term, at: usize, labels: &Labels) -> Explanation {
     let (by, wanted) = wanted(term, at);
     let found = term.type_of(at);
     let missing = wanted.as_ref().zip(found.as_ref()).and_then(|(wanted, found)| missing(wanted, found));
-    let [wants, finds] = [&wanted, &found].map(|a_type| a_type.as_ref().and_then(|a_type| short_type(a_type, labels)));
+    let [wants, finds] = [&wanted, &found].map(|a_type| a_type.as_ref().and_then(|a_type| short(a_type, labels)));
     let sentence = match wants.zip(finds) {
         Some((wants, finds)) => format!("a term of type {wants} is wanted here, and this one has type {finds}"),
         None => "this term has not the type that is wanted here".into(),
@@ -249,7 +262,7 @@ fn wanted(term: &Term, at: usize) -> (String, Option<Book>) {
         return ("nothing".into(), None);
     };
     let part = term.book.parts[above];
-    let named = |place: usize| Some(term.part(part.references[place]));
+    let named = |place: usize| Some(term.book.part(part.references[place]));
     match part.kind {
         Kind::Annotation => ("the annotation".into(), named(1)),
         Kind::Function => ("the function, of its body".into(), named(2)),

@@ -43,6 +43,7 @@ fn exit_status() {
         &["explain", "99"],
         &["show", "--cells", "--dot"],
         &["make", "--notation"],
+        &["help", "nothing"],
     ] {
         let (printed, status) = answered(wrong, b"1");
         assert_eq!(status, 2, "{wrong:?}: {printed}");
@@ -85,6 +86,7 @@ fn files_are_written() {
     fs::create_dir_all(at("target")).expect("a folder");
     let name = file.to_str().expect("a name");
     assert_eq!(answered(&["make", "books/drawing_register.txt", "-o", name], b""), (String::new(), 0));
+    assert_eq!(called(&["make", "books/drawing_register.txt", "-o", "-"], b"").stdout, fs::read(&file).expect("the book"));
     assert_eq!(fs::read(&file).expect("the book"), called(&["make", "books/drawing_register.txt"], b"").stdout);
     assert_eq!(status(&["run", "books/spent_loop.book", "--limit=7", "-o", name], b""), 0);
     let seven = fs::read(&file).expect("the term reached");

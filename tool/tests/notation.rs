@@ -170,17 +170,17 @@ fn errors_name_their_place() {
         ("1)", "1:2", "this does not belong here: the end is wanted"),
         ("{7 : Int}", "1:4", "this does not belong here: `=` and the field's content is wanted"),
         ("{revision = 1}", "1:2", "no label has this name: write `label revision = N` at the top"),
-        ("{256 = 1}", "1:2", "a label is a number from 0 to 255"),
+        ("{256 = 1}", "1:2", "a label goes from 0 to 255"),
         ("label a = 7 label b = 7 1", "1:19", "label 7 is named a already"),
         ("label a = 7 label a = 8 1", "1:19", "this label has its number already"),
         ("label let = 7 1", "1:7", "this word is the notation's own: the name of a label is wanted"),
-        ("version 3 1", "1:9", "a version is a number from 1 to 2"),
+        ("version 3 1", "1:9", "a version goes from 1 to 2"),
         ("version 1 version 2 1", "1:19", "the version is said already"),
         ("2147483648", "1:1", "a number of version 1 goes from -2147483648 to 2147483647; version 2 goes further"),
-        ("140737488355328", "1:1", "a number is a number from -140737488355328 to 140737488355327"),
+        ("140737488355328", "1:1", "a number goes from -140737488355328 to 140737488355327"),
         ("5.7", "1:2", "numbers are whole; to read a field of a number, put it in brackets"),
         ("12ab", "1:1", "a number ends with its digits"),
-        ("#65536", "1:1", "what a variable skips is a number from 0 to 65535"),
+        ("#65536", "1:1", "what a variable skips goes from 0 to 65535"),
         ("#x", "1:1", "# wants a number: how many binders the variable skips"),
         ("1 - 1", "1:3", "- stands only before a number, in ->, and twice before a comment; to subtract 1, write + -1"),
         ("\\x : Int . x", "1:13", "the text ends here: `:` and the function's output type is wanted"),
@@ -195,7 +195,7 @@ fn errors_name_their_place() {
         ("1 ,, 2 : Int ,, 3", "1:14", "an annotation holds loosest: before this it needs brackets"),
         ("if 1 : Int then 2 else 3", "1:6", "an annotation needs brackets here"),
         ("1 type A = Int in 3", "1:3", "behind a term this needs brackets, or a sign between them"),
-        ("{-0 = 1}", "1:2", "a label is a number from 0 to 255"),
+        ("{-0 = 1}", "1:2", "a label goes from 0 to 255"),
         ("(type N = Int in 1 : N) : N", "1:27", "no type has this name: Int, Top and those that a `type` names"),
         ("\\x : Int . x : Int ,, x", "1:23", "nothing here has this name: no function, fixpoint or `let` around it binds it"),
         ("(let a = 1 in a) + a", "1:20", "nothing here has this name: no function, fixpoint or `let` around it binds it"),
@@ -263,13 +263,13 @@ fn bounds() {
     assert_eq!(read(format!("1{}", " + 1".repeat(2_047))), Ok(4_095));
     assert_eq!(
         read(format!("1{}", " + 1".repeat(100_000))),
-        Err("with this the text has more than 4095 cells, even before any are shared".into())
+        Err("with this the text has more than 4095 cells, which `share` does not lower".into())
     );
     assert_eq!(read(format!("1 : {}Int", "Int -> ".repeat(2_046))), Ok(4_095));
     assert_eq!(read("{1 = ".repeat(20_000)), Err("this is nested more than 10000 deep".into()));
     assert_eq!(
         read("\\x : Int . ".repeat(20_000)),
-        Err("with this the text has more than 4095 cells, even before any are shared".into())
+        Err("with this the text has more than 4095 cells, which `share` does not lower".into())
     );
     assert_eq!(read("if ".repeat(20_000)), Err("this is nested more than 10000 deep".into()));
     assert_eq!(read("1 : ".to_owned() + &"{1 : ".repeat(20_000)), Err("this is nested more than 10000 deep".into()));

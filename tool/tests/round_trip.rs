@@ -39,7 +39,7 @@ fn again(bytes: &[u8]) -> Option<bool> {
     assert_eq!(plain == bytes, !text.starts_with("-- "), "{text}");
     assert!(text.lines().all(|line| line.len() <= WIDEST), "{text}");
     if let Some(expected) = book.opened() {
-        assert_eq!(opened(&text, None).map(|written| written.book), Ok(expected.book), "{text}");
+        assert_eq!(opened(&text).map(|written| written.book), Ok(expected), "{text}");
     }
     Some(plain == bytes)
 }
@@ -134,6 +134,14 @@ fn shown_as_written() {
         "share\nlet part1 = {1 = #0} in\n\\x : Int . {2 = part1} ,, {3 = \\y : Int . {5 = part1} : Int} : Int\n",
     ] {
         assert_eq!(answered(&["show"], text.as_bytes()), (text.to_owned(), 0));
+    }
+}
+
+/// As few names as it takes: a part that waits last may be any child.
+#[test]
+fn few_names_hold_every_cell() {
+    for text in ["let part0 = 1 in\n2 ,, part0\n", "let part0 = T in\nlet part2 = part0 ,, 1 in\n2 part0 ,, 3 part2\n"] {
+        assert_eq!(exact(&made(text), &Labels::default()), text);
     }
 }
 
