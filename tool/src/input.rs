@@ -40,7 +40,8 @@ impl Input {
     }
 }
 
-/// What a file holds by its content. A book begins with a kind, which is a control character, and its trailer has a zero; a text has neither.
+/// What a file holds by its content. A book begins with a kind, which is a control character other than a tab
+/// or a line end, and its trailer has a zero; a text has neither.
 pub fn form_of(bytes: &[u8]) -> Form {
     let is_control = |byte: &u8| byte.is_ascii_control() && !matches!(byte, b'\t' | b'\n' | b'\r');
     match bytes.first().is_none_or(is_control) || bytes.contains(&0) {

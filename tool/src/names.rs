@@ -54,9 +54,9 @@ impl Names {
         Names::new((0..book.parts.len()).map(place).collect())
     }
 
-    /// As few names, all in front of the whole, as it takes to lay every cell down where it stands. The cells from one name's to the next
-    /// are the tree of that name, in the order of the encoding: a cell waits for the one that refers to it, and is laid down within it if
-    /// those that wait last are its children, in their order.
+    /// Names, all in front of the whole, that lay every cell down where it stands. The cells from one name's to the next are the tree of that
+    /// name, in the order of the encoding: a cell waits for the one that refers to it, and is laid down within it if those that wait last are
+    /// its children, in their order.
     pub fn of_cells(book: &Book) -> Names {
         let uses = uses(book, &vec![true; book.parts.len()]);
         let mut places = vec![Place::Front; book.parts.len()];
@@ -71,8 +71,9 @@ impl Names {
             };
             let kept = waiting.iter().rev().take_while(|cell| is_next(cell)).count();
             waiting.drain(waiting.len() - kept..).for_each(|cell| places[cell] = Place::Nowhere);
-            let named = waiting.iter().rposition(|cell| children.contains(cell));
-            waiting.drain(..named.map_or(0, |place| place + 1));
+            let lowest = children.iter().copied().min().unwrap_or(at);
+            let named = waiting.iter().rev().take_while(|&&cell| cell >= lowest).position(|cell| children.contains(cell));
+            waiting.drain(..named.map_or(0, |place| waiting.len() - place));
             waiting.push(at);
             if uses[at] != 1 || at == book.root {
                 waiting.clear();
