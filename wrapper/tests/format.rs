@@ -7,7 +7,7 @@ mod pages;
 
 use cerealbank::{check, run, Answer, WORK};
 use evaluator::{Cell, Field, Row, Sort, Version, CELL, TABLE};
-use pages::{answer, asked, at, cut, number, padded, quoted, text, LIMIT};
+use pages::{answer, asked, at, books_in, cut, number, padded, quoted, text, LIMIT};
 use std::collections::BTreeSet;
 use std::fs;
 
@@ -79,9 +79,7 @@ fn every_refused_book_is_refused_as_its_section_says() {
 
 #[test]
 fn every_file_of_a_refused_book_has_a_section() {
-    let names = fs::read_dir(at("books/refusals")).expect("the folder").map(|entry| entry.expect("its files").file_name());
-    let names: BTreeSet<String> = names.map(|name| name.into_string().expect("a name")).collect();
-    assert_eq!(names, REFUSALS.skip(1).map(|number| format!("{number:02}.book")).collect());
+    assert_eq!(books_in("books/refusals"), REFUSALS.skip(1).map(|number| format!("{number:02}.book")).collect());
 }
 
 /// What an expression of Samples.antt stands for: lines of eight bytes, lists and named books, one behind the other.
@@ -306,7 +304,5 @@ fn every_sample_book_is_answered_as_its_table_says() {
         assert!(is_reached(reached, version, &work), "{name} does not reach {reached}");
         named.insert(name.to_string());
     }
-    let files = fs::read_dir(at("books")).expect("the folder").map(|entry| entry.expect("its files").file_name());
-    let files = files.map(|name| name.into_string().expect("a name")).filter(|name| name.ends_with(".book"));
-    assert_eq!(named, files.collect());
+    assert_eq!(named, books_in("books"));
 }

@@ -7,7 +7,7 @@ mod pages;
 
 use cerealbank::{check, run, Answer};
 use evaluator::{decode, encode_term, encode_type, infer, Term, TermShape, Version};
-use pages::{answer, asked, at, padded, quoted, text, LIMIT};
+use pages::{answer, asked, at, books_in, padded, quoted, text, LIMIT};
 use std::collections::BTreeSet;
 use std::fs;
 
@@ -150,6 +150,5 @@ fn the_other_pairs_are_answered_otherwise() {
 #[test]
 fn every_file_has_its_row() {
     let rows: BTreeSet<String> = reliable().into_iter().chain(unreliable()).flatten().map(|row| row.name + ".book").collect();
-    let files = fs::read_dir(at("books/merging")).expect("the folder").map(|entry| entry.expect("its files").file_name());
-    assert_eq!(rows, files.map(|name| name.into_string().expect("a name")).collect());
+    assert_eq!(rows, books_in("books/merging"));
 }

@@ -2,6 +2,7 @@
 
 use cerealbank::{Answer, WORK};
 use evaluator::{CELL, TRAILER};
+use std::collections::BTreeSet;
 use std::fs;
 use std::path::{Path, PathBuf};
 
@@ -14,6 +15,12 @@ pub fn at(path: &str) -> PathBuf {
 
 pub fn text(path: &str) -> String {
     fs::read_to_string(at(path)).unwrap_or_else(|error| panic!("{path}: {error}"))
+}
+
+/// The names of the books in a folder. The texts beside them are the tool's to test.
+pub fn books_in(folder: &str) -> BTreeSet<String> {
+    let files = fs::read_dir(at(folder)).expect("the folder").map(|entry| entry.expect("its files").file_name());
+    files.map(|name| name.into_string().expect("a name")).filter(|name| name.ends_with(".book")).collect()
 }
 
 pub fn number<T: std::str::FromStr>(word: &str) -> T {
