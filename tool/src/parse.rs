@@ -329,21 +329,20 @@ impl<'a> Parser<'a> {
     }
 
     fn merge(&mut self) -> Read {
-        let from = self.place().0;
-        let mut left = self.sum()?;
-        while self.eat(Token::Merge) {
-            let right = self.sum()?;
-            left = self.part(from, Kind::Merge, 0, &[left, right])?;
-        }
-        Ok(left)
+        self.row(Self::sum, Token::Merge, Kind::Merge)
     }
 
     fn sum(&mut self) -> Read {
+        self.row(Self::operand, Token::Plus, Kind::Sum)
+    }
+
+    /// Operands with a sign between them, from the left.
+    fn row(&mut self, operand: fn(&mut Self) -> Read, sign: Token, kind: Kind) -> Read {
         let from = self.place().0;
-        let mut left = self.operand()?;
-        while self.eat(Token::Plus) {
-            let right = self.operand()?;
-            left = self.part(from, Kind::Sum, 0, &[left, right])?;
+        let mut left = operand(self)?;
+        while self.eat(sign) {
+            let right = operand(self)?;
+            left = self.part(from, kind, 0, &[left, right])?;
         }
         Ok(left)
     }
@@ -529,13 +528,7 @@ impl<'a> Parser<'a> {
     }
 
     fn intersection(&mut self) -> Read {
-        let from = self.place().0;
-        let mut left = self.type_atom()?;
-        while self.eat(Token::And) {
-            let right = self.type_atom()?;
-            left = self.part(from, Kind::And, 0, &[left, right])?;
-        }
-        Ok(left)
+        self.row(Self::type_atom, Token::And, Kind::And)
     }
 
     fn type_atom(&mut self) -> Read {
