@@ -21,7 +21,7 @@ use Rattle.format.specs.Cell.{cellAt, cellBytes, signed, unsigned}
 use Rattle.format.specs.Tree.{cells, fieldTree, cellTree, unshareWithin, treeAt, refer, encode}
 use Rattle.format.specs.Terms.{fromType, fromTermIn, plainOf, toType, toTermIn}
 use Rattle.format.specs.Book.{firstBad, rowFault, cellFault, cellsFinding, rootFinding, cellsForm, formFinding, versionOf, follow, rootTerm, trailer, book}
-use Rattle.format.specs.Widths.{extendedCells, restamp}
+use Rattle.format.specs.Widths.{mappedCells, restamp}
 use Rattle.answers.specs.Answer.{spent, room, refused, Result, result}
 use Rattle.answers.specs.Engine.{IsWork, zeros, padded}
 use Rattle.answers.specs.Definition.{definition, refusalResult, afterTyping, afterForm, shown, full?, firstStop, ended, evaluate, endResult, reported}
@@ -121,7 +121,7 @@ refusals-hold = each refusals refusals-computed
 -- With a sum, a restamped book may run to another number: the last two.
 restamped-books :
     map restamp (hiddenField ∷ minusFive ∷ pastUpperEnd ∷ pastLowerEnd ∷ []) ≡ (restampedHiddenField ∷ restampedMinusFive ∷ above32 ∷ below32 ∷ [])
-unfolding cellAt cellBytes extendedCells restamp trailer hiddenField minusFive pastUpperEnd pastLowerEnd restampedHiddenField restampedMinusFive above32 below32
+unfolding cellAt cellBytes mappedCells restamp trailer hiddenField minusFive pastUpperEnd pastLowerEnd restampedHiddenField restampedMinusFive above32 below32
 restamped-books = refl
 
 -- The fixpoint at Int whose body is its own variable: sizes 3, 5, 7, .. With room for 5 the third term is too large.

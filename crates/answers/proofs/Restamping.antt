@@ -17,7 +17,7 @@ use Rattle.format.specs.declared.Version.the-variants.{One, Two}
 use Rattle.format.specs.Version.{halfOf}
 use Rattle.format.specs.Cell.{IsBytes}
 use Rattle.format.specs.Book.{WellFormed, versionOf, rootTerm, termBook}
-use Rattle.format.specs.Widths.{extendedCells, restamp}
+use Rattle.format.specs.Widths.{mappedCells, restamp}
 use Rattle.format.proofs.Tests.{formFinding-says}
 use Rattle.format.proofs.Restamping.{restamp-count, restamp-root, restamp-extends, restamp-version, restamp-bytes, restamp-well-formed, restamp-rootTerm}
 use Rattle.answers.specs.Answer.{Stop, value, spent, room, stopped, Result, result}
@@ -112,7 +112,7 @@ unfolding computing pastUpperEnd
 sum-accepted = typed-accepts pastUpperEnd (formFinding-says pastUpperEnd .0 refl, (int, t-sum t-lit b-int t-lit b-int))
 
 sum-differs : (E : Engine) → ¬ RestampedFor E pastUpperEnd
-unfolding computing extendedCells restamp pastUpperEnd
+unfolding computing mappedCells restamp pastUpperEnd
 sum-differs E r =
     let q = r .steps 1 (lit (pos 2147483647)) .0 (r-suc r-zero (s-sum c-lit c-lit)) in
     let z : lit (pos 2147483648) ≡ lit (pos 2147483647) = reaches-unique (t-sum t-lit b-int t-lit b-int) q (r-suc r-zero (s-sum c-lit c-lit)) in

@@ -57,7 +57,7 @@ fn length_ok(b: &[u8]) -> bool
 }
 
 // The version that byte 1 of the trailer stands for.
-fn version_from(x: u8) -> Version
+pub fn version_from(x: u8) -> Version
     ensures { λ r. ⌜ r ≡ versionFrom x ⌝ }
 {
     if x == 1 { Version::One } else { Version::Two }

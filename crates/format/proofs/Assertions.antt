@@ -10,7 +10,7 @@ use Rattle.format.specs.Cell.{cellAt, cellBytes}
 use Rattle.format.specs.Tree.{cells, fieldTree, cellTree, unshareWithin, treeAt}
 use Rattle.format.specs.Book.{bad-length, bad-trailer, bad-count, bad-unnamed, bad-reference, bad-sort, bad-root}
 use Rattle.format.specs.Book.{firstBad, rowFault, cellFault, cellsFinding, rootFinding, cellsForm, formFinding, follow, trailer}
-use Rattle.format.specs.Widths.{extendedCells, restamp}
+use Rattle.format.specs.Widths.{mappedCells, restamp}
 use Rattle.format.proofs.Findings.{at}
 
 abbrev cell : (kind label a b c : ℕ) → List ℕ
@@ -84,7 +84,7 @@ restamped :
     ∷ (17 ∷ 0 ∷ 255 ∷ 255 ∷ 255 ∷ 127 ∷ 0 ∷ 0 ∷ 240 ∷ 2 ∷ 1 ∷ 0 ∷ 0 ∷ 0 ∷ 0 ∷ 0 ∷ [])
     ∷ (top ++ cell 17 0 65531 65535 65535 ++ cell 26 0 1 1 0 ++ trailer Two 3 0)
     ∷ [])
-unfolding cellAt cellBytes extendedCells restamp trailer
+unfolding cellAt cellBytes mappedCells restamp trailer
 restamped = refl
 
 -- The top value, and a record of 1, merged: paths from the merge, cell 3.

@@ -6,6 +6,7 @@ pub mod Encoding
 pub mod RoundTrip
 pub mod Widths
 pub mod Restamping
+pub mod Joint
 pub mod Assertions
 pub mod Paths
 pub mod RefusalPaths

@@ -20,7 +20,7 @@ use Rattle.format.specs.Cell.{IsBytes, byte, Cell, cellAt, cellBytes, si
 use Rattle.format.specs.Tree.{Tree, fieldTree, cellTree, treeAt}
 use Rattle.format.specs.Terms.{fromTerm, plainOf, toTermIn, TermFits, WideFits}
 use Rattle.format.specs.Book.{count, rootOf, versionOf, hasSort, cellFault, leadsTo, WellFormedCells, WellFormed, rootTerm, trailer}
-use Rattle.format.specs.Widths.{signField, extended, Extends, extendedCells, restamp, wideCell, wideCells}
+use Rattle.format.specs.Widths.{signField, extended, Extends, mappedCells, extendedCells, restamp, wideCell, wideCells}
 use Rattle.format.proofs.Trees.{term-cells, term-back}
 use Rattle.format.proofs.Unsharing.{cellTree-same, treeAt-cell}
 use Rattle.format.proofs.Tests.{FieldOk, Each, each, cellFault-says, cell-looser, cell-fits, rootTerm-tree, rootTerm-fits, rootTerm-small}
@@ -119,30 +119,35 @@ cell-widened g i t =
 
 -- ---- the bytes
 
-length-extended : (s : List ℕ) (n i : ℕ) → length (extendedCells s n i) ≡ 8 * n
-unfolding extendedCells cellBytes
-length-extended s zero i = refl
-length-extended s (suc n) i = simp length-append (omega (arith, length-extended s n (suc i)))
+pub length-mapped : (f : Cell → Cell) (s : List ℕ) (n i : ℕ) → length (mappedCells f s n i) ≡ 8 * n
+unfolding mappedCells cellBytes
+length-mapped f s zero i = refl
+length-mapped f s (suc n) i = simp length-append (omega (arith, length-mapped f s n (suc i)))
+
+pub mapped-bytes : (f : Cell → Cell) (s : List ℕ) (n i : ℕ) → ((j : ℕ) → j < i + n → Bytes (cellBytes (f (cellAt s j)))) → Bytes (mappedCells f s n i)
+unfolding mappedCells
+mapped-bytes f s zero i y = empty
+mapped-bytes f s (suc n) i y = bytes-append (y i (omega arith)) (mapped-bytes f s n (suc i) (λ j h. y j (omega arith)))
+
+pub mapped-part : {b : List ℕ} (f : Cell → Cell) (s : List ℕ) (k n i j : ℕ) → j < n → Part b k (mappedCells f s n i) → Part b (k + j) (cellBytes (f (cellAt s (i + j))))
+unfolding mappedCells cellBytes
+mapped-part f s k zero i j h p = absurd (omega arith)
+mapped-part f s k (suc n) i zero h p = rw (add-zero k, add-zero i) (part-left (cellBytes (f (cellAt s i))) _ p)
+mapped-part f s k (suc n) i (suc j) h p =
+    let a : k + 1 ≡ suc k = omega arith in
+    let e : suc i + j ≡ i + suc j = omega arith in
+    let g : suc k + j ≡ k + suc j = omega arith in
+    rw (e, g) at (mapped-part f s (suc k) n (suc i) j (omega arith) (rw a at (part-right 1 (cellBytes (f (cellAt s i))) _ refl p)))
 
 extended-bytes : (s : List ℕ) → IsBytes s → (n i : ℕ) → Bytes (extendedCells s n i)
-unfolding extendedCells cellAt
-extended-bytes s y zero i = empty
-extended-bytes s y (suc n) i = bytes-append (one (cellAt s i) (y (8 * i)) (cell-fits s y i)) (extended-bytes s y n (suc i))
+unfolding cellAt
+extended-bytes s y n i = mapped-bytes extended s n i (λ j h. one (cellAt s j) (y (8 * j)) (cell-fits s y j))
   where
     one : (t : Cell) → t .kind < 256 → (t .label < 256) × (t .a < 65536) × (t .b < 65536) × (t .c < 65536) → Bytes (cellBytes (extended t))
     one t k f = by-kind (λ x. Bytes (cellBytes x)) t (λ e. cell-bytes _ k (f .0) (f .2) (f .3) (sign-fits (t .c))) (λ e. cell-bytes t k (f .0) (f .1) (f .2) (f .3))
 
-extended-part : {b : List ℕ} (s : List ℕ) (n i j : ℕ) → j < n → Part b i (extendedCells s n i) → Part b (i + j) (cellBytes (extended (cellAt s (i + j))))
-unfolding extendedCells cellBytes
-extended-part s zero i j h p = absurd (omega arith)
-extended-part s (suc n) i zero h p = rw add-zero (part-left (cellBytes (extended (cellAt s i))) _ p)
-extended-part s (suc n) i (suc j) h p =
-    let e : i + 1 ≡ suc i = omega arith in
-    let f : suc i + j ≡ i + suc j = omega arith in
-    rw f at (extended-part s n (suc i) j (omega arith) (rw e at (part-right 1 (cellBytes (extended (cellAt s i))) _ refl p)))
-
 pub extended-cell : (s t : List ℕ) (n i : ℕ) → i < n → cellAt (extendedCells s n 0 ++ t) i ≡ extended (cellAt s i)
-extended-cell s t n i h = rw zero-add at (cell-back _ (extended-part s n 0 i h (record { before = []; after = t; starts = refl; split = refl })))
+extended-cell s t n i h = rw zero-add at (cell-back _ (mapped-part extended s 0 n 0 i h (record { before = []; after = t; starts = refl; split = refl })))
 
 -- ---- bytes whose first n cells are those of s, extended
 
@@ -192,7 +197,7 @@ module _ (s e : List ℕ) (n : ℕ) (is : (i : ℕ) → i < n → cellAt e i ≡
 module _ (s : List ℕ) where
   restamp-length : length (restamp s) ≡ 8 * count s + 8
   unfolding restamp trailer
-  restamp-length = simp (length-append, length-extended)
+  restamp-length = simp (length-append, length-mapped)
 
   pub restamp-count : count (restamp s) ≡ count s
   restamp-count = rw restamp-length (omega arith)
@@ -207,7 +212,7 @@ module _ (s : List ℕ) where
   restamp-trailer : cellAt (restamp s) (count (restamp s)) ≡ record { kind = 0xf0; label = 2; a = count s; b = rootOf s; c = 0 }
   unfolding restamp trailer cellBytes
   restamp-trailer =
-      rw restamp-count (cell-back _ (record { before = extendedCells s (count s) 0; after = []; starts = length-extended s (count s) 0; split = refl }))
+      rw restamp-count (cell-back _ (record { before = extendedCells s (count s) 0; after = []; starts = length-mapped extended s (count s) 0; split = refl }))
 
   restamp-label : byte (restamp s) (8 * count (restamp s) + 1) ≡ 2
   unfolding cellAt

@@ -5,5 +5,6 @@ pub mod Tree
 pub mod Terms
 pub mod Book
 pub mod Widths
+pub mod Joint
 pub mod RoundTrip
 pub mod Checking

@@ -28,10 +28,14 @@ pub record Extends (t u : Cell) : Type 0 where
   pub number : t .kind ≡ 17 → signed (halfOf Two) (stored Two (u .a) (u .b) (u .c)) ≡ signed (halfOf One) (stored One (t .a) (t .b) (t .c))
   pub other : t .kind ≢ 17 → u ≡ t
 
--- n cells from i on, so extended
-unfoldable pub extendedCells : List ℕ → ℕ → ℕ → List ℕ
-extendedCells s zero i = []
-extendedCells s (suc n) i = cellBytes (extended (cellAt s i)) ++ extendedCells s n (suc i)
+-- n cells from i on, each as f has it;
+unfoldable pub mappedCells : (Cell → Cell) → List ℕ → ℕ → ℕ → List ℕ
+mappedCells f s zero i = []
+mappedCells f s (suc n) i = cellBytes (f (cellAt s i)) ++ mappedCells f s n (suc i)
+
+-- so extended
+abbrev pub extendedCells : List ℕ → ℕ → ℕ → List ℕ
+extendedCells = mappedCells extended
 
 -- A version 1 book "restamped as version 2": every number cell, whether the root reaches it or not, and the trailer.
 unfoldable pub restamp : List ℕ → List ℕ

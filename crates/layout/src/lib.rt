@@ -43,7 +43,7 @@ pub fn encode_in_place(s: &mut [u8], w: &mut [u8], u: u8, x: usize) -> usize
 }
 
 // Byte 1 of the trailer.
-fn version_byte(version: Version) -> u8
+pub fn version_byte(version: Version) -> u8
     ensures { λ r. ⌜ r ≡ versionByte version ⌝ }
 {
     match version {

@@ -1,0 +1,1 @@
+// Joining a part to the project.

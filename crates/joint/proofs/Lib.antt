@@ -1,0 +1,3 @@
+pub mod Raising
+pub mod Carrying
+pub mod Whole
