@@ -22,6 +22,11 @@ shown-accepts : (u : Version) (A : Ty) (n i : ℕ) → shown u A .answer ≢ ref
 unfolding shown
 shown-accepts u A n i e = let z : _≡_ {A = ℕ} 0 1 = cc in absurd (omega arith)
 
+-- a refusal of the definition's, with the row that meets the book
+pub check-refuses : (b w : List ℕ) → IsBytes b → (n i : ℕ) → check b w .answer ≡ refused n i → Refuses b w (check b w .left) n i
+unfolding check
+check-refuses b w bytes n i e = judge-refuses b w bytes (shown (versionOf b)) (shown-accepts (versionOf b)) n i e
+
 module _ {b w v : List ℕ} {r : Outcome} (bytes : IsBytes b) where
   meaning : Gives v r (check b w) → Checked b w v r
   unfolding check
@@ -31,7 +36,7 @@ module _ {b w v : List ℕ} {r : Outcome} (bytes : IsBytes b) where
         answer = g .answer;
         left = g .left;
         refuses = λ n i e.
-            subst (λ (u : List ℕ). Refuses b w u n i) (sym (g .left)) (judge-refuses b w bytes (shown (versionOf b)) (shown-accepts (versionOf b)) n i (sym (g .answer) ∙ e));
+            subst (λ (u : List ℕ). Refuses b w u n i) (sym (g .left)) (check-refuses b w bytes n i (sym (g .answer) ∙ e));
         accepts = λ k. (
           (λ n. d .accepts .0 (record { work = w; is-work = k; size = n .0; answers = sym (g .answer) ∙ n .1 })),
           λ t. (size-type (t .1 .0), g .answer ∙ ap (λ (x : Result). x .answer) (d .shows (t .1 .0) (t .0) (t .1 .1) w k)),

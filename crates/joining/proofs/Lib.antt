@@ -1,0 +1,4 @@
+pub mod Judging
+pub mod Refusals
+pub mod Stages
+pub mod Meaning

@@ -1,0 +1,3 @@
+pub mod Join
+pub mod Joins
+pub mod Stages

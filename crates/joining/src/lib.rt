@@ -1,1 +1,150 @@
-// Joining a part to the project.
+// Joining a part to the project. For every project's bytes, told length, part and work buffer the answer, the byte count, each byte left in the work buffer
+// and each lent byte of the project are fixed. A join is a judgement on a buffer of its own, and then one copy.
+use answers::Outcome;
+use answers::Refusal;
+use engine::check;
+use joint::write_joint;
+use layout::clear;
+use moving::copy;
+ghost use Rattle.joining.specs.Stages.{JudgesBook, RefusesFor, TurnsAway, JointJudgeable, JudgesJoint, PartJudgeable, JudgesPart};
+ghost use Rattle.joining.specs.Stages.{ProjectJudgeable, JudgesProject, Judgeable, Judges};
+ghost use Rattle.joining.specs.Joins.{Joins};
+
+// The length that a project's lent bytes have, that of a book of 4,095 cells.
+const LENT: usize = 32768;
+
+// The limit of a joint's cells.
+const LIMIT: usize = 4095;
+
+// Which book an answer means.
+pub enum Which {
+    Project,
+    Part,
+    Joint,
+}
+
+// What a join answers of the book that it means.
+pub enum JoinAnswer {
+    // the size of the joint's type
+    Accepted(usize),
+    // rows 1 to 15
+    Refused(Refusal),
+    // 16: more cells than a book may have
+    Full,
+}
+
+pub struct Joined {
+    pub which: Which,
+    pub answer: JoinAnswer,
+    // how many of the project's lent bytes hold the joint
+    pub bytes: usize,
+}
+
+// What a check says of a book.
+enum Verdict {
+    // the size of its type
+    Accepted(usize),
+    Refused(Refusal),
+}
+
+// A check; none is stopped.
+fn judge_book(book: &[u8], work: &mut [u8]) -> Verdict
+    ensures { λ r. ⌜ JudgesBook (now (book .entry)) (now (work .entry)) (now (work .exit)) r ⌝ }
+{
+    match check(book, work) {
+        Outcome::Refused(refusal) => Verdict::Refused(refusal),
+        Outcome::Accepted(size) => Verdict::Accepted(size),
+        Outcome::Stopped(_) => Verdict::Accepted(0),
+    }
+}
+
+// A refusal gives no bytes.
+fn refused(which: Which, answer: JoinAnswer) -> Joined
+    ensures { λ r. ⌜ RefusesFor which answer r ⌝ }
+{
+    Joined {
+        which,
+        answer,
+        bytes: 0,
+    }
+}
+
+// A refusal that no check gives: the work buffer is zeroed.
+fn turn_away(work: &mut [u8], which: Which, answer: JoinAnswer) -> Joined
+    ensures { λ r. ⌜ TurnsAway which answer (now (work .entry)) (now (work .exit)) r ⌝ }
+{
+    clear(work);
+    refused(which, answer)
+}
+
+// Two accepted books: the joint in a buffer of zeros, unless it has too many cells, and its own rows.
+fn judge_joint(project: &[u8], part: &[u8], joint: &mut [u8], work: &mut [u8]) -> Joined
+    requires { ⌜ JointJudgeable (now project) (now part) (now joint) (now work) ⌝ }
+    ensures { λ r. ⌜ JudgesJoint (now (project .entry)) (now (part .entry)) (now (joint .exit)) (now (work .entry)) (now (work .exit)) r ⌝ }
+{
+    let n = project.len() / 8 - 1;
+    let m = part.len() / 8 - 1;
+    if LIMIT < n + m + 1 {
+        return turn_away(work, Which::Joint, JoinAnswer::Full);
+    }
+    let bytes = write_joint(project, part, joint);
+    match judge_book(&joint[..bytes], work) {
+        Verdict::Refused(refusal) => refused(Which::Joint, JoinAnswer::Refused(refusal)),
+        Verdict::Accepted(size) => Joined {
+            which: Which::Joint,
+            answer: JoinAnswer::Accepted(size),
+            bytes,
+        },
+    }
+}
+
+// The part's rows, and then the joint; the project is accepted.
+fn judge_part(project: &[u8], part: &[u8], joint: &mut [u8], work: &mut [u8]) -> Joined
+    requires { ⌜ PartJudgeable (now project) (now joint) (now work) ⌝ }
+    ensures { λ r. ⌜ JudgesPart (now (project .entry)) (now (part .entry)) (now (joint .exit)) (now (work .entry)) (now (work .exit)) r ⌝ }
+{
+    match judge_book(part, work) {
+        Verdict::Refused(refusal) => refused(Which::Part, JoinAnswer::Refused(refusal)),
+        Verdict::Accepted(_) => judge_joint(project, part, joint, work),
+    }
+}
+
+// The project's rows, and then the part.
+fn judge_project(project: &[u8], part: &[u8], joint: &mut [u8], work: &mut [u8]) -> Joined
+    requires { ⌜ ProjectJudgeable (now joint) (now work) ⌝ }
+    ensures { λ r. ⌜ JudgesProject (now (project .entry)) (now (part .entry)) (now (joint .exit)) (now (work .entry)) (now (work .exit)) r ⌝ }
+{
+    match judge_book(project, work) {
+        Verdict::Refused(refusal) => refused(Which::Project, JoinAnswer::Refused(refusal)),
+        Verdict::Accepted(_) => judge_part(project, part, joint, work),
+    }
+}
+
+// All that a join says, and the joint, if it is accepted, in a buffer of zeros.
+fn judge(project: &[u8], length: usize, part: &[u8], joint: &mut [u8], work: &mut [u8]) -> Joined
+    requires { ⌜ Judgeable (now joint) ⌝ }
+    ensures { λ r. ⌜ Judges (now (project .entry)) length (now (part .entry)) (now (joint .exit)) (now (work .entry)) (now (work .exit)) r ⌝ }
+{
+    if work.len() != 65536 {
+        return refused(Which::Joint, JoinAnswer::Refused(Refusal::Buffer));
+    }
+    if project.len() != LENT {
+        return turn_away(work, Which::Project, JoinAnswer::Refused(Refusal::Length));
+    }
+    if LENT < length {
+        return turn_away(work, Which::Project, JoinAnswer::Refused(Refusal::Length));
+    }
+    judge_project(&project[..length], part, joint, work)
+}
+
+// Joins a part to the project that the first length of its lent bytes hold. Accepted, the joint is written over these, zeros behind it.
+pub fn join(project: &mut [u8], length: usize, part: &[u8], work: &mut [u8]) -> Joined
+    ensures { λ r. ⌜ Joins (now (project .entry)) (now (project .exit)) length (now (part .entry)) (now (work .entry)) (now (work .exit)) r ⌝ }
+{
+    let mut joint = [0u8; LENT];
+    let joined = judge(project, length, part, &mut joint, work);
+    if 0 < joined.bytes {
+        copy(&joint, project, LENT);
+    }
+    joined
+}

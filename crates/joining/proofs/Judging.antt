@@ -1,0 +1,281 @@
+-- What the functions behind a join answer is the definition's, stage by stage. Assumes nothing.
+use Prim.Native.Nat.{ℕ, zero, suc, _+_, _*_, _-_, _≤_, _<_}
+use native.Mathlib.Nat.{zero-add}
+use native.Mathlib.Omega.{arith}
+use mathlib.Core.Path.{_≡_, refl, sym, ap, ap₂, subst, _∙_}
+use mathlib.Core.Bool.{Bool, true, false, not, _&&_}
+use mathlib.Core.Logic.{_≢_}
+use mathlib.Core.Option.{Option, none, some}
+use mathlib.Core.List.{List, [], _++_}
+use borrow.Author.Tests.{lt-ltb, le-ltb, eq-eqb, ne-eqb}
+use lib.Dec.{eqb, ltb}
+use lib.ListN.{length, take, drop, replicate, length-replicate}
+use lib.Seq.{sets, sets-eq, length-sets, take-at}
+use Rattle.calculus.specs.Syntax.{Ty}
+use Rattle.calculus.specs.Infer.{Found, found, infer}
+use Rattle.calculus.specs.Infer as Infer
+use Rattle.format.specs.Cell.{IsBytes}
+use Rattle.format.specs.Book.{Finding, WellFormed, sizeLimit, formFinding, rootTerm, versionOf}
+use Rattle.format.specs.Joint.{jointCount, joint}
+use Rattle.format.proofs.Joint.{joint-of}
+use Rattle.answers.specs.Answer.{Stop, value, spent, room, Answer, refused, accepted, stopped, Result, result}
+use Rattle.answers.specs.Engine.{workLength, IsWork, zeros}
+use Rattle.answers.specs.Definition.{check, judge, afterForm, afterTyping, refusalResult, shown}
+use Rattle.answers.specs.Cases.{answerOf, refusalAnswer, stopAnswer}
+use Rattle.answers.specs.declared.Refusal.{Refusal}
+use Rattle.answers.specs.declared.Refusal.the-variants.{Buffer, Length, Trailer, Count, Kind, Unnamed, Reference, Sort, Root, Size}
+use Rattle.answers.specs.declared.Refusal.the-variants.{Unbound, Application, Projection, Merge, Mismatch}
+use Rattle.answers.specs.declared.Stop.{Stop as Stop·Stop}
+use Rattle.answers.specs.declared.Stop.the-variants.{Value, Spent, Room}
+use Rattle.answers.specs.declared.Outcome.{Outcome}
+use Rattle.answers.specs.declared.Outcome.the-variants.{Refused as Outcome·Refused, Accepted as Outcome·Accepted, Stopped as Outcome·Stopped}
+use Rattle.answers.proofs.AllSamples.{in-work}
+use Rattle.answers.proofs.Demands.{demand2}
+use Rattle.engine.specs.Check.{Checked}
+use Rattle.joint.specs.Writing.{JointReady, WritesJoint}
+use Rattle.joining.specs.declared.Which.{Which}
+use Rattle.joining.specs.declared.Which.the-variants.{Project, Part, Joint}
+use Rattle.joining.specs.declared.JoinAnswer.{JoinAnswer}
+use Rattle.joining.specs.declared.JoinAnswer.the-variants.{Accepted, Refused, Full}
+use Rattle.joining.specs.declared.Joined.{Joined}
+use Rattle.joining.specs.declared.Verdict.{Verdict}
+use Rattle.joining.specs.declared.Verdict.the-variants.{Accepted as Verdict·Accepted, Refused as Verdict·Refused}
+use Rattle.joining.specs.Join.{JoinResult, joinAnswer, lentLength, refusal, written, acceptance, afterCheck, afterBooks, afterPart, afterLengths, joined}
+use Rattle.joining.specs.Stages.{verdictAnswer, JudgesBook, RefusesFor, TurnsAway, Judged, ProjectJudgeable, PartJudgeable, JointJudgeable, JudgesJoint, JudgesPart, JudgesProject, Judges}
+
+-- ---- a check's verdict
+
+-- no check is stopped
+pub not-stopped : (b w : List ℕ) (s : Stop) (n : ℕ) → check b w .answer ≢ stopped s n
+unfolding check judge shown afterForm afterTyping refusalResult
+not-stopped b w s n e = tested (eqb (length w) workLength) refl e
+  where
+    clash : ¬ (_≡_ {A = ℕ} 0 1)
+    clash z = omega arith
+
+    typed : (f : Found) → afterTyping b (shown (versionOf b)) f .answer ≢ stopped s n
+    typed (found A) e = clash cc
+    typed (Infer.refused r p) e = clash cc
+
+    formed : (f : Option Finding) → afterForm b (shown (versionOf b)) f .answer ≢ stopped s n
+    formed none e = typed (infer [] (rootTerm b)) e
+    formed (some f) e = clash cc
+
+    tested : (t : Bool) → eqb (length w) workLength ≡ t → check b w .answer ≢ stopped s n
+    tested true p e = formed (formFinding b) (rw (p, judge) at e)
+    tested false p e = let z : refused 1 0 ≡ stopped s n = rw (p, judge) at e in clash cc
+
+module _ {b w v : List ℕ} {o : Outcome} (c : Checked b w v o) where
+  whole : {a : Answer} → answerOf o ≡ a → check b w ≡ result a v
+  whole {a} e = let p : check b w .answer ≡ a = sym (c .answer) ∙ e in λ i. record { answer = p i; left = sym (c .left) i }
+
+  pub refuses-book : {q : Refusal} → o ≡ Outcome·Refused q → JudgesBook b w v (Verdict·Refused q)
+  refuses-book e = record { says = whole (ap answerOf e) }
+
+  pub accepts-book : {n : ℕ} → o ≡ Outcome·Accepted n → JudgesBook b w v (Verdict·Accepted n)
+  accepts-book e = record { says = whole (ap answerOf e) }
+
+  pub stops-no-book : {s : Stop·Stop} {r : Verdict} → o ≡ Outcome·Stopped s → JudgesBook b w v r
+  stops-no-book {s} e = absurd (none s (sym (c .answer) ∙ ap answerOf e))
+    where
+      none : (s : Stop·Stop) → check b w .answer ≢ stopAnswer s
+      none (Value n) e = not-stopped b w value n e
+      none (Spent n) e = not-stopped b w spent n e
+      none (Room n) e = not-stopped b w room n e
+
+-- "Each .. work buffer": with 65,536 bytes, what they are makes no difference
+pub check-alike : (b w v : List ℕ) → IsWork w → IsWork v → check b w ≡ check b v
+unfolding check
+check-alike b w v j k = in-work b w (shown (versionOf b)) j ∙ sym (in-work b v (shown (versionOf b)) k)
+
+-- ---- one stage
+
+-- every refusal has a number and a cell
+refusal-number : (q : Refusal) → (n : ℕ) × (i : ℕ) × (refusalAnswer q ≡ refused n i)
+refusal-number Buffer = (_, _, refl)
+refusal-number Length = (_, _, refl)
+refusal-number Trailer = (_, _, refl)
+refusal-number Count = (_, _, refl)
+refusal-number (Kind i) = (_, _, refl)
+refusal-number (Unnamed i) = (_, _, refl)
+refusal-number (Reference i) = (_, _, refl)
+refusal-number (Sort i) = (_, _, refl)
+refusal-number (Root i) = (_, _, refl)
+refusal-number (Size i) = (_, _, refl)
+refusal-number (Unbound i) = (_, _, refl)
+refusal-number (Application i) = (_, _, refl)
+refusal-number (Projection i) = (_, _, refl)
+refusal-number (Merge i) = (_, _, refl)
+refusal-number (Mismatch i) = (_, _, refl)
+
+-- a refusal of the book x, with a result's answer and bytes
+refusal-judged : {x : Which} {a : JoinAnswer} {r : Joined} {y : Result} {l d v : List ℕ} → RefusesFor x a r → joinAnswer a ≡ y .answer → v ≡ y .left →
+    Judged l d v r (refusal x l y)
+refusal-judged f e g =
+    record {
+      which = f .which;
+      answer = ap joinAnswer (f .answer) ∙ e;
+      bytes = f .bytes;
+      left = g;
+      written = λ h. absurd (omega (arith, h, f .bytes));
+      stays = λ h. refl;
+    }
+
+module _ (x : Which) (b w l : List ℕ) (y : JoinResult) {v d : List ℕ} where
+  pub book-refused : {q : Refusal} {z : Verdict} {r : Joined} → JudgesBook b w v z → z ≡ Verdict·Refused q → RefusesFor x (Refused q) r →
+      Judged l d v r (afterCheck x l (check b w) y)
+  book-refused {q} c e f =
+      let n = refusal-number q in
+      let p : check b w ≡ result (refused (n .0) (n .1)) v = c .says ∙ ap (λ (z : Verdict). result (verdictAnswer z) v) e ∙ ap (λ (a : Answer). result a v) (n .2) in
+      rw p (refusal-judged f (n .2) refl)
+
+  pub book-accepted : {n : ℕ} {z : Verdict} {u : List ℕ} {r : Joined} → JudgesBook b w u z → z ≡ Verdict·Accepted n → Judged l d v r y →
+      Judged l d v r (afterCheck x l (check b w) y)
+  book-accepted {n} {u = u} c e j =
+      let p : check b w ≡ result (accepted n) u = c .says ∙ ap (λ (z : Verdict). result (verdictAnswer z) u) e in
+      rw p j
+
+-- ---- the joint
+
+drop-replicate : (k n : ℕ) → drop k (replicate {A = ℕ} n 0) ≡ replicate (n - k) 0
+drop-replicate zero n = let e : n ≡ n - 0 = omega arith in ap (λ (i : ℕ). replicate i 0) e
+drop-replicate (suc k) zero = let e : 0 ≡ 0 - suc k = omega arith in ap (λ (i : ℕ). replicate i 0) e
+drop-replicate (suc k) (suc n) = let e : n - k ≡ suc n - suc k = omega arith in drop-replicate k n ∙ ap (λ (i : ℕ). replicate i 0) e
+
+-- bytes over zeros, the rest zero
+over-zeros : (n : ℕ) (b : List ℕ) → length b ≤ n → sets (replicate {A = ℕ} n 0) 0 b ≡ b ++ replicate (n - length b) 0
+over-zeros n b h =
+    let k : 0 + length b ≤ length (replicate {A = ℕ} n 0) = rw length-replicate (omega arith) in
+    sets-eq b (replicate {A = ℕ} n 0) 0 k ∙ rw zero-add (ap (λ (x : List ℕ). b ++ x) (drop-replicate (length b) n))
+
+pub full-judged : {p q d w v : List ℕ} {r : Joined} → JointJudgeable p q d w → sizeLimit < jointCount p q → TurnsAway Joint Full w v r → JudgesJoint p q d w v r
+unfolding refusalResult afterBooks
+full-judged {p} {q} a h t =
+    record { says = λ l. rw (lt-ltb sizeLimit (jointCount p q) h, afterBooks) (refusal-judged (t .says) refl (t .zeroed ∙ ap zeros (a .before .before .work))) }
+
+module _ {p q d w : List ℕ} (yp : IsBytes p) (yq : IsBytes q) (a : JointJudgeable p q d w) (h : jointCount p q ≤ sizeLimit) where
+  buffer-long : length d ≡ lentLength
+  unfolding zeros
+  buffer-long = ap length (a .before .before .buffer .zeros-only) ∙ length-replicate {A = ℕ} lentLength 0
+
+  pub write-ready : JointReady p q d
+  write-ready = record { project = a .before .project; part = a .part; few = h; room = buffer-long }
+
+  joint-long : length (joint p q) ≡ 8 * (jointCount p q + 1)
+  joint-long = joint-of p q yp yq (a .before .project) (a .part) h .long
+
+  module _ {e : List ℕ} {b : ℕ} (m : WritesJoint p q d e b) where
+    written-is : e ≡ written (joint p q)
+    unfolding written zeros
+    written-is =
+        m .is ∙ ap (λ (x : List ℕ). sets x 0 (joint p q)) (a .before .before .buffer .zeros-only) ∙ over-zeros lentLength (joint p q) (omega (arith, joint-long, h))
+
+    pub prefix-fits : b ≤ length e
+    prefix-fits = omega (arith, m .bytes, joint-long, h, ap length (m .is) ∙ length-sets d 0 (joint p q), buffer-long)
+
+    prefix-is : take b e ≡ joint p q
+    unfolding written
+    prefix-is = ap (take b) written-is ∙ take-at (joint p q) (zeros (lentLength - length (joint p q))) b (sym (m .bytes))
+
+    module _ {v : List ℕ} {z : Verdict} (c : JudgesBook (take b e) w v z) where
+      judges-joint : JudgesBook (joint p q) w v z
+      judges-joint = record { says = rw prefix-is at (c .says) }
+
+      pub joint-refused : {x : Refusal} {r : Joined} → z ≡ Verdict·Refused x → RefusesFor Joint (Refused x) r → JudgesJoint p q e w v r
+      unfolding afterBooks
+      joint-refused o f =
+          record {
+            says = λ l. rw (le-ltb sizeLimit (jointCount p q) h, afterBooks)
+                (book-refused Joint (joint p q) w l (acceptance (joint p q) (check (joint p q) w)) judges-joint o f);
+          }
+
+      pub joint-accepted : {n : ℕ} → z ≡ Verdict·Accepted n → JudgesJoint p q e w v (record { which = Joint; answer = Accepted n; bytes = b })
+      unfolding afterBooks
+      joint-accepted {n} o =
+          let k : check (joint p q) w ≡ result (accepted n) v = judges-joint .says ∙ ap (λ (x : Verdict). result (verdictAnswer x) v) o in
+          record {
+            says = λ l. rw (le-ltb sizeLimit (jointCount p q) h, afterBooks)
+                (book-accepted Joint (joint p q) w l (acceptance (joint p q) (check (joint p q) w)) judges-joint o
+                (record {
+                  which = refl;
+                  answer = sym (ap (λ (x : Result). x .answer) k);
+                  bytes = m .bytes;
+                  left = sym (ap (λ (x : Result). x .left) k);
+                  written = λ _. written-is;
+                  stays = λ g. absurd (omega (arith, g, m .bytes, joint-long));
+                }));
+          }
+
+-- ---- the part and the project
+
+-- an accepted book is well-formed
+accepted-formed : {b w v : List ℕ} {z : Verdict} {n : ℕ} → IsBytes b → IsWork w → JudgesBook b w v z → z ≡ Verdict·Accepted n → WellFormed b
+accepted-formed {b} {w} {v} {n = n} y k c e =
+    demand2 b y .accepts .0
+    (record { work = w; is-work = k; size = n; answers = ap (λ (r : Result). r .answer) (c .says ∙ ap (λ (x : Verdict). result (verdictAnswer x) v) e) }) .0
+
+pub part-judgeable : {p d w u : List ℕ} {z : Verdict} {n : ℕ} → ProjectJudgeable d w → IsBytes p → JudgesBook p w u z → z ≡ Verdict·Accepted n → length u ≡ length w →
+    PartJudgeable p d u
+part-judgeable a y c e h = record { before = record { buffer = a .buffer; work = h ∙ a .work }; project = accepted-formed y (a .work) c e }
+
+pub joint-judgeable : {p q d w u : List ℕ} {z : Verdict} {n : ℕ} → PartJudgeable p d w → IsBytes q → JudgesBook q w u z → z ≡ Verdict·Accepted n → length u ≡ length w →
+    JointJudgeable p q d u
+joint-judgeable a y c e h =
+    record {
+      before = record { before = record { buffer = a .before .buffer; work = h ∙ a .before .work }; project = a .project };
+      part = accepted-formed y (a .before .work) c e;
+    }
+
+-- what comes after does not ask what the work buffer holds
+abbrev booksWith : List ℕ → List ℕ → List ℕ → Result → JoinResult
+booksWith p q l c = elim (ltb sizeLimit (jointCount p q)) [ true ↦ refusal Joint l (refusalResult 16 0) | false ↦ afterCheck Joint l c (acceptance (joint p q) c) ]
+
+books-alike : (p q l w u : List ℕ) → IsWork w → IsWork u → afterBooks p q l u ≡ afterBooks p q l w
+unfolding afterBooks
+books-alike p q l w u k j = ap (booksWith p q l) (check-alike (joint p q) u w j k)
+
+part-alike : (p q l w u : List ℕ) → IsWork w → IsWork u → afterPart p q l u ≡ afterPart p q l w
+unfolding afterPart
+part-alike p q l w u k j = ap₂ (λ (c : Result) (x : JoinResult). afterCheck Part l c x) (check-alike q u w j k) (books-alike p q l w u k j)
+
+module _ (p q w u : List ℕ) (k : IsWork w) (h : length u ≡ length w) {e v : List ℕ} {z : Verdict} {n : ℕ} {r : Joined} where
+  pub part-judged : JudgesBook q w u z → z ≡ Verdict·Accepted n → JudgesJoint p q e u v r → JudgesPart p q e w v r
+  unfolding afterPart
+  part-judged c o g =
+      record { says = λ l. book-accepted Part q w l (afterBooks p q l w) c o (subst (Judged l e v r) (books-alike p q l w u k (h ∙ k)) (g .says l)) }
+
+  pub project-judged : JudgesBook p w u z → z ≡ Verdict·Accepted n → JudgesPart p q e u v r → JudgesProject p q e w v r
+  unfolding afterLengths
+  project-judged c o g =
+      record { says = λ l. book-accepted Project p w l (afterPart p q l w) c o (subst (Judged l e v r) (part-alike p q l w u k (h ∙ k)) (g .says l)) }
+
+module _ (p q w : List ℕ) {d v : List ℕ} {z : Verdict} {x : Refusal} {r : Joined} where
+  pub part-refused : JudgesBook q w v z → z ≡ Verdict·Refused x → RefusesFor Part (Refused x) r → JudgesPart p q d w v r
+  unfolding afterPart
+  part-refused c e f = record { says = λ l. book-refused Part q w l (afterBooks p q l w) c e f }
+
+  pub project-refused : JudgesBook p w v z → z ≡ Verdict·Refused x → RefusesFor Project (Refused x) r → JudgesProject p q d w v r
+  unfolding afterLengths
+  project-refused c e f = record { says = λ l. book-refused Project p w l (afterPart p q l w) c e f }
+
+-- ---- the lengths
+
+module _ (l : List ℕ) (n : ℕ) (q w : List ℕ) {d : List ℕ} {r : Joined} where
+  pub no-work : length w ≢ workLength → RefusesFor Joint (Refused Buffer) r → Judges l n q d w w r
+  unfolding joined
+  no-work h f = record { says = rw (ne-eqb (length w) workLength h, joined) (refusal-judged f refl refl) }
+
+  module _ {v : List ℕ} (k : IsWork w) where
+    not-lent : (eqb (length l) lentLength && not (ltb lentLength n)) ≡ false → TurnsAway Project (Refused Length) w v r → Judges l n q d w v r
+    unfolding joined refusalResult
+    not-lent h f = record { says = rw (k, h, joined) (refusal-judged (f .says) refl (f .zeroed ∙ ap zeros k)) }
+
+    pub another-length : length l ≢ lentLength → TurnsAway Project (Refused Length) w v r → Judges l n q d w v r
+    another-length h = not-lent (rw (ne-eqb (length l) lentLength h) refl)
+
+    pub told-more : length l ≡ lentLength → lentLength < n → TurnsAway Project (Refused Length) w v r → Judges l n q d w v r
+    told-more e h = not-lent (rw (eq-eqb (length l) lentLength e, lt-ltb lentLength n h) refl)
+
+    pub lengths-judged : length l ≡ lentLength → n ≤ lentLength → JudgesProject (take n l) q d w v r → Judges l n q d w v r
+    unfolding joined
+    lengths-judged e h g = record { says = rw (eq-eqb (length w) workLength k, eq-eqb (length l) lentLength e, le-ltb lentLength n h, joined) (g .says l) }

@@ -1,0 +1,99 @@
+-- `joining::judge_joint` meets its contract. Assumes nothing.
+use mathlib.Core.Path.{sym}
+use native.Mathlib.Omega.{arith}
+use lib.Seq.{length-take-le}
+use Rattle.joining.proofs.Judging.{full-judged, write-ready, prefix-fits, joint-refused, joint-accepted}
+use borrow.Author.Needs.{needs}
+use Rattle.joining.proofs.judge_joint.Statement.{statement}
+use Rattle.joining.proofs.judge_joint.Tie as tie
+
+sub-n : tie.Need-sub-n
+sub-n c = search needs
+
+sub-m : tie.Need-sub-m
+sub-m c = search needs
+
+add-if1 : tie.Need-add-if1
+add-if1 c = search needs
+
+add-if1-2 : tie.Need-add-if1-2
+add-if1-2 c = search needs
+
+turn-away-requires : tie.Need-turn-away-requires
+turn-away-requires c κs = search needs
+
+same-length : tie.Need-same-length
+same-length c = search needs
+
+returns : tie.Need-returns
+returns c =
+    full-judged (c .before .before .before .before .before .before .before .before .before .pre) (omega (arith, c .before .before .before .before .if1 .taken)) (c .before .before .turn-away .ensures)
+
+write-joint-requires : tie.Need-write-joint-requires
+write-joint-requires c κs =
+    write-ready (λ j. c .before .before .before .before .before .shared-slice-known .given j .fits) (λ j. c .before .before .before .before .shared-slice-known2 .given j .fits) (c .before .before .before .before .before .before .pre) (omega (arith, c .before .if1 .left))
+
+slice-reshare-prefix-judge-book : tie.Need-slice-reshare-prefix-judge-book
+slice-reshare-prefix-judge-book c =
+    prefix-fits (λ j. c .before .before .before .before .before .before .before .before .shared-slice-known .given j .fits) (λ j. c .before .before .before .before .before .before .before .shared-slice-known2 .given j .fits) (c .before .before .before .before .before .before .before .before .before .pre) (omega (arith, c .before .before .before .before .if1 .left)) (c .before .before .write-joint .ensures)
+
+slice-aggregate-judge-book : tie.Need-slice-aggregate-judge-book
+slice-aggregate-judge-book c =
+    sym (length-take-le _ _ (prefix-fits (λ j. c .before .before .before .before .before .before .before .before .before .shared-slice-known .given j .fits) (λ j. c .before .before .before .before .before .before .before .before .shared-slice-known2 .given j .fits) (c .before .before .before .before .before .before .before .before .before .before .pre) (omega (arith, c .before .before .before .before .before .if1 .left)) (c .before .before .before .write-joint .ensures)))
+
+judge-book-requires : tie.Need-judge-book-requires
+judge-book-requires c κs = search needs
+
+enum-known-refusal : tie.Need-enum-known-refusal
+enum-known-refusal c = search needs
+
+refused-requires : tie.Need-refused-requires
+refused-requires c κs = search needs
+
+enum-known-size : tie.Need-enum-known-size
+enum-known-size c = search needs
+
+same-length-2 : tie.Need-same-length-2
+same-length-2 c = search needs
+
+same-length-3 : tie.Need-same-length-3
+same-length-3 c = search needs
+
+returns-2 : tie.Need-returns-2
+returns-2 c =
+    joint-refused (λ j. c .before .before .before .before .before .before .before .before .before .before .before .before .before .before .before .before .before .shared-slice-known .given j .fits) (λ j. c .before .before .before .before .before .before .before .before .before .before .before .before .before .before .before .before .shared-slice-known2 .given j .fits) (c .before .before .before .before .before .before .before .before .before .before .before .before .before .before .before .before .before .before .pre) (omega (arith, c .before .before .before .before .before .before .before .before .before .before .before .before .before .if1 .left)) (c .before .before .before .before .before .before .before .before .before .before .before .write-joint .ensures) (c .before .before .before .before .before .before .judge-book .ensures) (c .before .before .refusal .given .1) (c .refused .ensures)
+
+same-length-4 : tie.Need-same-length-4
+same-length-4 c = search needs
+
+same-length-5 : tie.Need-same-length-5
+same-length-5 c = search needs
+
+returns-3 : tie.Need-returns-3
+returns-3 c =
+    joint-accepted (λ j. c .before .before .before .before .before .before .before .before .before .before .before .before .before .before .before .before .shared-slice-known .given j .fits) (λ j. c .before .before .before .before .before .before .before .before .before .before .before .before .before .before .before .shared-slice-known2 .given j .fits) (c .before .before .before .before .before .before .before .before .before .before .before .before .before .before .before .before .before .pre) (omega (arith, c .before .before .before .before .before .before .before .before .before .before .before .before .if1 .left)) (c .before .before .before .before .before .before .before .before .before .before .write-joint .ensures) (c .before .before .before .before .before .judge-book .ensures) (c .before .size .given .1)
+
+pub judge-joint-spec : {M : Type 1} → statement M
+judge-joint-spec =
+    tie.close
+    (tie.spec
+    sub-n
+    sub-m
+    add-if1
+    add-if1-2
+    turn-away-requires
+    same-length
+    returns
+    write-joint-requires
+    slice-reshare-prefix-judge-book
+    slice-aggregate-judge-book
+    judge-book-requires
+    enum-known-refusal
+    refused-requires
+    enum-known-size
+    same-length-2
+    same-length-3
+    returns-2
+    same-length-4
+    same-length-5
+    returns-3)

@@ -1,0 +1,53 @@
+-- `joining::judge_part` meets its contract. Assumes nothing.
+use Rattle.joining.proofs.Judging.{joint-judgeable, part-refused, part-judged}
+use borrow.Author.Needs.{needs}
+use Rattle.joining.proofs.judge_part.Statement.{statement}
+use Rattle.joining.proofs.judge_part.Tie as tie
+
+judge-book-requires : tie.Need-judge-book-requires
+judge-book-requires c κs = search needs
+
+enum-known-refusal : tie.Need-enum-known-refusal
+enum-known-refusal c = search needs
+
+refused-requires : tie.Need-refused-requires
+refused-requires c κs = search needs
+
+enum-told : tie.Need-enum-told
+enum-told c = search needs
+
+judge-joint-requires : tie.Need-judge-joint-requires
+judge-joint-requires c κs =
+    joint-judgeable (c .before .before .before .before .before .before .before .before .before .before .before .before .pre) (λ j. c .before .before .before .before .before .before .before .before .before .before .shared-slice-known2 .given j .fits) (c .before .before .before .before .before .before .judge-book .ensures) (c .before .before .enum-told .given .1) (c .before .before .before .before .before .work .given)
+
+same-length : tie.Need-same-length
+same-length c = search needs
+
+returns : tie.Need-returns
+returns c =
+    part-refused _ _ _ (c .before .before .before .before .before .before .judge-book .ensures) (c .before .before .refusal .given .1) (c .refused .ensures)
+
+same-length-2 : tie.Need-same-length-2
+same-length-2 c = search needs
+
+same-length-3 : tie.Need-same-length-3
+same-length-3 c = search needs
+
+returns-2 : tie.Need-returns-2
+returns-2 c =
+    part-judged _ _ _ _ (c .before .before .before .before .before .before .before .before .before .before .before .before .before .before .before .before .before .pre .before .work) (c .before .before .before .before .before .before .before .before .before .before .work .given) (c .before .before .before .before .before .before .before .before .before .before .before .judge-book .ensures) (c .before .before .before .before .before .before .before .enum-told .given .1) (c .before .before .before .before .judge-joint .ensures)
+
+pub judge-part-spec : {M : Type 1} → statement M
+judge-part-spec =
+    tie.close
+    (tie.spec
+    judge-book-requires
+    enum-known-refusal
+    refused-requires
+    enum-told
+    judge-joint-requires
+    same-length
+    returns
+    same-length-2
+    same-length-3
+    returns-2)
