@@ -1,11 +1,16 @@
 -- What is packed is read back. Assumes nothing.
 use Prim.Native.Nat.{ℕ, _<_}
-use mathlib.Core.Path.{_≡_, ap, subst, _∙_}
+use mathlib.Core.Path.{_≡_, sym, ap, subst, _∙_}
 use mathlib.Core.List.{List}
 use native.Mathlib.Omega.{arith}
 use Rattle.answers.specs.Answer.{Answer, Result}
 use Rattle.answers.specs.Exported.{tagOf, valueOf, tagPlace, packed}
-use Rattle.cerealbank.specs.Packed.{Packs}
+use Rattle.joining.specs.declared.Joined.{Joined}
+use Rattle.joining.specs.Join.{JoinResult, joined}
+use Rattle.joining.specs.declared.Which.{Which}
+use Rattle.joining.specs.Joins.{Joins}
+use Rattle.joining.specs.Exported.{whichNumber}
+use Rattle.cerealbank.specs.Packed.{Packs, JoinFits, PackedJoin, PacksJoin}
 
 pub packs : {v : List ℕ} {r : ℕ} {a : Answer} (x : Result) → valueOf (x .answer) < tagPlace → a ≡ x .answer → v ≡ x .left
     → (r ≡ packed a) × (tagOf a < 256) → Packs v r x
@@ -13,3 +18,21 @@ packs x f e l p =
     let q = p .0 ∙ ap packed e in
     let t = subst (λ (a : Answer). tagOf a < 256) e (p .1) in
     record { answer = q; value = omega arith; tag = omega arith; second = omega arith; left = l }
+
+-- what the definition of a join answers fits
+pub record ResultFits (x : JoinResult) : Type 0 where
+  pub value : valueOf (x .answer) < tagPlace
+  pub bytes : x .bytes < 65536
+
+module _ {l k : List ℕ} {n : ℕ} {q w v : List ℕ} {j : Joined} (c : Joins l k n q w v j) (f : ResultFits (joined l n q w)) where
+  pub join-fits : JoinFits j
+  join-fits = record { value = subst (λ (a : Answer). valueOf a < tagPlace) (sym (c .answer)) (f .value); bytes = omega (arith, c .bytes, f .bytes) }
+
+  pub packs-join : {r : ℕ} → PackedJoin j r → PacksJoin k v r (joined l n q w)
+  packs-join p =
+      let t : tagOf (joined l n q w .answer) < 256 = subst (λ (a : Answer). tagOf a < 256) (c .answer) (p .tag) in
+      let u : whichNumber (joined l n q w .which) < 256 = subst (λ (b : Which). whichNumber b < 256) (c .which) (p .which) in
+      let e = rw (c .bytes, c .which, c .answer) at (p .is) in
+      let g = f .value in
+      let h = f .bytes in
+      record { answer = e; value = omega arith; tag = omega arith; which = omega arith; bytes = omega arith; lent = c .lent; left = c .left }

@@ -6,7 +6,7 @@ use mathlib.Core.Option.{Option, none, some}
 use mathlib.Core.List.{List, []}
 use native.Mathlib.Omega.{arith}
 use lib.Dec.{T, eqb}
-use lib.ListN.{length}
+use lib.ListN.{length, take}
 use Rattle.calculus.specs.Syntax.{Ty}
 use Rattle.calculus.specs.Infer as Infer
 use Rattle.calculus.specs.Infer.{infer}
@@ -24,6 +24,11 @@ use Rattle.answers.specs.Engine.{IsLimit, workLength, zeros}
 use Rattle.answers.specs.Definition.{check, run, judge, afterForm, afterTyping, refusalResult, shown, reported}
 use Rattle.answers.proofs.Demands.{outcome, work-at-hand, typed-accepts, definition-runs}
 use Rattle.answers.specs.Exported.{valueOf, tagPlace}
+use Rattle.format.specs.Joint.{joint}
+use Rattle.joining.specs.Join.{JoinResult, joined}
+use Rattle.joining.proofs.Stages.{Ends, at-buffer, at-lent, at-project, at-part, at-full, at-joint, at-end, ends}
+use Rattle.joining.proofs.Meaning.{take-bytes, joint-is}
+use Rattle.cerealbank.proofs.Packing.{ResultFits}
 
 abbrev Fits : Result → Type 0
 Fits x = valueOf (x .answer) < tagPlace
@@ -85,3 +90,19 @@ run-fits b w l y i = judge-fits b w y (reported b l) steps
         let z = sym (outcome b (zeros workLength) (reported b l) A work-at-hand f t) ∙ r .says in
         let n : valueOf (reported b l A .answer) ≡ r .steps = ap (λ (x : Result). valueOf (x .answer)) z in
         omega (arith, r .taken)
+
+-- ---- a join
+
+end-fits : (l : List ℕ) (n : ℕ) (q w : List ℕ) → IsBytes l → IsBytes q → {x : JoinResult} → Ends l n q w x → ResultFits x
+unfolding refusalResult
+end-fits l n q w yl yq (at-buffer h) = record { value = omega arith; bytes = omega arith }
+end-fits l n q w yl yq (at-lent k h) = record { value = omega arith; bytes = omega arith }
+end-fits l n q w yl yq (at-project k e) = record { value = check-fits (take n l) w (take-bytes n l yl); bytes = omega arith }
+end-fits l n q w yl yq (at-part k f e) = record { value = check-fits q w yq; bytes = omega arith }
+end-fits l n q w yl yq (at-full k f g h) = record { value = omega arith; bytes = omega arith }
+end-fits l n q w yl yq (at-joint k f g h e) = let j = joint-is l n q w yl yq k f g h in record { value = check-fits (joint (take n l) q) w (j .bytes); bytes = omega arith }
+end-fits l n q w yl yq (at-end k f g h e) =
+    let j = joint-is l n q w yl yq k f g h in record { value = check-fits (joint (take n l) q) w (j .bytes); bytes = omega (arith, j .long, h) }
+
+pub join-result-fits : (l : List ℕ) (n : ℕ) (q w : List ℕ) → IsBytes l → IsBytes q → ResultFits (joined l n q w)
+join-result-fits l n q w yl yq = end-fits l n q w yl yq (ends l n q w)

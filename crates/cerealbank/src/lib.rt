@@ -4,12 +4,18 @@ use answers::tag;
 use answers::value;
 use engine::check;
 use engine::run;
+use joining::Joined;
+use joining::join;
+use joining::join_tag;
+use joining::join_value;
+use joining::which_number;
 ghost use mathlib.Core.Path.{_≡_};
 ghost use Prim.Native.Nat.{_<_};
 ghost use Rattle.answers.specs.Cases.{answerOf};
 ghost use Rattle.answers.specs.Definition.{definition};
 ghost use Rattle.answers.specs.Exported.{tagOf, valueOf, tagPlace, packed};
-ghost use Rattle.cerealbank.specs.Packed.{Packs};
+ghost use Rattle.joining.specs.Join.{joined};
+ghost use Rattle.cerealbank.specs.Packed.{Packs, JoinFits, PackedJoin, PacksJoin};
 
 // The tag in bits 32 to 39, its value in bits 0 to 31.
 fn pack(o: Outcome) -> u64
@@ -32,4 +38,27 @@ pub extern "C" fn cerealbank_run(book: &[u8], work: &mut [u8], limit: u32) -> u6
     ensures { λ r. ⌜ Packs (now (work .exit)) r (definition .run (now (book .entry)) (now (work .entry)) limit) ⌝ }
 {
     pack(run(book, work, limit))
+}
+
+// The same of a join: the book that is meant in bits 40 to 47, the byte count in bits 48 to 63.
+fn pack_join(j: Joined) -> u64
+    requires { ⌜ JoinFits j ⌝ }
+    ensures { λ n. ⌜ PackedJoin j n ⌝ }
+{
+    let which = j.which;
+    let answer = j.answer;
+    let second = (j.bytes as u64) * 256 + (which_number(which) as u64);
+    second * 1099511627776 + (join_tag(answer) as u64) * 4294967296 + (join_value(answer) as u64)
+}
+
+#[no_mangle]
+pub extern "C" fn cerealbank_join(
+    project: &mut [u8],
+    length: usize,
+    part: &[u8],
+    work: &mut [u8],
+) -> u64
+    ensures { λ r. ⌜ PacksJoin (now (project .exit)) (now (work .exit)) r (joined (now (project .entry)) length (now (part .entry)) (now (work .entry))) ⌝ }
+{
+    pack_join(join(project, length, part, work))
 }

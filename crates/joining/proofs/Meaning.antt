@@ -49,7 +49,7 @@ module _ {b : List ℕ} (y : IsBytes b) (w : List ℕ) (k : IsWork w) where
 owed : {b : List ℕ} → IsBytes b → Accepts definition b → Owed b
 owed {b} y a = record { bytes = y; accepts = a; demand2 = demand2 b y; demand3 = demand3 b y a; restamped = λ o n. restamped definition demand2 b y a o n }
 
-take-bytes : (n : ℕ) (l : List ℕ) → IsBytes l → IsBytes (take n l)
+pub take-bytes : (n : ℕ) (l : List ℕ) → IsBytes l → IsBytes (take n l)
 take-bytes zero l y i = lit< tt
 take-bytes (suc n) [] y i = lit< tt
 take-bytes (suc n) (x ∷ l) y zero = y zero
@@ -90,7 +90,7 @@ module _ (l : List ℕ) (n : ℕ) (q w : List ℕ) where
 
   module _ (yl : IsBytes l) (yq : IsBytes q) (k : Lent l n w) {a b : ℕ} (f : check (take n l) w .answer ≡ accepted a) (g : check q w .answer ≡ accepted b)
       (h : jointCount (take n l) q ≤ sizeLimit) where
-    joint-is : JointOf (take n l) q
+    pub joint-is : JointOf (take n l) q
     joint-is = joint-of (take n l) q (take-bytes n l yl) yq (typed (take-bytes n l yl) w (k .work) f .0) (typed yq w (k .work) g .0) h
 
     joint-meant : (m i : ℕ) → check (joint (take n l) q) w .answer ≡ refused m i → Meant l n q w (refusal Joint l (check (joint (take n l) q) w))

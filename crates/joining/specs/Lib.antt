@@ -1,3 +1,4 @@
 pub mod Join
+pub mod Exported
 pub mod Joins
 pub mod Stages

@@ -2,6 +2,8 @@
 // and each lent byte of the project are fixed. A join is a judgement on a buffer of its own, and then one copy.
 use answers::Outcome;
 use answers::Refusal;
+use answers::cell;
+use answers::row;
 use engine::check;
 use joint::write_joint;
 use layout::clear;
@@ -9,6 +11,11 @@ use moving::copy;
 ghost use Rattle.joining.specs.Stages.{JudgesBook, RefusesFor, TurnsAway, JointJudgeable, JudgesJoint, PartJudgeable, JudgesPart};
 ghost use Rattle.joining.specs.Stages.{ProjectJudgeable, JudgesProject, Judgeable, Judges};
 ghost use Rattle.joining.specs.Joins.{Joins};
+ghost use mathlib.Core.Path.{_≡_};
+ghost use Prim.Native.Nat.{_<_};
+ghost use Rattle.answers.specs.Exported.{tagOf, valueOf};
+ghost use Rattle.joining.specs.Join.{joinAnswer};
+ghost use Rattle.joining.specs.Exported.{whichNumber};
 
 // The length that a project's lent bytes have, that of a book of 4,095 cells.
 const LENT: usize = 32768;
@@ -147,4 +154,39 @@ pub fn join(project: &mut [u8], length: usize, part: &[u8], work: &mut [u8]) -> 
         copy(&joint, project, LENT);
     }
     joined
+}
+
+// The number of a book, its place in the order of checks.
+pub fn which_number(which: Which) -> usize
+    ensures { λ n. ⌜ n ≡ whichNumber which ⌝ }
+    ensures { λ n. ⌜ n < 256 ⌝ }
+{
+    match which {
+        Which::Project => 1,
+        Which::Part => 2,
+        Which::Joint => 3,
+    }
+}
+
+// The tag of an answer: 32, or the refusal's number.
+pub fn join_tag(answer: JoinAnswer) -> usize
+    ensures { λ n. ⌜ n ≡ tagOf (joinAnswer answer) ⌝ }
+    ensures { λ n. ⌜ n < 256 ⌝ }
+{
+    match answer {
+        JoinAnswer::Accepted(_) => 32,
+        JoinAnswer::Refused(refusal) => row(refusal),
+        JoinAnswer::Full => 16,
+    }
+}
+
+// The value of an answer: the type's size, or the refusal's cell.
+pub fn join_value(answer: JoinAnswer) -> usize
+    ensures { λ n. ⌜ n ≡ valueOf (joinAnswer answer) ⌝ }
+{
+    match answer {
+        JoinAnswer::Accepted(size) => size,
+        JoinAnswer::Refused(refusal) => cell(refusal),
+        JoinAnswer::Full => 0,
+    }
 }
