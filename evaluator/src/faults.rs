@@ -312,6 +312,8 @@ pub enum Fault {
     NumbersRaised,
     /// A join raises references by one more than the project's cells.
     RaisedByOneMore,
+    /// A join raises the low byte of a reference, and carries nothing.
+    RaisedLowByte,
     /// References of cells that the part's root does not reach not raised.
     UnreachedNotRaised,
     /// Field c not raised.
@@ -403,7 +405,7 @@ pub enum Fault {
 }
 
 impl Fault {
-    pub const ALL: [Fault; 198] = [
+    pub const ALL: [Fault; 199] = [
         Fault::CovariantInputs,
         Fault::ArgumentUncast,
         Fault::RoomOneEarly,
@@ -558,6 +560,7 @@ impl Fault {
         Fault::LabelsRaised,
         Fault::NumbersRaised,
         Fault::RaisedByOneMore,
+        Fault::RaisedLowByte,
         Fault::UnreachedNotRaised,
         Fault::ThirdNotRaised,
         Fault::TypesNotRaised,

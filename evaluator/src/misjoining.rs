@@ -63,6 +63,7 @@ fn raised_cell(fault: Fault, cell: Cell, by: u16, reached: bool) -> Cell {
         (Fault::LabelsRaised, _) if labelled => raised.label = cell.label.wrapping_add(by as u8),
         (Fault::NumbersRaised, kind::NUMBER) => raised.fields[1] = cell.fields[1].wrapping_add(by),
         (Fault::RaisedByOneMore, _) => raised = cell.redirected(|to| to + by + 1),
+        (Fault::RaisedLowByte, _) => raised = cell.redirected(|to| to & 0xFF00 | (to + by) & 0xFF),
         (Fault::UnreachedNotRaised, _) if !reached => raised = cell,
         (Fault::ThirdNotRaised, _) => raised.fields[2] = cell.fields[2],
         (Fault::TypesNotRaised, _) => {
