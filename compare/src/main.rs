@@ -2,10 +2,10 @@
 //!
 //! `compare [--seed N] [--count N] [--family NAME] [--version N] [--self-test]`
 //!
-//! With `--version 2`, only the books whose trailer has version 2 are compared, and the pairs with such a book; with `--version 1`, only the others. Built with the feature `engine`,
-//! the engine of the static library is compared; without it, the evaluator with itself. With `--self-test`, the evaluator is compared with faulty
-//! copies of itself, and each fault must be found. The exit status is 0, and the last line starts with what passed - families, or faults found -
-//! only if nothing failed.
+//! With `--version 2`, only the books whose trailer has version 2 are compared, and the pairs with such a book; with `--version 1`, only the others.
+//! Built with the feature `engine`, the engine of the static library is compared; without it, the evaluator with itself. With `--self-test`, the
+//! evaluator is compared with faulty copies of itself, and each fault must be found: those of joins in pairs, all others in books. The exit status
+//! is 0, and the last line starts with what passed - families, or faults found - only if nothing failed.
 
 use compare::comparing::{Comparison, Question};
 use compare::engines::{Engine, Evaluator};

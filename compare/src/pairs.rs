@@ -334,7 +334,8 @@ fn unreached(random: &mut Random) -> Vec<u8> {
     }
     in_cell(&mut cells, random);
     for _ in 0..random.between(1, 6) {
-        let at = random.between(0, cells.cells.len());
+        let count = cells.cells.len();
+        let at = if random.once_in(3) { count } else { random.between(0, count) };
         let cell = match random.lower(3) {
             0 => Cell::number(cells.version.held(wide_number(random)), cells.version),
             _ => loose_cell(&cells, at, random),
