@@ -21,7 +21,7 @@ pub enum Difference {
     Broken(String),
 }
 
-/// An accepted joint is asked about as a book once in so many times.
+/// A joint is asked about as a book once in so many times.
 const ASKED: usize = 4;
 
 /// The join as this side answers it, over these bytes behind the project and in the work buffer.
@@ -54,7 +54,7 @@ impl Comparison<'_> {
         left.reply.map_err(Difference::Broken)
     }
 
-    /// Everything that is asked about a book, of an accepted joint at times. The joint and the first difference, if there is one.
+    /// Everything that is asked about a book, at times, of the joint of two books that have one. The joint and the first difference, if there is one.
     pub fn joint(&self, pair: &Pair, random: &mut Random) -> Option<(Vec<u8>, Question, comparing::Difference)> {
         let joint = joint(&pair.project, &pair.part).filter(|_| random.once_in(ASKED))?;
         let (question, difference) = self.book(&joint, random).err()?;

@@ -240,7 +240,7 @@ fn one_pair_family(family: &PairFamily, options: &Options, (pool, count): (&Pool
     figures
 }
 
-/// All about an accepted joint as a book, at times; the difference described, if there is one.
+/// All about the joint as a book, at times; the difference described, if there is one.
 fn joint_of(comparison: &Comparison, pair: &Pair, random: &mut Random) -> Option<String> {
     let (joint, question, difference) = comparison.joint(pair, random)?;
     let text = described(&joint, question, &difference, comparison.engine);

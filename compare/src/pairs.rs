@@ -7,7 +7,7 @@ use crate::random::Random;
 use crate::reads::shuffled;
 use crate::refusals::by_turns;
 use crate::samples::doubled;
-use crate::versions::{cut, exchanged, flipped, wide_number, widened};
+use crate::versions::{another_number, cut, exchanged, flipped, wide_number, widened};
 use evaluator::{encode_term, joint, kind, Answer, Cell, Joined, Term, Version, Which, CELL, CELLS, PROJECT, WORK};
 use Version::{One, Two};
 
@@ -308,7 +308,8 @@ fn full_projects() -> Vec<Pair> {
     by_turns(&[pairs, sized.chain(large).chain(both).collect()])
 }
 
-/// The parts of a value in two books: consistent, or not, where one part was not. At times both have all of them, or one is changed.
+/// The parts of a value in two books: consistent, or not, where one part was not. At times both have all of them, or one has
+/// another number or another change.
 fn values(random: &mut Random) -> [Vec<u8>; 2] {
     let parts = shuffled(some_parts(random), random);
     let at = random.between(1, parts.len().max(2) - 1).min(parts.len() - 1);
@@ -318,11 +319,23 @@ fn values(random: &mut Random) -> [Vec<u8>; 2] {
         let value = merged(parts, random);
         let version = *random.pick(&Version::ALL);
         let mut cells = encode_in(version, &value, Sharing::any(random), random);
-        if random.once_in(6) {
-            changed(&mut cells, random);
+        match random.lower(8) {
+            0 => changed(&mut cells, random),
+            1 | 2 => renumbered(&mut cells, random),
+            _ => {}
         }
         cells.bytes()
     })
+}
+
+/// Another number in place of one of its own, if it has one.
+fn renumbered(cells: &mut Cells, random: &mut Random) {
+    let version = cells.version;
+    let mut numbers: Vec<&mut Cell> = cells.cells.iter_mut().filter(|cell| cell.kind == kind::NUMBER).collect();
+    if !numbers.is_empty() {
+        let at = random.lower(numbers.len());
+        *numbers[at] = another_number(*numbers[at], version, random);
+    }
 }
 
 /// A typed book in either version, its root often in a field, with cells of any kind that the root does not reach, numbers of both signs among

@@ -346,6 +346,12 @@ pub enum Fault {
     ExtendedThoughEqual,
     /// The part checked before the project.
     PartFirst,
+    /// The project's typing left to the joint's check.
+    ProjectUnchecked,
+    /// The part's typing left to the joint's check.
+    PartUnchecked,
+    /// A refusal of the part names the cell that would be the joint's.
+    PartCellRaised,
     /// 16 tested before the project is checked.
     FullFirst,
     /// 16 tested before the part is checked.
@@ -372,6 +378,8 @@ pub enum Fault {
     OtherLentLength,
     /// A project longer than the lent bytes taken for all of them.
     ToldCut,
+    /// The project taken up to the first trailer, whatever is told.
+    ToldIgnored,
     /// The lent length tested before the work buffer.
     LentBeforeWork,
     /// Another lent length answered under the joint.
@@ -405,7 +413,7 @@ pub enum Fault {
 }
 
 impl Fault {
-    pub const ALL: [Fault; 199] = [
+    pub const ALL: [Fault; 203] = [
         Fault::CovariantInputs,
         Fault::ArgumentUncast,
         Fault::RoomOneEarly,
@@ -577,6 +585,9 @@ impl Fault {
         Fault::PartNotExtended,
         Fault::ExtendedThoughEqual,
         Fault::PartFirst,
+        Fault::ProjectUnchecked,
+        Fault::PartUnchecked,
+        Fault::PartCellRaised,
         Fault::FullFirst,
         Fault::FullBeforePart,
         Fault::FullOneEarly,
@@ -590,6 +601,7 @@ impl Fault {
         Fault::PartTypeLeft,
         Fault::OtherLentLength,
         Fault::ToldCut,
+        Fault::ToldIgnored,
         Fault::LentBeforeWork,
         Fault::LentUnderJoint,
         Fault::LentLeavesWork,

@@ -44,6 +44,14 @@ pub(crate) fn accepted(which: Which, book: &[u8]) -> Result<(Type, Version), Tur
     Ok((inferred, version))
 }
 
+/// The version of such a book.
+fn version(which: Which, book: &[u8]) -> Result<Version, Turned> {
+    match current() {
+        Some(fault) => misjoining::version_alone(fault, which, book),
+        None => accepted(which, book).map(|(_, version)| version),
+    }
+}
+
 /// The rows of a book of which the trailer fits.
 pub(crate) struct Rows {
     pub which: Which,
@@ -115,7 +123,7 @@ fn told(lent: &[u8], length: usize) -> Result<&[u8], Turned> {
     if lent.len() != PROJECT && !fits {
         return turn_back(Which::Project, 2);
     }
-    let length = if planted(Fault::ToldCut) { length.min(lent.len()) } else { length };
+    let length = current().map_or(length, |fault| misjoining::length(fault, lent, length));
     lent.get(..length).map_or_else(|| turn_back(Which::Project, 2), Ok)
 }
 
@@ -126,11 +134,11 @@ fn tested(lent: &[u8], length: usize, part: &[u8]) -> Result<Accepted, Turned> {
     if let Some(fault) = current() {
         misjoining::before_project(fault, project, part)?;
     }
-    let (_, one) = accepted(Which::Project, project)?;
+    let one = version(Which::Project, project)?;
     if let Some(fault) = current() {
         misjoining::before_part(fault, project, part)?;
     }
-    let (_, two) = accepted(Which::Part, part)?;
+    let two = version(Which::Part, part)?;
     let joint = laid_down(&Rows::of(Which::Project, project, one), &Rows::of(Which::Part, part, two));
     let most = match current() {
         Some(Fault::FullOneEarly) => CELLS - 1,

@@ -1,7 +1,7 @@
 //! What planted faults make of a join.
 
 use crate::answers::{check, Answer, WORK};
-use crate::book::{Cell, Refusal, CELL};
+use crate::book::{decode, Cell, Refusal, CELL, TRAILER};
 use crate::faults::Fault;
 use crate::joining::{accepted, answered, joint, Joined, Rows, Which, CELLS, PROJECT};
 use crate::kinds::{kind, row, Sort};
@@ -97,6 +97,26 @@ pub fn roots(fault: Fault, project: &Rows, part: &Rows) -> [u16; 2] {
     }
 }
 
+/// How many lent bytes are taken for the project.
+pub fn length(fault: Fault, lent: &[u8], told: usize) -> usize {
+    let trailer = || lent.chunks(CELL).position(|cell| cell[0] == TRAILER);
+    match fault {
+        Fault::ToldCut => told.min(lent.len()),
+        Fault::ToldIgnored => trailer().map_or(told, |at| (at + 1) * CELL),
+        _ => told,
+    }
+}
+
+/// The version of a book that is accepted on its own.
+pub fn version_alone(fault: Fault, which: Which, book: &[u8]) -> Result<Version, (Which, Refusal)> {
+    match (fault, which) {
+        (Fault::ProjectUnchecked, Which::Project) | (Fault::PartUnchecked, Which::Part) => {
+            decode(book).map(|(_, version)| version).map_err(|refusal| (which, refusal))
+        }
+        _ => accepted(which, book).map(|(_, version)| version),
+    }
+}
+
 /// 16 by the lengths of both books.
 fn full(project: &[u8], part: &[u8]) -> Result<(), (Which, Refusal)> {
     let cells = |book: &[u8]| (book.len() / CELL).saturating_sub(1);
@@ -189,11 +209,18 @@ fn refused(fault: Fault, number: u8, before: &Before, joined: Joined, lent: &mut
         Fault::CountOfProject => return Joined { bytes: before.length, ..joined },
         Fault::LentUnderJoint if before.other_length() => return Joined { which: Which::Joint, ..joined },
         Fault::LentLeavesWork if before.other_length() => lent.work.copy_from_slice(&before.work),
+        Fault::PartCellRaised if joined.which == Which::Part && number > 4 => return raised_refusal(before, joined),
         _ if number == 16 => return full_joint(fault, before, joined, lent),
         _ if joined.which == Which::Joint => return refused_joint(fault, before, joined, lent),
         _ => {}
     }
     joined
+}
+
+/// The part's refusal, its cell raised with the references.
+fn raised_refusal(before: &Before, joined: Joined) -> Joined {
+    let Answer::Refused { number, cell } = joined.answer else { return joined };
+    Joined { answer: Answer::Refused { number, cell: cell + before.length / CELL - 1 }, ..joined }
 }
 
 /// After refusal 16.
