@@ -8,7 +8,7 @@ use crate::reads::shuffled;
 use crate::refusals::by_turns;
 use crate::samples::doubled;
 use crate::versions::{another_number, cut, exchanged, flipped, wide_number, widened};
-use evaluator::{encode_term, joint, kind, Answer, Cell, Joined, Term, Version, Which, CELL, CELLS, PROJECT, WORK};
+use evaluator::{check, encode_term, joint, kind, Answer, Cell, Joined, Term, Version, Which, CELL, CELLS, PROJECT, WORK};
 use Version::{One, Two};
 
 /// A project and a part, and how a join is lent and told them.
@@ -155,6 +155,17 @@ impl Stated {
             0 => self.pair.lent_before(behind),
             length => [&self.joint[..], &vec![0; PROJECT - length]].concat(),
         }
+    }
+
+    /// The work buffer after it: "left as a check with the same answer leaves it".
+    pub fn work(&self, before: &[u8]) -> Vec<u8> {
+        let mut work = before[..self.pair.work].to_vec();
+        match self.joined.answer {
+            Answer::Refused { number: 1, .. } => {}
+            Answer::Refused { .. } => work.fill(0),
+            _ => drop(check(&self.joint, &mut work)),
+        }
+        work
     }
 }
 

@@ -50,13 +50,10 @@ fn the_stated_answers_are_given() {
         let left = left(&Evaluator(None), &stated.pair, &bytes, &bytes);
         assert_eq!(left.reply, Ok(stated.joined), "{}", stated.name);
         assert_eq!(left.lent, stated.lent(&bytes), "{}", stated.name);
-        let mut work = vec![0xAA; WORK];
-        match stated.joined.answer {
-            Answer::Accepted { .. } => assert_eq!(check(&stated.joint, &mut work), stated.joined.answer, "{}", stated.name),
-            Answer::Refused { number: 1, .. } => work.truncate(5),
-            _ => work.fill(0),
+        assert_eq!(left.work, stated.work(&bytes), "{}", stated.name);
+        if let Answer::Accepted { .. } = stated.joined.answer {
+            assert_eq!(check(&stated.joint, &mut vec![0; WORK]), stated.joined.answer, "{}", stated.name);
         }
-        assert_eq!(left.work, work, "{}", stated.name);
     }
 }
 
@@ -195,6 +192,32 @@ fn every_fault_of_joins_is_found() {
             let comparison = Comparison::new(&side, false);
             let finds = |(_, pairs): &(&str, Vec<Pair>)| pairs.iter().any(|pair| comparison.pair(pair).is_err());
             assert!(families.iter().any(finds), "{fault:?}");
+        }
+    });
+}
+
+/// Some pairs of each family, none of them large.
+fn some_pairs() -> Vec<Pair> {
+    let small = |pair: &Pair| pair.project.len() + pair.part.len() < 2_048;
+    all_pairs(40).into_iter().flat_map(|(_, pairs)| pairs.into_iter().filter(small).take(40)).collect()
+}
+
+/// Each is right about many pairs, wherever its own rule is not met; and faults that only a run meets are right about all.
+#[test]
+fn faults_are_right_where_their_rule_is_not_met() {
+    on_large_stack(|| {
+        let pairs = some_pairs();
+        let right = |fault: Fault| {
+            let side = Evaluator(Some(fault));
+            let comparison = Comparison::new(&side, false);
+            pairs.iter().filter(|pair| comparison.pair(pair).is_ok()).count()
+        };
+        for fault in of_joins() {
+            let right = right(fault);
+            assert!(right * 5 >= pairs.len(), "{fault:?}, {right} of {}", pairs.len());
+        }
+        for fault in [Fault::RoomOneEarly, Fault::SpentBeforeValue, Fault::SumWraps] {
+            assert_eq!(right(fault), pairs.len(), "{fault:?}");
         }
     });
 }
