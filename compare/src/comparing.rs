@@ -48,7 +48,7 @@ pub struct Comparison<'a> {
     pub pairs: Cell<usize>,
     /// How many reorderings have been compared with the value that they come from.
     pub orders: Cell<usize>,
-    noise: Vec<u8>,
+    pub(crate) noise: Vec<u8>,
     buffers: RefCell<[Vec<u8>; 2]>,
 }
 

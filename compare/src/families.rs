@@ -408,7 +408,7 @@ fn shared_and_unshared(random: &mut Random) -> Vec<Vec<u8>> {
 }
 
 /// A cell that passes the rows 5 to 8 at this place.
-fn loose_cell(book: &Cells, at: usize, random: &mut Random) -> Cell {
+pub fn loose_cell(book: &Cells, at: usize, random: &mut Random) -> Cell {
     loop {
         let row = random.pick(TABLE);
         let mut cell = zeroed(row.kind);

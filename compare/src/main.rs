@@ -1,17 +1,19 @@
-//! Compares the engine with the evaluator on many books.
+//! Compares the engine with the evaluator on many books, and on many pairs of books that are joined.
 //!
 //! `compare [--seed N] [--count N] [--family NAME] [--version N] [--self-test]`
 //!
-//! With `--version 2`, only the books whose trailer has version 2 are compared; with `--version 1`, only the others. Built with the feature `engine`,
-//! the engine of the static library is compared; without it, the evaluator with itself. With `--self-test`, the evaluator is compared with faulty
-//! copies of itself, and each fault must be found. The exit status is 0, and the last line starts with what passed - families, or faults found -
-//! only if nothing failed.
+//! With `--version 2`, only the books whose trailer has version 2 are compared, and the pairs with such a book; with `--version 1`, only the others.
+//! Built with the feature `engine`, the engine of the static library is compared; without it, the evaluator with itself. With `--self-test`, the
+//! evaluator is compared with faulty copies of itself, and each fault must be found: those of joins in pairs, all others in books. The exit status
+//! is 0, and the last line starts with what passed - families, or faults found - only if nothing failed.
 
 use compare::comparing::{Comparison, Question};
 use compare::engines::{Engine, Evaluator};
 use compare::families::{families, Family};
+use compare::joining::left;
+use compare::pairs::{pair_families, stated, Pair, PairFamily, Pool};
 use compare::random::Random;
-use compare::reporting::{described, Figures};
+use compare::reporting::{described, described_pair, Figures, PairFigures};
 use compare::restamping::is_version_2;
 use compare::{samples, shrinking};
 use evaluator::{decode, on_large_stack, Fault, WORK};
@@ -29,6 +31,10 @@ const SELF_TEST_COUNT: usize = 7_070;
 const LARGE: usize = 8_192;
 /// A fault that so many families have found is searched no further.
 const ENOUGH: usize = 2;
+/// The random pairs are so many times fewer than the random books, and are taken from so many books of each family.
+const FEWER: usize = 5;
+const EACH: usize = 100;
+const SELF_TEST_EACH: usize = 20;
 /// A comparison stops after so many failed books.
 const FAILURES: usize = 3;
 /// Families, and faults, are taken side by side by so many.
@@ -59,8 +65,9 @@ fn options() -> Result<Options, String> {
         }
     }
     if let Some(name) = &options.family {
-        if !families().iter().any(|family| family.name == name) {
-            let names: Vec<&str> = families().iter().map(|family| family.name).collect();
+        let mut names = families().into_iter().map(|family| family.name).collect::<Vec<_>>();
+        names.extend(pair_families().iter().map(|family| family.name));
+        if !names.contains(&name.as_str()) {
             return Err(format!("no family {name}; there are: {}", names.join(", ")));
         }
     }
@@ -110,7 +117,7 @@ fn compare(options: &Options) -> bool {
     let count = options.count.unwrap_or(COUNT);
     let name = engine().name();
     println!("evaluator against {name}, seed {}, {count} random books", options.seed);
-    let failed = AtomicUsize::new(on_large_stack(|| stated_samples(options.version)));
+    let failed = AtomicUsize::new(on_large_stack(|| stated_samples(options.version) + stated_joins()));
     let (passed, books) = (AtomicUsize::new(0), AtomicUsize::new(0));
     println!("{}", Figures::HEAD);
     let asked = |family: &Family| options.family.as_ref().is_none_or(|name| name == family.name);
@@ -122,12 +129,34 @@ fn compare(options: &Options) -> bool {
         passed.fetch_add(1, Relaxed);
         books.fetch_add(figures.books, Relaxed);
     });
+    let pairs = compare_pairs(options, count, &passed, &failed);
     let (passed, books, failed) = (passed.into_inner(), books.into_inner(), failed.into_inner());
     match failed {
-        0 => println!("{passed} families of {books} books compared, no difference"),
-        _ => println!("FAILED: {failed} differences, after {books} books without one"),
+        0 => println!("{passed} families of {books} books and {pairs} pairs compared, no difference"),
+        _ => println!("FAILED: {failed} differences, after {books} books and {pairs} pairs without one"),
     }
     failed == 0
+}
+
+/// Compares the families of pairs. How many pairs.
+fn compare_pairs(options: &Options, count: usize, passed: &AtomicUsize, failed: &AtomicUsize) -> usize {
+    let asked = |family: &PairFamily| options.family.as_ref().is_none_or(|name| name == family.name);
+    let families: Vec<PairFamily> = pair_families().into_iter().filter(asked).collect();
+    if families.is_empty() || failed.load(Relaxed) >= FAILURES {
+        return 0;
+    }
+    println!("{}", PairFigures::HEAD);
+    let pool = on_large_stack(|| Pool::of(options.seed, EACH));
+    let pairs = AtomicUsize::new(0);
+    side_by_side(families, |family| {
+        if failed.load(Relaxed) >= FAILURES {
+            return;
+        }
+        let figures = one_pair_family(&family, options, (&pool, count / FEWER), failed);
+        passed.fetch_add(1, Relaxed);
+        pairs.fetch_add(figures.pairs, Relaxed);
+    });
+    pairs.into_inner()
 }
 
 /// The book has this version, for 1 whatever is not version 2; or none is asked for.
@@ -170,6 +199,78 @@ fn smaller(comparison: &Comparison, book: Vec<u8>, question: Question) -> String
     format!("made smaller:\n{}", described(&book, question, &difference, comparison.engine))
 }
 
+/// Whether a pair has a book of version 2, if a version is asked for.
+fn pair_of_version(pair: &Pair, version: Option<u8>) -> bool {
+    version.is_none_or(|version| (version == 2) == (is_version_2(&pair.project) || is_version_2(&pair.part)))
+}
+
+/// How many random pairs of the whole count fall to a family.
+fn share_of_pairs(of: u32, count: usize) -> usize {
+    let all: u32 = pair_families().iter().map(|family| family.share).sum();
+    count * of as usize / all as usize
+}
+
+/// Compares a family's pairs, until too many have failed in all families.
+fn one_pair_family(family: &PairFamily, options: &Options, (pool, count): (&Pool, usize), failed: &AtomicUsize) -> PairFigures {
+    let engine = engine();
+    let comparison = Comparison::new(engine.as_ref(), true);
+    let (start, mut figures) = (Instant::now(), PairFigures::default());
+    let pairs = family.pairs(pool, options.seed, share_of_pairs(family.share, count));
+    for (place, pair) in pairs.enumerate().filter(|(_, pair)| pair_of_version(pair, options.version)) {
+        if failed.load(Relaxed) >= FAILURES {
+            break;
+        }
+        let random = &mut Random::of(options.seed, "joints", place as u64);
+        let failure = match comparison.pair(&pair) {
+            Ok(joined) => {
+                figures.enter(&pair, joined);
+                joint_of(&comparison, &pair, random)
+            }
+            Err(difference) => {
+                let text = described_pair(&pair, &difference, engine.as_ref());
+                Some(text + &smaller_pair(&comparison, pair))
+            }
+        };
+        if let Some(text) = failure {
+            failed.fetch_add(1, Relaxed);
+            println!("FAILED: {}, pair {place}\n{text}", family.name);
+        }
+    }
+    println!("{}", figures.line(family.name, start.elapsed().as_secs_f64()));
+    figures
+}
+
+/// All about the joint as a book, at times; the difference described, if there is one.
+fn joint_of(comparison: &Comparison, pair: &Pair, random: &mut Random) -> Option<String> {
+    let (joint, question, difference) = comparison.joint(pair, random)?;
+    let text = described(&joint, question, &difference, comparison.engine);
+    Some(text + &smaller(comparison, joint, question))
+}
+
+/// A smaller pair on which the sides still differ, described.
+fn smaller_pair(comparison: &Comparison, pair: Pair) -> String {
+    let pair = shrinking::shrink_pair(comparison, pair);
+    let Err(difference) = comparison.pair(&pair) else { return "not seen again".to_string() };
+    format!("made smaller:\n{}", described_pair(&pair, &difference, comparison.engine))
+}
+
+/// Both sides on the joins of which the documents' words give the answer and the joint. How many failed.
+fn stated_joins() -> usize {
+    let mut failed = 0;
+    for stated in stated() {
+        let noise = vec![0xAA; 2 * WORK];
+        for side in [&Evaluator(None) as &dyn Engine, engine().as_ref()] {
+            let left = left(side, &stated.pair, &noise, &noise);
+            let same = left.lent == stated.lent(&noise) && left.work == stated.work(&noise);
+            if left.reply != Ok(stated.joined) || !same {
+                failed += 1;
+                println!("FAILED: {}: {} says {:?}, or leaves other bytes", stated.name, side.name(), left.reply);
+            }
+        }
+    }
+    failed
+}
+
 /// Both sides on the samples and the refused parts, against what the documents state of them. How many failed.
 fn stated_samples(version: Option<u8>) -> usize {
     let mut failed = 0;
@@ -207,9 +308,13 @@ fn searched(seed: u64, count: usize) -> Vec<Searched> {
 /// Compares the evaluator with each faulty copy of itself. Yes if every fault was found.
 fn self_test(options: &Options) -> bool {
     let count = options.count.unwrap_or(SELF_TEST_COUNT);
-    let books = on_large_stack(|| searched(options.seed, count));
+    let (books, pairs) = on_large_stack(|| (searched(options.seed, count), searched_pairs(options.seed, count / FEWER)));
     let found = AtomicUsize::new(0);
-    side_by_side(Fault::ALL.to_vec(), |fault| match found_in(fault, options.seed, &books) {
+    let search = |fault: Fault| match fault.is_of_joins() {
+        true => found_in_pairs(fault, &pairs),
+        false => found_in(fault, options.seed, &books),
+    };
+    side_by_side(Fault::ALL.to_vec(), |fault| match search(fault) {
         Some(text) => {
             found.fetch_add(1, Relaxed);
             print!("{text}");
@@ -248,5 +353,34 @@ fn found_in(fault: Fault, seed: u64, searched: &[Searched]) -> Option<String> {
     }
     let (book, question) = smallest?;
     let small = smaller(&comparison, book.clone(), question);
+    Some(format!("{fault:?}: found in {:.1} s by{finders}, {small}", start.elapsed().as_secs_f64()))
+}
+
+/// The name of a family, and the pairs of it that a fault of joins is searched in.
+type SearchedPairs = (&'static str, Vec<Pair>);
+
+/// The families with the fewest bytes first.
+fn searched_pairs(seed: u64, count: usize) -> Vec<SearchedPairs> {
+    let pool = Pool::of(seed, SELF_TEST_EACH);
+    let of = |family: PairFamily| (family.name, family.pairs(&pool, seed, share_of_pairs(family.share, count)).collect());
+    let bytes = |(_, pairs): &SearchedPairs| pairs.iter().map(|pair| pair.project.len() + pair.part.len()).sum::<usize>();
+    let mut all: Vec<SearchedPairs> = pair_families().into_iter().map(of).collect();
+    all.sort_by_cached_key(bytes);
+    all
+}
+
+/// The same as `found_in` for a fault of joins.
+fn found_in_pairs(fault: Fault, searched: &[SearchedPairs]) -> Option<String> {
+    let start = Instant::now();
+    let faulty = Evaluator(Some(fault));
+    let comparison = Comparison::new(&faulty, false);
+    let first = |(name, pairs): &'_ SearchedPairs| {
+        let place = pairs.iter().position(|pair| comparison.pair(pair).is_err())?;
+        Some((*name, place, pairs[place].clone()))
+    };
+    let found: Vec<_> = searched.iter().filter_map(first).take(ENOUGH).collect();
+    let finders: String = found.iter().map(|(name, place, _)| format!(" {name} ({place})")).collect();
+    let (.., pair) = found.into_iter().min_by_key(|(.., pair)| pair.project.len() + pair.part.len())?;
+    let small = smaller_pair(&comparison, pair);
     Some(format!("{fault:?}: found in {:.1} s by{finders}, {small}", start.elapsed().as_secs_f64()))
 }

@@ -111,7 +111,7 @@ fn again(value: &Term, random: &mut Random) -> Term {
 }
 
 /// Up to thirty parts, several of one value; at times one that may not be consistent with them.
-fn some_parts(random: &mut Random) -> Vec<Term> {
+pub fn some_parts(random: &mut Random) -> Vec<Term> {
     let values = stock(random);
     let count = random.between(1, 30);
     let most = if random.once_in(8) { PARTS * 8 } else { PARTS };

@@ -2,7 +2,10 @@
 
 use crate::comparing::{Difference, Question, Seen};
 use crate::engines::{Call, Engine};
-use evaluator::{Answer, CELL, WORK};
+use crate::joining;
+use crate::pairs::Pair;
+use crate::restamping::is_version_2;
+use evaluator::{Answer, Joined, Which, CELL, WORK};
 use std::fmt::Write;
 
 /// What a family's books came to.
@@ -50,8 +53,92 @@ impl Figures {
     }
 }
 
+/// What a family's pairs came to.
+#[derive(Default)]
+pub struct PairFigures {
+    pub pairs: usize,
+    /// Of these, those with books of both versions.
+    mixed: usize,
+    accepted: usize,
+    /// By number, of the project, the part and the joint.
+    refused: [[usize; 17]; 3],
+}
+
+impl PairFigures {
+    pub const HEAD: &'static str = "family                 pairs  of both versions  accepted seconds   refused, number:pairs";
+
+    pub fn enter(&mut self, pair: &Pair, joined: Joined) {
+        self.pairs += 1;
+        self.mixed += usize::from(is_version_2(&pair.project) != is_version_2(&pair.part));
+        let book = match joined.which {
+            Which::Project => 0,
+            Which::Part => 1,
+            Which::Joint => 2,
+        };
+        match joined.answer {
+            Answer::Refused { number, .. } => self.refused[book][usize::from(number)] += 1,
+            _ => self.accepted += 1,
+        }
+    }
+
+    pub fn line(&self, name: &str, seconds: f64) -> String {
+        let PairFigures { pairs, mixed, accepted, refused } = self;
+        let mut line = format!("{name:<20}{pairs:>8}{mixed:>18}{accepted:>10}{seconds:>8.1}  ");
+        for (book, counts) in ["project", "part", "joint"].into_iter().zip(refused) {
+            let _ = write!(line, " {book}");
+            for (number, count) in counts.iter().enumerate().filter(|(_, &count)| count > 0) {
+                let _ = write!(line, " {number}:{count}");
+            }
+        }
+        line
+    }
+}
+
 fn hex(bytes: &[u8]) -> String {
     bytes.iter().map(|byte| format!("{byte:02x}")).collect()
+}
+
+/// A book in hexadecimal, equal cells that follow each other once.
+fn in_cells(book: &[u8]) -> String {
+    let cells: Vec<&[u8]> = book.chunks(CELL).collect();
+    let equal = cells.chunk_by(|one, other| one == other);
+    let shown = equal.map(|cells| match cells {
+        [cell] => hex(cell),
+        _ => format!("{} ({} times)", hex(cells[0]), cells.len()),
+    });
+    shown.collect::<Vec<_>>().join(" ")
+}
+
+/// A difference about a pair in full: both books, how they are lent, and both outcomes.
+pub fn described_pair(pair: &Pair, difference: &joining::Difference, engine: &dyn Engine) -> String {
+    let mut text = String::new();
+    for (name, book) in [("project", &pair.project), ("part", &pair.part)] {
+        let _ = writeln!(text, "  {name} ({} bytes): {}", book.len(), in_cells(book));
+        if let Ok((root, version)) = evaluator::decode(book) {
+            let _ = writeln!(text, "  its root, version {}: {root}", version.byte());
+        }
+    }
+    let _ = writeln!(text, "  asked: join, {} bytes lent, {} told, a work buffer of {} bytes", pair.lent, pair.told, pair.work);
+    match difference {
+        joining::Difference::Broken(words) => {
+            let _ = writeln!(text, "  {words}");
+        }
+        joining::Difference::Outcomes(both) => {
+            let [one, other] = &**both;
+            let _ = writeln!(text, "  evaluator: {:?}", one.reply);
+            let _ = writeln!(text, "  {}: {:?}", engine.name(), other.reply);
+            text += &first_difference("lent", &one.lent, &other.lent);
+            text += &first_difference("work", &one.work, &other.work);
+        }
+    }
+    text
+}
+
+/// Where two buffers differ first; nothing if they do not.
+fn first_difference(name: &str, one: &[u8], other: &[u8]) -> String {
+    let Some(at) = (0..one.len()).find(|&at| one[at] != other[at]) else { return String::new() };
+    let cell = |bytes: &[u8]| hex(bytes.chunks(CELL).nth(at / CELL).unwrap_or_default());
+    format!("  first differing {name} byte {at}, cell {}: {} and {}\n", at / CELL, cell(one), cell(other))
 }
 
 /// A difference in full: the book in hexadecimal, its root, and both outcomes.

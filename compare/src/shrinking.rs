@@ -3,7 +3,8 @@
 use crate::cells::{is_labelled, sort_of, zeroed, Cells};
 use crate::comparing::{Comparison, Question};
 use crate::engines::Call;
-use evaluator::{kind, Cell, Sort, Version, TABLE};
+use crate::pairs::Pair;
+use evaluator::{kind, Cell, Sort, Version, PROJECT, TABLE, WORK};
 
 /// How many smaller books are tried at most.
 const TRIES: usize = 20_000;
@@ -26,6 +27,39 @@ pub fn shrink(comparison: &Comparison, book: Vec<u8>, question: Question) -> (Ve
             None => return (book, question),
         }
     }
+}
+
+/// Books of a pair are made smaller below so many bytes.
+const LARGE: usize = 8_192;
+
+/// The smallest pair found that still shows a difference.
+pub fn shrink_pair(comparison: &Comparison, pair: Pair) -> Pair {
+    let mut pair = pair;
+    let mut tries = TRIES;
+    let mut fails = |pair: &Pair| {
+        tries = tries.saturating_sub(1);
+        tries > 0 && comparison.pair(pair).is_err()
+    };
+    while let Some(smaller) = smaller_pairs(&pair).into_iter().find(&mut fails) {
+        pair = smaller;
+    }
+    pair
+}
+
+/// Pairs that are lent and told as they should be, or with one smaller book. A told length that is the project's stays so.
+fn smaller_pairs(pair: &Pair) -> Vec<Pair> {
+    let Pair { project, part, lent, told, work } = pair;
+    let right =
+        [Pair { lent: PROJECT, ..pair.clone() }, Pair { told: project.len(), ..pair.clone() }, Pair { work: WORK, ..pair.clone() }];
+    let mut pairs: Vec<Pair> = right.into_iter().filter(|right| right != pair).collect();
+    if project.len() + part.len() < LARGE {
+        pairs.extend(smaller(part).into_iter().map(|part| Pair { part, ..pair.clone() }));
+        pairs.extend(smaller(project).into_iter().map(|less| {
+            let told = if *told == project.len() { less.len() } else { *told };
+            Pair { project: less, part: part.clone(), lent: *lent, told, work: *work }
+        }));
+    }
+    pairs
 }
 
 /// Questions that are simpler to look at.

@@ -306,7 +306,7 @@ pub fn wide_merges(random: &mut Random) -> Vec<Vec<u8>> {
 
 /// The book in version 2 with wide numbers in place of its own: equal ones stay equal, others often differ in one field or two, and zero mostly
 /// stays.
-fn widened(book: &Cells, random: &mut Random) -> Cells {
+pub fn widened(book: &Cells, random: &mut Random) -> Cells {
     let first = wide_number(random);
     let mut images = BTreeMap::new();
     if !random.once_in(8) {
@@ -336,7 +336,7 @@ pub fn widened_books(random: &mut Random) -> Vec<Vec<u8>> {
 }
 
 /// One to three bits changed.
-fn flipped(book: &[u8], random: &mut Random) -> Vec<u8> {
+pub fn flipped(book: &[u8], random: &mut Random) -> Vec<u8> {
     let mut bytes = book.to_vec();
     for _ in 0..random.between(1, 3) {
         let at = random.lower(bytes.len());
@@ -346,7 +346,7 @@ fn flipped(book: &[u8], random: &mut Random) -> Vec<u8> {
 }
 
 /// Two cells exchanged, of which one may be the trailer.
-fn exchanged(book: &[u8], random: &mut Random) -> Vec<u8> {
+pub fn exchanged(book: &[u8], random: &mut Random) -> Vec<u8> {
     let mut rows: Vec<&[u8]> = book.chunks(CELL).collect();
     let [one, other] = [(); 2].map(|()| random.lower(rows.len()));
     rows.swap(one, other);
@@ -354,7 +354,7 @@ fn exchanged(book: &[u8], random: &mut Random) -> Vec<u8> {
 }
 
 /// Cut short, and a trailer behind that fits; at times within a cell.
-fn cut(book: &[u8], random: &mut Random) -> Vec<u8> {
+pub fn cut(book: &[u8], random: &mut Random) -> Vec<u8> {
     let cells = random.lower(book.len() / CELL);
     let length = cells * CELL + if random.once_in(4) { random.lower(CELL) } else { 0 };
     let trailer = Cell::trailer(cells as u16, cells.saturating_sub(1) as u16, Two);

@@ -30,7 +30,7 @@ pub enum Answer {
 }
 
 /// The root, its type and the book's version, or the first refusal of 2 to 15.
-fn accept(book: &[u8]) -> Result<(Term, Type, Version), Refusal> {
+pub(crate) fn accept(book: &[u8]) -> Result<(Term, Type, Version), Refusal> {
     let (root, version) = decode(book)?;
     asked(version);
     let inferred = infer(&mut Vec::new(), &root)?;
@@ -78,7 +78,7 @@ fn evaluate(root: Term, version: Version, limit: u32) -> (Answer, Term) {
 
 /// Leaves the outcome in the work buffer: "Refusal 1 touches nothing; all others zero the work buffer. After an acceptance or a
 /// run, bytes past the laid-down book are zero."
-fn answer(work: &mut [u8], outcome: impl FnOnce() -> Result<(Answer, Vec<u8>), Refusal> + Send) -> Answer {
+pub(crate) fn answer(work: &mut [u8], outcome: impl FnOnce() -> Result<(Answer, Vec<u8>), Refusal> + Send) -> Answer {
     if work.len() != WORK {
         if planted(Fault::WrongLengthZeroed) {
             work.fill(0);

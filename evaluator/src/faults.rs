@@ -304,10 +304,116 @@ pub enum Fault {
     SmallerHalfFirst,
     /// The reading of a merge from its right half alone counted as two steps.
     RightHalfCounted,
+    /// A join raises what the part's variables skip.
+    SkipsRaised,
+    /// A join raises the part's labels.
+    LabelsRaised,
+    /// A join raises field b of the part's numbers.
+    NumbersRaised,
+    /// A join raises references by one more than the project's cells.
+    RaisedByOneMore,
+    /// A join raises the low byte of a reference, and carries nothing.
+    RaisedLowByte,
+    /// References of cells that the part's root does not reach not raised.
+    UnreachedNotRaised,
+    /// Field c not raised.
+    ThirdNotRaised,
+    /// References to types not raised.
+    TypesNotRaised,
+    /// Cells that the part's root does not reach dropped.
+    UnreachedDropped,
+    /// The part's root for the left half of the joint's merge.
+    HalvesSwapped,
+    /// The last cells of both books merged instead of their roots.
+    MergeOfLastCells,
+    /// The cell before the merge for the joint's root.
+    RootBeforeMerge,
+    /// The joint given the project's version.
+    VersionOfProject,
+    /// The joint given the part's version.
+    VersionOfPart,
+    /// The joint given version 2, its numbers extended.
+    VersionAlways2,
+    /// Numbers in a joint extended by zeros.
+    ExtendedWithZeros,
+    /// Numbers in a joint extended only where a root reaches them.
+    ReachedExtended,
+    /// The project's numbers not extended.
+    ProjectNotExtended,
+    /// The part's numbers not extended.
+    PartNotExtended,
+    /// Numbers moved as if extended although both books have one version.
+    ExtendedThoughEqual,
+    /// The part checked before the project.
+    PartFirst,
+    /// The project's typing left to the joint's check.
+    ProjectUnchecked,
+    /// The part's typing left to the joint's check.
+    PartUnchecked,
+    /// A refusal of the part names the cell that would be the joint's.
+    PartCellRaised,
+    /// 16 tested before the project is checked.
+    FullFirst,
+    /// 16 tested before the part is checked.
+    FullBeforePart,
+    /// 16 already at 4,095 cells.
+    FullOneEarly,
+    /// No 16 at 4,096 cells.
+    FullOneLate,
+    /// 16 under the part.
+    FullUnderPart,
+    /// 16 names a cell.
+    FullNamesMerge,
+    /// 16 leaves the work buffer as it was.
+    FullLeavesWork,
+    /// The joint accepted with the intersection of both types, not checked on its own.
+    JointUnchecked,
+    /// What the joint is refused by named under the part.
+    JointUnderPart,
+    /// An acceptance named under the project.
+    AcceptanceUnderProject,
+    /// The part's type left in the work buffer where the joint is refused.
+    PartTypeLeft,
+    /// Another lent length taken where the project fits.
+    OtherLentLength,
+    /// A project longer than the lent bytes taken for all of them.
+    ToldCut,
+    /// The project taken up to the first trailer, whatever is told.
+    ToldIgnored,
+    /// The lent length tested before the work buffer.
+    LentBeforeWork,
+    /// Another lent length answered under the joint.
+    LentUnderJoint,
+    /// Another lent length leaves the work buffer as it was.
+    LentLeavesWork,
+    /// Refusal 1 of a join under the project.
+    WorkUnderProject,
+    /// Refusal 1 of a join zeroes the work buffer.
+    WrongWorkZeroed,
+    /// Refusal 1 of a join zeroes the lent bytes.
+    WrongWorkZeroesLent,
+    /// A refused join zeroes the lent bytes.
+    RefusalZeroesLent,
+    /// A refused join zeroes the lent bytes past the project.
+    RefusalZeroesRest,
+    /// The joint left written over the project although it is refused.
+    RefusedJointLeft,
+    /// A refused join gives the project's bytes.
+    CountOfProject,
+    /// A refused join gives the bytes of the joint that is refused.
+    CountOfRefused,
+    /// The joint's bytes given without its trailer.
+    CountWithoutTrailer,
+    /// The lent bytes past the joint left as they were.
+    RestNotZeroed,
+    /// The joint laid down in the work buffer instead of its type.
+    JointInWork,
+    /// The joint's type laid down in the project's version.
+    TypeOfProjectVersion,
 }
 
 impl Fault {
-    pub const ALL: [Fault; 150] = [
+    pub const ALL: [Fault; 203] = [
         Fault::CovariantInputs,
         Fault::ArgumentUncast,
         Fault::RoomOneEarly,
@@ -458,7 +564,65 @@ impl Fault {
         Fault::RoomWithLeftHalf,
         Fault::SmallerHalfFirst,
         Fault::RightHalfCounted,
+        Fault::SkipsRaised,
+        Fault::LabelsRaised,
+        Fault::NumbersRaised,
+        Fault::RaisedByOneMore,
+        Fault::RaisedLowByte,
+        Fault::UnreachedNotRaised,
+        Fault::ThirdNotRaised,
+        Fault::TypesNotRaised,
+        Fault::UnreachedDropped,
+        Fault::HalvesSwapped,
+        Fault::MergeOfLastCells,
+        Fault::RootBeforeMerge,
+        Fault::VersionOfProject,
+        Fault::VersionOfPart,
+        Fault::VersionAlways2,
+        Fault::ExtendedWithZeros,
+        Fault::ReachedExtended,
+        Fault::ProjectNotExtended,
+        Fault::PartNotExtended,
+        Fault::ExtendedThoughEqual,
+        Fault::PartFirst,
+        Fault::ProjectUnchecked,
+        Fault::PartUnchecked,
+        Fault::PartCellRaised,
+        Fault::FullFirst,
+        Fault::FullBeforePart,
+        Fault::FullOneEarly,
+        Fault::FullOneLate,
+        Fault::FullUnderPart,
+        Fault::FullNamesMerge,
+        Fault::FullLeavesWork,
+        Fault::JointUnchecked,
+        Fault::JointUnderPart,
+        Fault::AcceptanceUnderProject,
+        Fault::PartTypeLeft,
+        Fault::OtherLentLength,
+        Fault::ToldCut,
+        Fault::ToldIgnored,
+        Fault::LentBeforeWork,
+        Fault::LentUnderJoint,
+        Fault::LentLeavesWork,
+        Fault::WorkUnderProject,
+        Fault::WrongWorkZeroed,
+        Fault::WrongWorkZeroesLent,
+        Fault::RefusalZeroesLent,
+        Fault::RefusalZeroesRest,
+        Fault::RefusedJointLeft,
+        Fault::CountOfProject,
+        Fault::CountOfRefused,
+        Fault::CountWithoutTrailer,
+        Fault::RestNotZeroed,
+        Fault::JointInWork,
+        Fault::TypeOfProjectVersion,
     ];
+
+    /// A fault of joins alone: a check and a run are as ever.
+    pub fn is_of_joins(self) -> bool {
+        self as usize >= Fault::SkipsRaised as usize
+    }
 }
 
 #[cfg(feature = "faults")]

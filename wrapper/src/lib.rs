@@ -1,9 +1,10 @@
-//! Checks and runs folder books.
+//! Checks, runs and joins folder books.
 //!
 //! A book is a small typed program in bytes; docs/FORMAT.md gives its format and what every answer means. There are two versions: the
-//! numbers of a version 1 book have 32 bits, those of a version 2 book 48. Both calls are lent the book to read and a work buffer of
-//! [`WORK`] bytes to write, and write nothing else but their thread's stack, of which [`STACK`] bytes suffice. Their answer, and every
-//! byte that they leave in the work buffer, depend on the book and the limit alone. They never panic.
+//! numbers of a version 1 book have 32 bits, those of a version 2 book 48. The calls are lent the books to read and a work buffer of
+//! [`WORK`] bytes to write; a join also writes the project's lent bytes. They write nothing else but their thread's stack, of which
+//! [`STACK`] bytes suffice. Their answer, and every byte that they leave, depend on the bytes lent and the numbers given alone. They
+//! never panic.
 //!
 //! # Example
 //!
@@ -39,6 +40,9 @@
 /// The length that a work buffer must have; any other is refusal 1.
 pub const WORK: usize = 65_536;
 
+/// The length that a project's lent bytes must have, the length of a book of 4,095 cells; any other is refusal 2 of the project.
+pub const PROJECT: usize = 32_768;
+
 /// The bytes of stack that suffice for a call, whatever the book: at least a quarter more than the deepest books of every shape were
 /// measured to take.
 pub const STACK: usize = 1_110_016;
@@ -54,17 +58,21 @@ const NO_ROOM: u8 = 35;
 const TAG_PLACE: u32 = 32;
 const SECOND_PLACE: u32 = 40;
 
+// Of a join, the second figure is the book that is meant, and above it the bytes that hold the joint.
+const WHICH_PLACE: u32 = SECOND_PLACE;
+const BYTES_PLACE: u32 = 48;
+
 /// What a call says of a book.
 #[derive(Clone, Copy, PartialEq, Eq, Debug)]
 pub enum Answer {
     /// The book is refused, with the number and cell that docs/FORMAT.md explains.
     Refused {
-        /// 1 to 31, of which 1 to 15 are in use.
+        /// 1 to 31, of which 1 to 16 are in use, 16 by a join alone.
         number: u8,
-        /// The cell that is meant; 0 for the numbers 1 to 4.
+        /// The cell that is meant; 0 for the numbers 1 to 4 and 16.
         cell: u32,
     },
-    /// A check accepted the book and encoded its type.
+    /// A check or a join accepted the book and encoded its type.
     Accepted {
         /// The type's count of cells.
         size: u32,
@@ -110,9 +118,59 @@ impl Answer {
     }
 }
 
+/// Which book a join's answer means.
+#[derive(Clone, Copy, PartialEq, Eq, Debug)]
+pub enum Which {
+    /// The book that is lent to be written.
+    Project,
+    /// The book that is joined to it.
+    Part,
+    /// The book that the two become.
+    Joint,
+}
+
+/// What a join says.
+#[derive(Clone, Copy, PartialEq, Eq, Debug)]
+pub struct Joined {
+    /// The book that the answer means: of an acceptance, the joint.
+    pub which: Which,
+    /// [`Answer::Refused`], or [`Answer::Accepted`] with the size of the joint's type.
+    pub answer: Answer,
+    /// How many of the project's lent bytes hold the joint; 0 when refused.
+    pub bytes: usize,
+}
+
+impl Joined {
+    /// A join returns what a check returns in bits 0 to 39, the book that is meant in bits 40 to 47 and the byte count in bits 48 to 63.
+    fn unpacked(packed: u64) -> Joined {
+        let which = match (packed >> WHICH_PLACE) as u8 {
+            1 => Some(Which::Project),
+            2 => Some(Which::Part),
+            3 => Some(Which::Joint),
+            _ => None,
+        };
+        let bytes = (packed >> BYTES_PLACE) as usize;
+        let answer = Answer::unpacked(packed & ((1 << SECOND_PLACE) - 1));
+        match (which, answer) {
+            (Some(which), Answer::Refused { .. }) if bytes == 0 => Joined { which, answer, bytes },
+            (Some(which @ Which::Joint), Answer::Accepted { .. }) => Joined { which, answer, bytes },
+            _ => Joined { which: Which::Joint, answer: Answer::Unknown { packed }, bytes: 0 },
+        }
+    }
+}
+
 extern "C" {
     fn cerealbank_check(book: *const u8, book_len: usize, work: *mut u8, work_len: usize) -> u64;
     fn cerealbank_run(book: *const u8, book_len: usize, work: *mut u8, work_len: usize, limit: u32) -> u64;
+    fn cerealbank_join(
+        project: *mut u8,
+        project_len: usize,
+        length: usize,
+        part: *const u8,
+        part_len: usize,
+        work: *mut u8,
+        work_len: usize,
+    ) -> u64;
 }
 
 /// Checks a book: [`Answer::Accepted`] with its type encoded as a book of its own, of the same version, at the start of the work
@@ -128,6 +186,17 @@ pub fn check(book: &[u8], work: &mut [u8]) -> Answer {
 pub fn run(book: &[u8], work: &mut [u8], limit: u32) -> Answer {
     // SAFETY: as in `check`.
     Answer::unpacked(unsafe { cerealbank_run(book.as_ptr(), book.len(), work.as_mut_ptr(), work.len(), limit) })
+}
+
+/// Joins a part to a project, whose book is the first `length` bytes of `project`: both are checked, the project first, and then the joint.
+/// Accepted, the joint is written over the project's lent bytes, the rest zero, and its type is left in the work buffer as a check leaves
+/// it. A refusal names its book, leaves every lent byte of the project, and leaves the work buffer as a check does. `project` must be
+/// [`PROJECT`] bytes long.
+pub fn join(project: &mut [u8], length: usize, part: &[u8], work: &mut [u8]) -> Joined {
+    // SAFETY: the three slices are valid for their lengths, the first and the last are lent to be written, and no two overlap.
+    Joined::unpacked(unsafe {
+        cerealbank_join(project.as_mut_ptr(), project.len(), length, part.as_ptr(), part.len(), work.as_mut_ptr(), work.len())
+    })
 }
 
 #[cfg(test)]
