@@ -19,7 +19,7 @@ extern "C" {
 
 /* The bytes of stack that suffice for a call, whatever the book: at least a quarter more than the deepest books of every shape were measured
    to take. */
-#define CEREALBANK_STACK 1110016
+#define CEREALBANK_STACK 1150976
 
 /* An answer: its value in bits 0 to 31, its tag in bits 32 to 39. Bits 40 to 63 are for a second figure, which a join alone has; of a check
    and a run they are zero. */
