@@ -44,6 +44,19 @@ fn exit_status() {
         &["show", "--cells", "--dot"],
         &["make", "--notation"],
         &["help", "nothing"],
+        &["join"],
+        &["join", "-"],
+        &["join", "-", "-"],
+        &["join", "no/such/file", "books/joining/site.book"],
+        &["join", "books/joining/office.book", "no/such/file"],
+        &["join", "books/joining", "books/joining/site.book"],
+        &["join", "books/joining/office.book", "books/joining/site.book", "books/joining/top.book"],
+        &["join", "books/joining/office.book", "books/joining/site.book", "-o"],
+        &["join", "books/joining/office.book", "books/joining/site.book", "-o", "no/such/folder/file"],
+        &["join", "books/joining/office.book", "books/joining/site.book", "-o", "books"],
+        &["join", "books/joining/office.book", "books/joining/site.book", "--limit", "1"],
+        &["join", "books/joining/office.book", "books/joining/site.book", "--quiet=1"],
+        &["join", "books/joining/office.book", "docs/FORMAT.md"],
     ] {
         let (printed, status) = answered(wrong, b"1");
         assert_eq!(status, 2, "{wrong:?}: {printed}");
@@ -53,7 +66,7 @@ fn exit_status() {
         assert_eq!(status(help, b""), 0, "{help:?}");
     }
     assert_eq!(answered(&["help", "run"], b""), answered(&["run", "--help"], b""));
-    for command in ["make", "show", "check", "run", "explain"] {
+    for command in ["make", "show", "check", "run", "join", "explain"] {
         assert!(answered(&["help"], b"").0.contains(&format!("  cerealbank {command} ")));
     }
 }
@@ -153,7 +166,7 @@ fn output_that_fails() {
 }
 
 /// All that a command can do with an input.
-const WAYS: [&[&str]; 9] = [
+const WAYS: [&[&str]; 11] = [
     &["make"],
     &["make", "--share", "--version", "2"],
     &["show"],
@@ -163,6 +176,8 @@ const WAYS: [&[&str]; 9] = [
     &["check"],
     &["run", "--limit", "3", "--trace"],
     &["check", "--notation"],
+    &["join", "books/joining/office.book"],
+    &["join", "-", "books/joining/register.txt"],
 ];
 
 /// Every way ends with a status and without a panic.
@@ -304,18 +319,19 @@ fn book(text: &str) -> Book {
 #[test]
 fn help_and_flags() {
     let usage = answered(&["help"], b"").0;
-    for command in ["make", "show", "check", "run", "explain"] {
+    for command in ["make", "show", "check", "run", "join", "explain"] {
         assert!(usage.contains(&format!("\n  cerealbank {command} ")), "{usage}");
         let manual = answered(&[command, "--help"], b"").0;
         assert!(manual.starts_with(&format!("cerealbank {command} ")), "{manual}");
         assert_eq!(manual.contains("\n  --limit N "), command == "run", "{manual}");
         assert_eq!(manual.contains("\n  --share "), command == "make", "{manual}");
     }
-    let own: [(&str, &[&str]); 5] = [
+    let own: [(&str, &[&str]); 6] = [
         ("make", &["-o", "--version", "--share"]),
         ("show", &["--exact", "--cells", "--dot", "--book", "--notation"]),
         ("check", &["--book", "--notation"]),
         ("run", &["--limit", "--trace", "-o", "--book", "--notation"]),
+        ("join", &["-o"]),
         ("explain", &[]),
     ];
     for (command, flags) in own {
@@ -339,7 +355,7 @@ fn calls_that_go_wrong_say_how() {
         answered(&["make", "books/first_number.book"], b"").0,
         "books/first_number.book: this is no text in the notation; `cerealbank show` prints a book\n"
     );
-    assert!(answered(&["explain", "--", "-1"], b"").0.starts_with("-1: the refusals have the numbers 1 to 15"));
+    assert!(answered(&["explain", "--", "-1"], b"").0.starts_with("-1: the refusals have the numbers 1 to 16"));
     assert!(answered(&["check", "no\x1bfile"], b"").0.starts_with("no?file: "));
     let printed = answered(&["check", "--notation"], b"1 ,, \x1b[31m x").0;
     assert!(!printed.contains('\x1b') && printed.contains("  1 | 1 ,, ?[31m x\n"), "{printed}");
