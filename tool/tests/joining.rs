@@ -6,7 +6,7 @@ use common::{answered, at, bytes, called, files, generated, text};
 use std::fs;
 use std::path::PathBuf;
 use std::process::Command;
-use tool::ask::{check, join, Which};
+use tool::ask::{check, join, Joint, Refusal, Which};
 use tool::assemble::assemble;
 use tool::book::{Book, Part};
 use tool::deep;
@@ -45,7 +45,7 @@ fn tops(count: usize) -> Vec<u8> {
     book.bytes()
 }
 
-/// A part with this number in every cell but the last, which is a record of it: no cell equals another.
+/// Numbers from this one on, no two of them equal, and a record of the first for a root.
 fn numbers(count: usize, label: i64, first: i64) -> Vec<u8> {
     let mut book = Book::new(1);
     (0..count as i64 - 1).for_each(|n| {
@@ -316,7 +316,13 @@ fn cells_that_cannot_be_shared() {
     assert!(printed.contains("  project:  4000 cells, 2 with equal parts laid down once\n"), "{printed}");
 }
 
-/// Every pair of generated books gets an answer in words, and the joint's parts are shown where they clash.
+/// The answer of a joint, the other way about: the size of its type and its bytes, or its refusal.
+fn answer_of(joined: &Result<Joint, (Which, Refusal)>) -> Result<(usize, usize), (Which, Refusal)> {
+    joined.as_ref().map(|joint| (joint.found.len(), joint.bytes.len())).map_err(|&refused| refused)
+}
+
+/// Every pair of generated books gets an answer in words, the joint's parts are shown where they clash, and of accepted books the order
+/// makes no difference to the answer.
 #[test]
 fn generated_books_are_joined() {
     let counts = deep(|| {
@@ -325,7 +331,11 @@ fn generated_books_are_joined() {
         let mut counts = [0; 2];
         for pair in accepted.windows(2).chain(books.iter().collect::<Vec<_>>().windows(2)) {
             let [project, part] = [pair[0], pair[1]].map(|book| Input::of_bytes(book.clone()));
-            match join(&project.bytes, &part.bytes) {
+            let joined = join(&project.bytes, &part.bytes);
+            if !matches!(joined, Err((Which::Project | Which::Part, _))) {
+                assert_eq!(answer_of(&joined), answer_of(&join(&part.bytes, &project.bytes)));
+            }
+            match joined {
                 Ok(joint) => {
                     assert_eq!(check(&joint.bytes), Ok(joint.found));
                     counts[0] += 1;
