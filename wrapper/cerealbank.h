@@ -54,9 +54,10 @@ uint64_t cerealbank_check(const uint8_t *book, size_t book_len, uint8_t *work, s
 /* Runs a book for at most limit steps, and leaves the term reached as a check leaves the type. */
 uint64_t cerealbank_run(const uint8_t *book, size_t book_len, uint8_t *work, size_t work_len, uint32_t limit);
 
-/* Joins a part to the project that the first length of the project's lent bytes hold; lent are CEREALBANK_PROJECT bytes. Both are checked, the
-   project first, and then the joint. Accepted, the joint is written over the project's lent bytes, the rest zero, and the work buffer is left
-   as a check of it leaves it. A refusal names its book, leaves every lent byte of the project, and leaves the work buffer as a check does. */
+/* Joins a part to the project that the first length of the project's lent bytes hold; lent are CEREALBANK_PROJECT bytes. The project is checked,
+   then the part, then the joint. Accepted, the joint is written over the project's lent bytes, the rest zero, and the work buffer is left as a
+   check of it leaves it. A refusal names its book, changes no lent byte of the project, and leaves the work buffer as a check with that refusal
+   does. */
 uint64_t cerealbank_join(uint8_t *project, size_t project_len, size_t length, const uint8_t *part, size_t part_len, uint8_t *work,
                          size_t work_len);
 

@@ -180,7 +180,8 @@ fn write_book(file: &OsString, bytes: &[u8], terminal: &mut Terminal) -> Result<
     write_whole(file.as_ref(), bytes).map_err(|error| Failure::File(format!("{}: {error}", file.to_string_lossy())))
 }
 
-/// Writes a file whole or not at all: what it held stays until all that is new stands beside it.
+/// Writes a file whole or not at all: what it held stays until all that is new stands beside it. In a folder where nothing new may stand, it is
+/// written over.
 fn write_whole(file: &Path, bytes: &[u8]) -> io::Result<()> {
     let Some(held) = fs::canonicalize(file).ok().filter(|held| held.is_file()) else {
         return fs::write(file, bytes);
@@ -189,9 +190,12 @@ fn write_whole(file: &Path, bytes: &[u8]) -> io::Result<()> {
     let mut beside = held.clone().into_os_string();
     beside.push(format!(".{}", std::process::id()));
     let written = fs::write(&beside, bytes).and_then(|()| fs::set_permissions(&beside, rights));
-    written.and_then(|()| fs::rename(&beside, &held)).inspect_err(|_| {
-        fs::remove_file(&beside).ok();
-    })
+    match written.and_then(|()| fs::rename(&beside, &held)) {
+        Err(error) if error.kind() == io::ErrorKind::PermissionDenied => fs::write(&held, bytes),
+        ended => ended.inspect_err(|_| {
+            fs::remove_file(&beside).ok();
+        }),
+    }
 }
 
 fn make(options: &Options, terminal: &mut Terminal) -> Ended {

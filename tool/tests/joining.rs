@@ -144,7 +144,7 @@ fn a_joint_that_cannot_be_written_leaves_the_project() {
     let office = bytes("books/joining/office.book");
     let file = scratch("full.book", &office);
     let script = format!(
-        "trap '' XFSZ; ulimit -f 0; exec {} join {1} books/joining/site.book -o {1} --quiet",
+        "trap '' XFSZ; ulimit -f 0; exec '{}' join '{1}' books/joining/site.book -o '{1}' --quiet",
         env!("CARGO_BIN_EXE_cerealbank"),
         name(&file)
     );

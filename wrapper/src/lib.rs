@@ -84,7 +84,7 @@ const TAG_PLACE: u32 = 32;
 const SECOND_PLACE: u32 = 40;
 
 // Of a join, the second figure is the book that is meant, and above it how many bytes hold the joint.
-const WHICH_PLACE: u32 = SECOND_PLACE;
+const WHICH_PLACE: u32 = 40;
 const BYTES_PLACE: u32 = 48;
 const OF_PROJECT: u8 = 1;
 const OF_PART: u8 = 2;
