@@ -14,6 +14,29 @@ fn status(arguments: &[&str], input: &[u8]) -> i32 {
     answered(arguments, input).1
 }
 
+/// Calls that do nothing.
+const WRONG: [&[&str]; 19] = [
+    &[],
+    &["nothing"],
+    &["check", "no/such/file"],
+    &["check", "books"],
+    &["check", "--limit", "1"],
+    &["run", "--limit"],
+    &["run", "--limit", "x"],
+    &["run", "--limit", "4294967296"],
+    &["run", "--limit=-1"],
+    &["check", "a", "b"],
+    &["check", "--quiet=1"],
+    &["make", "--version", "3"],
+    &["make", "books/first_number.book"],
+    &["make", "-o", "no/such/folder/file", "books/first_number.txt"],
+    &["check", "--notation", "books/first_number.book"],
+    &["explain", "99"],
+    &["show", "--cells", "--dot"],
+    &["make", "--notation"],
+    &["help", "nothing"],
+];
+
 #[test]
 fn exit_status() {
     assert_eq!(status(&["check", "books/first_number.book"], b""), 0);
@@ -24,40 +47,7 @@ fn exit_status() {
     assert_eq!(status(&["show", "books/refusals/05.book"], b""), 1);
     assert_eq!(status(&["show", "books/refusals/05.book", "--cells"], b""), 0);
     assert_eq!(status(&["show", "books/refusals/14.book"], b""), 0);
-    for wrong in [
-        &[][..],
-        &["nothing"],
-        &["check", "no/such/file"],
-        &["check", "books"],
-        &["check", "--limit", "1"],
-        &["run", "--limit"],
-        &["run", "--limit", "x"],
-        &["run", "--limit", "4294967296"],
-        &["run", "--limit=-1"],
-        &["check", "a", "b"],
-        &["check", "--quiet=1"],
-        &["make", "--version", "3"],
-        &["make", "books/first_number.book"],
-        &["make", "-o", "no/such/folder/file", "books/first_number.txt"],
-        &["check", "--notation", "books/first_number.book"],
-        &["explain", "99"],
-        &["show", "--cells", "--dot"],
-        &["make", "--notation"],
-        &["help", "nothing"],
-        &["join"],
-        &["join", "-"],
-        &["join", "-", "-"],
-        &["join", "no/such/file", "books/joining/site.book"],
-        &["join", "books/joining/office.book", "no/such/file"],
-        &["join", "books/joining", "books/joining/site.book"],
-        &["join", "books/joining/office.book", "books/joining/site.book", "books/joining/top.book"],
-        &["join", "books/joining/office.book", "books/joining/site.book", "-o"],
-        &["join", "books/joining/office.book", "books/joining/site.book", "-o", "no/such/folder/file"],
-        &["join", "books/joining/office.book", "books/joining/site.book", "-o", "books"],
-        &["join", "books/joining/office.book", "books/joining/site.book", "--limit", "1"],
-        &["join", "books/joining/office.book", "books/joining/site.book", "--quiet=1"],
-        &["join", "books/joining/office.book", "docs/FORMAT.md"],
-    ] {
+    for wrong in WRONG {
         let (printed, status) = answered(wrong, b"1");
         assert_eq!(status, 2, "{wrong:?}: {printed}");
         assert!(!printed.is_empty(), "{wrong:?}");

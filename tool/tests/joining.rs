@@ -248,6 +248,36 @@ fn versions_agree() {
     assert_eq!(said("version 2 {1 = 7}", "{1 = 7}").1, 0);
 }
 
+/// Calls that do nothing.
+const WRONG: [&[&str]; 13] = [
+    &["join"],
+    &["join", "-"],
+    &["join", "-", "-"],
+    &["join", "no/such/file", "books/joining/site.book"],
+    &["join", "books/joining/office.book", "no/such/file"],
+    &["join", "books/joining", "books/joining/site.book"],
+    &["join", "books/joining/office.book", "books/joining/site.book", "books/joining/top.book"],
+    &["join", "books/joining/office.book", "books/joining/site.book", "-o"],
+    &["join", "books/joining/office.book", "books/joining/site.book", "-o", "no/such/folder/file"],
+    &["join", "books/joining/office.book", "books/joining/site.book", "-o", "books"],
+    &["join", "books/joining/office.book", "books/joining/site.book", "--limit", "1"],
+    &["join", "books/joining/office.book", "books/joining/site.book", "--quiet=1"],
+    &["join", "books/joining/office.book", "docs/FORMAT.md"],
+];
+
+#[test]
+fn calls_that_go_wrong() {
+    for wrong in WRONG {
+        let output = called(wrong, b"1");
+        assert_eq!((output.status.code(), output.stdout.len()), (Some(2), 0), "{wrong:?}");
+        assert!(!output.stderr.is_empty(), "{wrong:?}");
+    }
+    assert_eq!(answered(&["join"], b"1").0, "a project and a part are wanted\nTry: cerealbank help\n");
+    assert_eq!(answered(&["join", "-"], b"1").0, "project and part cannot both be standard input\nTry: cerealbank help\n");
+    let (printed, _) = answered(&["join", "books/joining/office.txt"], b"1 ,");
+    assert!(printed.starts_with("standard input:1:3: ") && !printed.contains("Try:"), "{printed}");
+}
+
 /// The names of labels: the project's, and the part's where they name another label.
 #[test]
 fn labels_of_both_are_shown() {
