@@ -19,7 +19,7 @@ extern "C" {
 
 /* The bytes of stack that suffice for a call, whatever the book: at least a quarter more than the deepest books of every shape were measured
    to take. */
-#define CEREALBANK_STACK 1110016
+#define CEREALBANK_STACK 1150976
 
 /* An answer: its value in bits 0 to 31, its tag in bits 32 to 39. Bits 40 to 63 are for a second figure, which a join alone has; of a check
    and a run they are zero. */
@@ -54,9 +54,10 @@ uint64_t cerealbank_check(const uint8_t *book, size_t book_len, uint8_t *work, s
 /* Runs a book for at most limit steps, and leaves the term reached as a check leaves the type. */
 uint64_t cerealbank_run(const uint8_t *book, size_t book_len, uint8_t *work, size_t work_len, uint32_t limit);
 
-/* Joins a part to the project that the first length of the project's lent bytes hold; lent are CEREALBANK_PROJECT bytes. Both are checked, the
-   project first, and then the joint. Accepted, the joint is written over the project's lent bytes, the rest zero, and the work buffer is left
-   as a check of it leaves it. A refusal names its book, leaves every lent byte of the project, and leaves the work buffer as a check does. */
+/* Joins a part to the project that the first length of the project's lent bytes hold; lent are CEREALBANK_PROJECT bytes. The project is checked,
+   then the part, then the joint. Accepted, the joint is written over the project's lent bytes, the rest zero, and the work buffer is left as a
+   check of it leaves it. A refusal names its book, changes no lent byte of the project, and leaves the work buffer as a check with that refusal
+   does. */
 uint64_t cerealbank_join(uint8_t *project, size_t project_len, size_t length, const uint8_t *part, size_t part_len, uint8_t *work,
                          size_t work_len);
 

@@ -5,6 +5,7 @@
 //! With `--only`, only the tables whose title has one of the patterns in it; with `--quick`, with few rounds.
 
 mod books;
+mod joins;
 mod stack;
 mod timing;
 
@@ -225,7 +226,7 @@ fn casts(title: &str) {
 /// A table, from its title on.
 type Table = fn(&str);
 
-const TABLES: [(&str, Table); 16] = [
+const TABLES: [(&str, Table); 17] = [
     ("Small typed books together", small_books),
     ("Books of 4,095 cells: check", |title| table(title, &TWO, Call::Check, &books::full())),
     ("Books of 4,095 cells: run, limit 10,000", |title| table(title, &THREE, DESK, &books::full())),
@@ -238,10 +239,11 @@ const TABLES: [(&str, Table); 16] = [
     ("Version 2 beside version 1: check", |title| table(title, &TWO, Call::Check, &books::both_versions())),
     ("Version 2 beside version 1: run, limit 10,000", |title| table(title, &TWO, DESK, &books::both_versions())),
     ("The sample books: check, and run with limit 10,000", samples),
+    ("Joins, beside the checks that they are made of", joins::joins),
     ("Growth: the check", growth_of_the_check),
     ("Growth: a step of a function that calls itself within records", growth_of_a_step),
     ("The largest readings: the one step alone", casts),
-    ("Stack: the most that a book takes, run with limits 0, 1, 2, 3, 10 and 10,000", stack::stack),
+    ("Stack: the most that a book takes, run with limits 0, 1, 2, 3, 10 and 10,000, and joined with the top value", stack::stack),
 ];
 
 fn main() -> ExitCode {

@@ -2,25 +2,38 @@
 
 use crate::books::costly;
 use crate::timing::engine;
+use cerealbank::{join, PROJECT};
 use compare::deepest::{deepest, Deep};
 use compare::engines::Call;
 use compare::extremes::extremes;
 use compare::stack::taken;
-use evaluator::{on_large_stack, WORK};
+use evaluator::{on_large_stack, TRAILER, WORK};
 
 /// The thread's stack: far more than any engine takes.
 const STACK: usize = 16 << 20;
 
-/// The most stack that these calls of the engine take on these books, in KiB, and the book that takes it.
-fn most<'a>(calls: &[Call], books: &[&'a Deep]) -> (usize, &'a str) {
-    let ask = |deep: &&Deep| {
-        let mut work = vec![0; WORK];
-        for &call in calls {
-            engine(call, &deep.book, &mut work);
-        }
-    };
-    let bytes = taken(STACK, books, ask).into_iter().map(|bytes| bytes.div_ceil(1 << 10));
+/// The most stack that calls of the engine take on these books, in KiB, and the book that takes it.
+fn most<'a>(does: impl Fn(&[u8]) + Sync, books: &[&'a Deep]) -> (usize, &'a str) {
+    let bytes = taken(STACK, books, |deep: &&Deep| does(&deep.book)).into_iter().map(|bytes| bytes.div_ceil(1 << 10));
     bytes.zip(books.iter().map(|deep| deep.name.as_str())).max_by_key(|(bytes, _)| *bytes).expect("a book")
+}
+
+fn ask(calls: &[Call], book: &[u8]) {
+    let mut work = vec![0; WORK];
+    calls.iter().for_each(|&call| {
+        engine(call, book, &mut work);
+    });
+}
+
+/// A book as the project, and as the part. The other is the top value, of version 2.
+fn join_both_ways(book: &[u8]) {
+    let (mut project, mut work) = (vec![0; PROJECT], vec![0; WORK]);
+    let top = [18, 0, 0, 0, 0, 0, 0, 0, TRAILER, 2, 1, 0, 0, 0, 0, 0];
+    for (one, part) in [(book, &top[..]), (&top, book)] {
+        let held = one.len().min(PROJECT);
+        project[..held].copy_from_slice(&one[..held]);
+        join(&mut project, one.len(), part, &mut work);
+    }
 }
 
 fn books() -> Vec<Deep> {
@@ -30,12 +43,14 @@ fn books() -> Vec<Deep> {
 }
 
 pub fn stack(title: &str) {
-    crate::head(title, "books, how many, check KiB, run KiB, the run that takes most");
+    crate::head(title, "books, how many, check KiB, run KiB, the run that takes most, join KiB");
     let books = on_large_stack(books);
     let runs = [0, 1, 2, 3, 10, 10_000].map(|limit| Call::Run { limit });
     for group in books.chunk_by(|one, other| one.group == other.group) {
         let group: Vec<&Deep> = group.iter().collect();
-        let ((check, _), (run, name)) = (most(&[Call::Check], &group), most(&runs, &group));
-        println!("| {} | {} | {check} | {run} | {name} |", group[0].group, group.len());
+        let (check, _) = most(|book| ask(&[Call::Check], book), &group);
+        let (run, name) = most(|book| ask(&runs, book), &group);
+        let (join, _) = most(join_both_ways, &group);
+        println!("| {} | {} | {check} | {run} | {name} | {join} |", group[0].group, group.len());
     }
 }

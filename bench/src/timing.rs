@@ -76,7 +76,7 @@ pub fn race(sides: &[Side], call: Call, books: &[Vec<u8>]) -> Timed {
 }
 
 /// So many seconds have been spent, over three rounds at least where that is not long; a tenth of them and one round where it is quick.
-fn enough(round: usize, start: Instant, seconds: f64) -> bool {
+pub fn enough(round: usize, start: Instant, seconds: f64) -> bool {
     let (rounds, seconds) = if QUICK.load(Relaxed) { (1, seconds / 10.0) } else { (3, seconds) };
     let spent = start.elapsed().as_secs_f64();
     spent > 3.0 || round >= rounds && spent > seconds

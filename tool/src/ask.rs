@@ -3,7 +3,8 @@
 
 use crate::book::{Book, Part};
 use crate::kinds::Kind;
-use cerealbank::{Answer, WORK};
+pub use cerealbank::Which;
+use cerealbank::{Answer, PROJECT, WORK};
 use std::collections::HashMap;
 
 /// A refusal: its number and its cell.
@@ -50,6 +51,23 @@ pub fn run(book: &[u8], limit: u32) -> Result<Ran, Refusal> {
         other => return Err(refusal(other)),
     };
     Ok(Ran { stop, steps, left: Book::left_in(&work).to_vec() })
+}
+
+/// The joint of two books, and its type as a book.
+pub struct Joint {
+    pub bytes: Vec<u8>,
+    pub found: Vec<u8>,
+}
+
+/// Joins a part to a project, or says which book is refused, and how.
+pub fn join(project: &[u8], part: &[u8]) -> Result<Joint, (Which, Refusal)> {
+    let (mut lent, mut work) = (project.to_vec(), vec![0; WORK]);
+    lent.resize(PROJECT, 0);
+    let joined = cerealbank::join(&mut lent, project.len(), part, &mut work);
+    match joined.answer {
+        Answer::Accepted { .. } => Ok(Joint { bytes: lent[..joined.bytes].to_vec(), found: Book::left_in(&work).to_vec() }),
+        other => Err((joined.which, refusal(other))),
+    }
 }
 
 fn refusal(answer: Answer) -> Refusal {
@@ -171,7 +189,7 @@ fn stand_in(book: &mut Book, of: usize) -> usize {
 }
 
 /// The type of the root, or the refusal.
-fn asked(book: &Book) -> Result<Book, Refusal> {
+pub fn asked(book: &Book) -> Result<Book, Refusal> {
     let type_found = check(&book.bytes())?;
     Book::read(&type_found).ok_or(NO_ANSWER)
 }

@@ -1,12 +1,13 @@
 //! The commands, a row each: a later one is one more row, and a function.
 
-use crate::ask::{check, run, Ran, Refusal, Stop, NO_ANSWER};
+use crate::ask::{check, join, run, Ran, Refusal, Stop, NO_ANSWER};
 use crate::assemble::assemble;
 use crate::book::Book;
 use crate::cells::{graph, table};
 use crate::explanation::{printed, with_carets};
 use crate::format::{headings, section, NUMBERS};
 use crate::input::{book, form_of, read, text, Form, Input};
+use crate::joining::{accepted, refused};
 use crate::layout::lay_out;
 use crate::options::{options, Options, FLAGS};
 use crate::print::{bare_type, laid};
@@ -17,8 +18,9 @@ use crate::source::printable;
 use crate::terminal::Terminal;
 use std::ffi::OsString;
 use std::fmt::Write;
-use std::fs;
+use std::path::Path;
 use std::time::{Duration, Instant};
+use std::{fs, io};
 
 /// How a command ended: its exit status.
 #[derive(Clone, Copy, PartialEq, Eq, Debug)]
@@ -50,7 +52,7 @@ const LIMIT: u32 = 10_000;
 /// A run that takes longer than this says how far it is.
 const PATIENCE: Duration = Duration::from_millis(500);
 
-static COMMANDS: [Command; 5] = [
+static COMMANDS: [Command; 6] = [
     Command {
         name: "make",
         arguments: &["FILE"],
@@ -78,6 +80,13 @@ static COMMANDS: [Command; 5] = [
         does: "prints why the run stopped, after how many steps, and the term reached",
         flags: &["--limit", "--trace", "-o", "--book", "--notation"],
         run: run_book,
+    },
+    Command {
+        name: "join",
+        arguments: &["PROJECT", "PART"],
+        does: "joins a part to a project: the joint's type, or which book is refused and why",
+        flags: &["-o"],
+        run: join_books,
     },
     Command {
         name: "explain",
@@ -141,13 +150,13 @@ fn asked(command: &Command, arguments: &[OsString], terminal: &mut Terminal) -> 
 /// All commands, a line each.
 fn usage() -> String {
     let mut usage =
-        String::from("Writes, shows, checks, runs and explains folder books. The answers are the proved library's.\n\n");
+        String::from("Writes, shows, checks, runs, joins and explains folder books. The answers are the proved library's.\n\n");
     for command in &COMMANDS {
-        writeln!(usage, "  cerealbank {:7} {:9}  {}", command.name, command.arguments.join(" "), command.does).ok();
+        writeln!(usage, "  cerealbank {:7} {:12}  {}", command.name, command.arguments.join(" "), command.does).ok();
     }
     usage
         + "\nA book is a file or standard input, in bytes or in the notation of docs/NOTATION.md.\n\
-        `cerealbank COMMAND --help` has the flags. Exit status: 0 accepted or run, 1 refused, 2 a wrong use or file.\n"
+        `cerealbank COMMAND --help` has the flags. Exit status: 0 accepted, run or joined, 1 refused, 2 a wrong use or file.\n"
 }
 
 fn manual(command: &Command) -> String {
@@ -168,7 +177,25 @@ fn write_book(file: &OsString, bytes: &[u8], terminal: &mut Terminal) -> Result<
         terminal.write(bytes);
         return Ok(());
     }
-    fs::write(file, bytes).map_err(|error| Failure::File(format!("{}: {error}", file.to_string_lossy())))
+    write_whole(file.as_ref(), bytes).map_err(|error| Failure::File(format!("{}: {error}", file.to_string_lossy())))
+}
+
+/// Writes a file whole or not at all: what it held stays until all that is new stands beside it. In a folder where nothing new may stand, it is
+/// written over.
+fn write_whole(file: &Path, bytes: &[u8]) -> io::Result<()> {
+    let Some(held) = fs::canonicalize(file).ok().filter(|held| held.is_file()) else {
+        return fs::write(file, bytes);
+    };
+    let rights = fs::OpenOptions::new().write(true).open(&held)?.metadata()?.permissions();
+    let mut beside = held.clone().into_os_string();
+    beside.push(format!(".{}", std::process::id()));
+    let written = fs::write(&beside, bytes).and_then(|()| fs::set_permissions(&beside, rights));
+    match written.and_then(|()| fs::rename(&beside, &held)) {
+        Err(error) if error.kind() == io::ErrorKind::PermissionDenied => fs::write(&held, bytes),
+        ended => ended.inspect_err(|_| {
+            fs::remove_file(&beside).ok();
+        }),
+    }
 }
 
 fn make(options: &Options, terminal: &mut Terminal) -> Ended {
@@ -229,6 +256,33 @@ fn check_book(options: &Options, terminal: &mut Terminal) -> Ended {
         }
         Err(refusal) => Ok(refuse(&input, refusal, terminal)),
     }
+}
+
+/// Joins the second book to the first; a part that is left out is standard input.
+fn join_books(options: &Options, terminal: &mut Terminal) -> Ended {
+    let (Some(project), part) = (options.first(), options.second()) else {
+        return Err(Failure::Call("a project and a part are wanted".into()));
+    };
+    if project == "-" && part.is_none_or(|part| part == "-") {
+        return Err(Failure::Call("project and part cannot both be standard input".into()));
+    }
+    let project = book(Some(project), None).map_err(Failure::File)?;
+    let part = book(part, None).map_err(Failure::File)?;
+    let joint = match join(&project.bytes, &part.bytes) {
+        Ok(joint) => joint,
+        Err((which, refusal)) => {
+            terminal.print(&printed(refusal, &refused(&project, &part, which, refusal)));
+            return Ok(Status::Refused);
+        }
+    };
+    if let Some(file) = &options.output {
+        write_book(file, &joint.bytes, terminal)?;
+    }
+    // Bytes on standard output stand alone there.
+    if options.output.as_ref().is_none_or(|file| file != "-") {
+        terminal.print(&accepted(&joint, &project.labels.with(&part.labels)));
+    }
+    Ok(Status::Done)
 }
 
 fn run_book(options: &Options, terminal: &mut Terminal) -> Ended {

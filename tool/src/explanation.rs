@@ -19,6 +19,8 @@ const MARGIN: usize = 16;
 /// A refusal in words, and everything that is shown with it.
 #[derive(Default)]
 pub struct Explanation {
+    /// Which book it is of, where there are several.
+    pub of: Option<&'static str>,
     pub sentence: String,
     /// The part, marked.
     pub place: Vec<String>,
@@ -120,9 +122,10 @@ const WITH_CELL: std::ops::RangeInclusive<u8> = 5..=15;
 
 /// The words that a refusal is printed in.
 pub fn printed(refusal: Refusal, explanation: &Explanation) -> String {
-    let Explanation { sentence, place, facts, help } = explanation;
+    let Explanation { of, sentence, place, facts, help } = explanation;
     let cell = if WITH_CELL.contains(&refusal.number) { format!(", cell {}", refusal.cell) } else { String::new() };
-    let mut lines = wrapped(&format!("refused {}{cell}: {sentence}.", refusal.number));
+    let of = of.map_or(String::new(), |book| format!(" of the {book}"));
+    let mut lines = wrapped(&format!("refused {}{cell}{of}: {sentence}.", refusal.number));
     lines.push(String::new());
     if !place.is_empty() {
         lines.extend(place.iter().map(|line| format!("  {line}")));

@@ -1,4 +1,4 @@
-//! Folder books written, shown, checked, run and explained: what the program `cerealbank` is made of.
+//! Folder books written, shown, checked, run, joined and explained: what the program `cerealbank` is made of.
 //!
 //! Every answer is the proved library's, through its wrapper. What is here reads and writes: bytes and the notation of docs/NOTATION.md, a
 //! refusal in words. Where words need to know more of a book than the answer says - the type of a part, which parts of two types overlap -
@@ -12,6 +12,7 @@ pub mod commands;
 pub mod explanation;
 pub mod format;
 pub mod input;
+pub mod joining;
 pub mod kinds;
 pub mod labels;
 pub mod layout;

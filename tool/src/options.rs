@@ -46,7 +46,7 @@ fn number<T: std::str::FromStr>(text: OsString) -> Option<T> {
 pub const FLAGS: [Flag; 12] = [
     Flag {
         name: "-o",
-        help: "write the book to this file: what is made, or the term that a run reached",
+        help: "write the book to this file: what is made, the term that a run reached, or the joint",
         set: Set::With("FILE", |to, file| {
             to.output = Some(file);
             true
@@ -83,6 +83,11 @@ impl Options {
     /// The first argument, the book in most commands.
     pub fn first(&self) -> Option<&OsStr> {
         self.arguments.first().map(OsString::as_os_str)
+    }
+
+    /// The second, the part of a join.
+    pub fn second(&self) -> Option<&OsStr> {
+        self.arguments.get(1).map(OsString::as_os_str)
     }
 }
 

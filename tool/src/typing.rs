@@ -128,24 +128,44 @@ fn no_fields(found: Option<&Book>) -> &'static str {
 
 /// Why a half need not agree with the other.
 #[derive(Clone, Copy, PartialEq, Eq)]
-enum Reason {
+pub enum Reason {
     /// It uses a variable of a binder around the merge: alone it has a variable without a binder.
     Outside,
     /// It is no value yet, as a run of no steps says.
     NoValue,
 }
 
-fn reason(half: &Book) -> Option<Reason> {
+pub fn reason(half: &Book) -> Option<Reason> {
     match run(&half.bytes(), 0) {
         Ok(ran) => (ran.stop != Stop::Value).then_some(Reason::NoValue),
         Err(refusal) => (refusal.number == 11).then_some(Reason::Outside),
     }
 }
 
+/// What is merged, in words: the sentence, and what each half, one of them and both are called.
+pub struct Halves {
+    pub sentence: &'static str,
+    pub names: [&'static str; 2],
+    pub one: &'static str,
+    pub both: &'static str,
+}
+
+const OF_MERGE: Halves = Halves {
+    sentence: "the two halves of this merge overlap, and nothing says which of them counts",
+    names: ["left half", "right half"],
+    one: "one half",
+    both: "halves",
+};
+
 fn of_merge(term: &Term, at: usize, labels: &Labels) -> Explanation {
     let [left, right, _] = term.book.parts[at].references;
     let types = [left, right].map(|half| term.type_of(half));
     let halves = [left, right].map(|half| term.book.part(half));
+    overlap(&OF_MERGE, halves, types, labels)
+}
+
+/// Two halves that may not be merged, and their types.
+pub fn overlap(words: &Halves, halves: [Book; 2], types: [Option<Book>; 2], labels: &Labels) -> Explanation {
     let reasons = [&halves[0], &halves[1]].map(reason);
     let clash = match (reasons, &types) {
         ([None, None], _) => clash(&halves[0], &halves[1], may_be_merged),
@@ -155,14 +175,14 @@ fn of_merge(term: &Term, at: usize, labels: &Labels) -> Explanation {
     let Clash { fields, parts: [one, other] } = clash.unwrap_or_default();
     let fields: Vec<String> = fields.into_iter().map(|label| labels.shown(label)).collect();
     let shown = |part: &Option<Book>| part.as_ref().map_or(vec![], |part| lines_of(part, labels));
-    Explanation::says("the two halves of this merge overlap, and nothing says which of them counts")
-        .with_type("left half", types[0].as_ref(), labels)
-        .with_type("right half", types[1].as_ref(), labels)
+    Explanation::says(words.sentence)
+        .with_type(words.names[0], types[0].as_ref(), labels)
+        .with_type(words.names[1], types[1].as_ref(), labels)
         .facts("in field", if fields.is_empty() { vec![] } else { vec![fields.join(".")] })
         .facts("overlap", shown(&one))
         .facts("with", shown(&other))
-        .helps(why(reasons))
-        .helps(way_out(one.map(|one| root(&one).0)))
+        .helps(why(words, reasons))
+        .helps(way_out(words, one.map(|one| root(&one).0)))
 }
 
 /// What overlaps in two halves: the first parts that may not stand beside each other, and the fields that they are found in.
@@ -190,36 +210,33 @@ fn clash(one: &Book, other: &Book, fit: fn(&[Book], &[Book]) -> Option<bool>) ->
     }
 }
 
-fn why(reasons: [Option<Reason>; 2]) -> String {
-    let one = |reason: Reason| match reason {
+fn why(words: &Halves, reasons: [Option<Reason>; 2]) -> String {
+    let Halves { names: [left, right], both, .. } = words;
+    let says = |reason: Reason| match reason {
         Reason::Outside => "uses a variable from outside",
         Reason::NoValue => "is no value yet",
     };
-    let both = |reason: Reason| match reason {
-        Reason::Outside => "use variables from outside",
-        Reason::NoValue => "are no values yet",
-    };
     let why = match reasons {
-        [None, None] => return "Both halves are values, but where they overlap they are not the same.".into(),
-        [Some(left), Some(right)] if left == right => format!("Both halves {}", both(left)),
-        [Some(left), Some(right)] => format!("The left half {}, and the right half {}", one(left), one(right)),
-        [Some(left), None] => format!("The left half {}", one(left)),
-        [None, Some(right)] => format!("The right half {}", one(right)),
+        [None, None] => return format!("Both {both} are values, but where they overlap they are not the same."),
+        [Some(Reason::Outside), Some(Reason::Outside)] => format!("Both {both} use variables from outside"),
+        [Some(Reason::NoValue), Some(Reason::NoValue)] => format!("Both {both} are no values yet"),
+        [Some(one), Some(other)] => format!("The {left} {}, and the {right} {}", says(one), says(other)),
+        [Some(one), None] => format!("The {left} {}", says(one)),
+        [None, Some(other)] => format!("The {right} {}", says(other)),
     };
-    format!("{why}: only halves of disjoint types may be merged then.")
+    format!("{why}: only {both} of disjoint types may be merged then.")
 }
 
 /// What helps where parts of this kind, terms or types, overlap.
-fn way_out(kind: Option<Kind>) -> &'static str {
+fn way_out(words: &Halves, kind: Option<Kind>) -> String {
+    let rest = format!("out of {0}, or annotate {0} with a type that leaves it out.", words.one);
     match kind {
-        Some(Kind::Record | Kind::RecordType) => {
-            "Give the records different labels, take the field out of one half, or annotate one half with a type that leaves it out."
-        }
+        Some(Kind::Record | Kind::RecordType) => format!("Give the records different labels, take the field {rest}"),
         Some(Kind::Function | Kind::Arrow) => {
-            "Take the function out of one half, or annotate one half with a type that leaves it out. Functions agree if body and input type are the same."
+            format!("Take the function {rest} Functions agree if body and input type are the same.")
         }
-        Some(Kind::Number | Kind::Int) => "Take the number out of one half, or annotate one half with a type that leaves it out.",
-        _ => "Take the part out of one half, or annotate one half with a type that leaves it out.",
+        Some(Kind::Number | Kind::Int) => format!("Take the number {rest}"),
+        _ => format!("Take the part {rest}"),
     }
 }
 

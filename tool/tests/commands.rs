@@ -14,6 +14,29 @@ fn status(arguments: &[&str], input: &[u8]) -> i32 {
     answered(arguments, input).1
 }
 
+/// Calls that do nothing.
+const WRONG: [&[&str]; 19] = [
+    &[],
+    &["nothing"],
+    &["check", "no/such/file"],
+    &["check", "books"],
+    &["check", "--limit", "1"],
+    &["run", "--limit"],
+    &["run", "--limit", "x"],
+    &["run", "--limit", "4294967296"],
+    &["run", "--limit=-1"],
+    &["check", "a", "b"],
+    &["check", "--quiet=1"],
+    &["make", "--version", "3"],
+    &["make", "books/first_number.book"],
+    &["make", "-o", "no/such/folder/file", "books/first_number.txt"],
+    &["check", "--notation", "books/first_number.book"],
+    &["explain", "99"],
+    &["show", "--cells", "--dot"],
+    &["make", "--notation"],
+    &["help", "nothing"],
+];
+
 #[test]
 fn exit_status() {
     assert_eq!(status(&["check", "books/first_number.book"], b""), 0);
@@ -24,27 +47,7 @@ fn exit_status() {
     assert_eq!(status(&["show", "books/refusals/05.book"], b""), 1);
     assert_eq!(status(&["show", "books/refusals/05.book", "--cells"], b""), 0);
     assert_eq!(status(&["show", "books/refusals/14.book"], b""), 0);
-    for wrong in [
-        &[][..],
-        &["nothing"],
-        &["check", "no/such/file"],
-        &["check", "books"],
-        &["check", "--limit", "1"],
-        &["run", "--limit"],
-        &["run", "--limit", "x"],
-        &["run", "--limit", "4294967296"],
-        &["run", "--limit=-1"],
-        &["check", "a", "b"],
-        &["check", "--quiet=1"],
-        &["make", "--version", "3"],
-        &["make", "books/first_number.book"],
-        &["make", "-o", "no/such/folder/file", "books/first_number.txt"],
-        &["check", "--notation", "books/first_number.book"],
-        &["explain", "99"],
-        &["show", "--cells", "--dot"],
-        &["make", "--notation"],
-        &["help", "nothing"],
-    ] {
+    for wrong in WRONG {
         let (printed, status) = answered(wrong, b"1");
         assert_eq!(status, 2, "{wrong:?}: {printed}");
         assert!(!printed.is_empty(), "{wrong:?}");
@@ -53,7 +56,7 @@ fn exit_status() {
         assert_eq!(status(help, b""), 0, "{help:?}");
     }
     assert_eq!(answered(&["help", "run"], b""), answered(&["run", "--help"], b""));
-    for command in ["make", "show", "check", "run", "explain"] {
+    for command in ["make", "show", "check", "run", "join", "explain"] {
         assert!(answered(&["help"], b"").0.contains(&format!("  cerealbank {command} ")));
     }
 }
@@ -153,7 +156,7 @@ fn output_that_fails() {
 }
 
 /// All that a command can do with an input.
-const WAYS: [&[&str]; 9] = [
+const WAYS: [&[&str]; 11] = [
     &["make"],
     &["make", "--share", "--version", "2"],
     &["show"],
@@ -163,6 +166,8 @@ const WAYS: [&[&str]; 9] = [
     &["check"],
     &["run", "--limit", "3", "--trace"],
     &["check", "--notation"],
+    &["join", "books/joining/office.book"],
+    &["join", "-", "books/joining/register.txt"],
 ];
 
 /// Every way ends with a status and without a panic.
@@ -304,18 +309,19 @@ fn book(text: &str) -> Book {
 #[test]
 fn help_and_flags() {
     let usage = answered(&["help"], b"").0;
-    for command in ["make", "show", "check", "run", "explain"] {
+    for command in ["make", "show", "check", "run", "join", "explain"] {
         assert!(usage.contains(&format!("\n  cerealbank {command} ")), "{usage}");
         let manual = answered(&[command, "--help"], b"").0;
         assert!(manual.starts_with(&format!("cerealbank {command} ")), "{manual}");
         assert_eq!(manual.contains("\n  --limit N "), command == "run", "{manual}");
         assert_eq!(manual.contains("\n  --share "), command == "make", "{manual}");
     }
-    let own: [(&str, &[&str]); 5] = [
+    let own: [(&str, &[&str]); 6] = [
         ("make", &["-o", "--version", "--share"]),
         ("show", &["--exact", "--cells", "--dot", "--book", "--notation"]),
         ("check", &["--book", "--notation"]),
         ("run", &["--limit", "--trace", "-o", "--book", "--notation"]),
+        ("join", &["-o"]),
         ("explain", &[]),
     ];
     for (command, flags) in own {
@@ -339,7 +345,7 @@ fn calls_that_go_wrong_say_how() {
         answered(&["make", "books/first_number.book"], b"").0,
         "books/first_number.book: this is no text in the notation; `cerealbank show` prints a book\n"
     );
-    assert!(answered(&["explain", "--", "-1"], b"").0.starts_with("-1: the refusals have the numbers 1 to 15"));
+    assert!(answered(&["explain", "--", "-1"], b"").0.starts_with("-1: the refusals have the numbers 1 to 16"));
     assert!(answered(&["check", "no\x1bfile"], b"").0.starts_with("no?file: "));
     let printed = answered(&["check", "--notation"], b"1 ,, \x1b[31m x").0;
     assert!(!printed.contains('\x1b') && printed.contains("  1 | 1 ,, ?[31m x\n"), "{printed}");

@@ -1,4 +1,4 @@
-//! The pages are true: the tour's and README's commands print what stands below them, the sample texts are the sample books, and the table of
+//! The pages are true: the tour's, JOINING's and README's commands print what stands below them, the sample texts are the sample books, and the table of
 //! kinds is the manual's.
 
 mod common;
@@ -57,6 +57,11 @@ fn the_tour_is_what_the_program_prints() {
     let texts = blocks("docs/TOUR.md", "text");
     assert!(!texts.is_empty());
     texts.iter().for_each(|(path, block)| assert_eq!(*block, text(path)));
+}
+
+#[test]
+fn the_joins_are_what_the_program_prints() {
+    assert!(commands_print("docs/JOINING.md") >= 4);
 }
 
 #[test]

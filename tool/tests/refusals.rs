@@ -361,7 +361,7 @@ fn a_watched_run_is_the_run() {
 fn explanations_are_the_pages() {
     let page = common::text("docs/FORMAT.md");
     let words = |text: &str| text.split_whitespace().map(str::to_owned).collect::<Vec<_>>().join(" ");
-    let plain = words(&page.replace("```book", "").replace("```", ""));
+    let plain = words(&page.replace("```book", "").replace("```join", "").replace("```", ""));
     assert_eq!(headings().count(), NUMBERS.count());
     for number in NUMBERS {
         let said = section(number).expect("a section");
@@ -373,10 +373,10 @@ fn explanations_are_the_pages() {
         assert!(said.lines().last().is_some_and(|line| line.starts_with(&format!("    refused {number} "))), "{said}");
         assert_eq!(answered(&["explain", &number.to_string()], b""), (said, 0));
     }
-    for wrong in ["0", "16", "256", "-1", "x", ""] {
+    for wrong in ["0", "17", "256", "-1", "x", ""] {
         assert_eq!(answered(&["explain", "--", wrong], b"").1, 2);
     }
-    assert_eq!(answered(&["explain"], b"").0.lines().count(), 15);
+    assert_eq!(answered(&["explain"], b"").0.lines().count(), 16);
 }
 
 fn book(text: &str) -> Book {

@@ -33,6 +33,31 @@
 //! assert_eq!(check(&book[..16], &mut work), Answer::Refused { number: 3, cell: 0 });
 //! assert!(work.iter().all(|&byte| byte == 0));
 //! ```
+//!
+//! # A join
+//!
+//! A part is joined to a project, whose book stands at the start of [`PROJECT`] bytes:
+//!
+#![cfg_attr(not(library_missing), doc = "```")]
+#![cfg_attr(library_missing, doc = "```ignore")]
+//! use cerealbank::{join, Answer, Joined, Which, PROJECT, WORK};
+//!
+//! let office = [17, 0, 0, 0, 7, 0, 0, 0, 24, 1, 0, 0, 0, 0, 0, 0, 0xF0, 1, 2, 0, 1, 0, 0, 0]; // a record, label 1, of 7
+//! let site = [17, 0, 0, 0, 1, 0, 0, 0, 0xF0, 1, 1, 0, 0, 0, 0, 0]; // the number 1
+//! let (mut project, mut work) = ([0; PROJECT], [0; WORK]);
+//! project[..office.len()].copy_from_slice(&office);
+//!
+//! let joined = join(&mut project, office.len(), &site, &mut work);
+//! assert_eq!(joined, Joined { which: Which::Joint, answer: Answer::Accepted { size: 4 }, bytes: 40 });
+//! let joint = &project[..joined.bytes];
+//! assert_eq!(joint[24..], [22, 0, 1, 0, 2, 0, 0, 0, 0xF0, 1, 4, 0, 3, 0, 0, 0]); // merge of cells 1 and 2, 4 cells, root 3
+//!
+//! // The number 2 beside the number 1: the joint is refused, and the project stays as it is.
+//! let (before, other) = (project, [17, 0, 0, 0, 2, 0, 0, 0, 0xF0, 1, 1, 0, 0, 0, 0, 0]);
+//! let refused = join(&mut project, joined.bytes, &other, &mut work);
+//! assert_eq!(refused, Joined { which: Which::Joint, answer: Answer::Refused { number: 14, cell: 5 }, bytes: 0 });
+//! assert_eq!(project, before);
+//! ```
 
 #![no_std]
 #![deny(missing_docs)]
@@ -40,12 +65,12 @@
 /// The length that a work buffer must have; any other is refusal 1.
 pub const WORK: usize = 65_536;
 
-/// The length that a project's lent bytes must have, the length of a book of 4,095 cells; any other is refusal 2 of the project.
+/// The length that a project's lent bytes must have, that of a book of 4,095 cells; any other is refusal 2 of the project.
 pub const PROJECT: usize = 32_768;
 
 /// The bytes of stack that suffice for a call, whatever the book: at least a quarter more than the deepest books of every shape were
 /// measured to take.
-pub const STACK: usize = 1_110_016;
+pub const STACK: usize = 1_150_976;
 
 // The tags of an answer, as crates/answers/specs/Exported.antt defines them: a refusal has its own number.
 const LAST_REFUSAL: u8 = 31;
@@ -58,9 +83,12 @@ const NO_ROOM: u8 = 35;
 const TAG_PLACE: u32 = 32;
 const SECOND_PLACE: u32 = 40;
 
-// Of a join, the second figure is the book that is meant, and above it the bytes that hold the joint.
-const WHICH_PLACE: u32 = SECOND_PLACE;
+// Of a join, the second figure is the book that is meant, and above it how many bytes hold the joint.
+const WHICH_PLACE: u32 = 40;
 const BYTES_PLACE: u32 = 48;
+const OF_PROJECT: u8 = 1;
+const OF_PART: u8 = 2;
+const OF_JOINT: u8 = 3;
 
 /// What a call says of a book.
 #[derive(Clone, Copy, PartialEq, Eq, Debug)]
@@ -132,9 +160,9 @@ pub enum Which {
 /// What a join says.
 #[derive(Clone, Copy, PartialEq, Eq, Debug)]
 pub struct Joined {
-    /// The book that the answer means: of an acceptance, the joint.
+    /// The book that the answer means: the joint, if it is accepted.
     pub which: Which,
-    /// [`Answer::Refused`], or [`Answer::Accepted`] with the size of the joint's type.
+    /// [`Answer::Refused`], or [`Answer::Accepted`] with the size of the joint's type; what is neither is [`Answer::Unknown`].
     pub answer: Answer,
     /// How many of the project's lent bytes hold the joint; 0 when refused.
     pub bytes: usize,
@@ -144,16 +172,18 @@ impl Joined {
     /// A join returns what a check returns in bits 0 to 39, the book that is meant in bits 40 to 47 and the byte count in bits 48 to 63.
     fn unpacked(packed: u64) -> Joined {
         let which = match (packed >> WHICH_PLACE) as u8 {
-            1 => Some(Which::Project),
-            2 => Some(Which::Part),
-            3 => Some(Which::Joint),
+            OF_PROJECT => Some(Which::Project),
+            OF_PART => Some(Which::Part),
+            OF_JOINT => Some(Which::Joint),
             _ => None,
         };
         let bytes = (packed >> BYTES_PLACE) as usize;
         let answer = Answer::unpacked(packed & ((1 << SECOND_PLACE) - 1));
         match (which, answer) {
             (Some(which), Answer::Refused { .. }) if bytes == 0 => Joined { which, answer, bytes },
-            (Some(which @ Which::Joint), Answer::Accepted { .. }) => Joined { which, answer, bytes },
+            (Some(which @ Which::Joint), Answer::Accepted { .. }) if (1..=PROJECT).contains(&bytes) => {
+                Joined { which, answer, bytes }
+            }
             _ => Joined { which: Which::Joint, answer: Answer::Unknown { packed }, bytes: 0 },
         }
     }
@@ -188,10 +218,11 @@ pub fn run(book: &[u8], work: &mut [u8], limit: u32) -> Answer {
     Answer::unpacked(unsafe { cerealbank_run(book.as_ptr(), book.len(), work.as_mut_ptr(), work.len(), limit) })
 }
 
-/// Joins a part to a project, whose book is the first `length` bytes of `project`: both are checked, the project first, and then the joint.
-/// Accepted, the joint is written over the project's lent bytes, the rest zero, and its type is left in the work buffer as a check leaves
-/// it. A refusal names its book, leaves every lent byte of the project, and leaves the work buffer as a check does. `project` must be
-/// [`PROJECT`] bytes long.
+/// Joins a part to a project, whose book is the first `length` bytes of `project`; all that is lent of it must be [`PROJECT`] bytes. The
+/// project is checked, then the part, then the joint: the project's cells, the part's with their references raised, and the merge of both
+/// roots, in the higher version. Accepted, the joint is written over the project's lent bytes, the rest zero, and its type is left in the
+/// work buffer as a check of it leaves it. A refusal names its book, changes no lent byte of the project, and leaves the work buffer as a
+/// check with that refusal does.
 pub fn join(project: &mut [u8], length: usize, part: &[u8], work: &mut [u8]) -> Joined {
     // SAFETY: the three slices are valid for their lengths, the first and the last are lent to be written, and no two overlap.
     Joined::unpacked(unsafe {
@@ -201,10 +232,15 @@ pub fn join(project: &mut [u8], length: usize, part: &[u8], work: &mut [u8]) -> 
 
 #[cfg(test)]
 mod tests {
-    use super::{Answer, ACCEPTED, LAST_REFUSAL, NO_ROOM, SECOND_PLACE, SPENT, TAG_PLACE, TO_VALUE};
+    use super::{Answer, Joined, Which, ACCEPTED, LAST_REFUSAL, NO_ROOM, PROJECT, SECOND_PLACE, SPENT, TAG_PLACE, TO_VALUE};
 
     fn packed(second: u64, tag: u8, value: u32) -> u64 {
         second << SECOND_PLACE | u64::from(tag) << TAG_PLACE | u64::from(value)
+    }
+
+    /// What a join packs: the bytes stand above the book that is meant.
+    fn join(bytes: usize, which: u8, tag: u8, value: u32) -> u64 {
+        packed((bytes as u64) << 8 | u64::from(which), tag, value)
     }
 
     #[test]
@@ -225,6 +261,35 @@ mod tests {
         let seconds = [1, LAST_REFUSAL, ACCEPTED, TO_VALUE, SPENT, NO_ROOM].map(|tag| packed(1, tag, 7));
         for packed in tags.into_iter().chain(seconds).chain([u64::MAX]) {
             assert_eq!(Answer::unpacked(packed), Answer::Unknown { packed });
+        }
+    }
+
+    #[test]
+    fn every_book_that_a_join_means_is_unpacked() {
+        for (code, which) in [(1, Which::Project), (2, Which::Part), (3, Which::Joint)] {
+            for tag in 1..=LAST_REFUSAL {
+                let answer = Answer::Refused { number: tag, cell: 4_094 };
+                assert_eq!(Joined::unpacked(join(0, code, tag, 4_094)), Joined { which, answer, bytes: 0 });
+            }
+        }
+        for bytes in [1, 40, PROJECT] {
+            let accepted = Joined { which: Which::Joint, answer: Answer::Accepted { size: 4_095 }, bytes };
+            assert_eq!(Joined::unpacked(join(bytes, 3, ACCEPTED, 4_095)), accepted);
+        }
+    }
+
+    #[test]
+    fn what_no_join_says_is_unknown() {
+        let others = [0, 4, 255].map(|which| [join(0, which, 14, 7), join(40, which, ACCEPTED, 7)]);
+        let counted = [1, 2, 3].map(|which| [join(40, which, 14, 7), join(1, which, LAST_REFUSAL, 0)]);
+        let elsewhere = [1, 2].map(|which| [join(40, which, ACCEPTED, 7), join(0, which, ACCEPTED, 7)]);
+        let lengths = [[join(0, 3, ACCEPTED, 7), join(PROJECT + 8, 3, ACCEPTED, 7)]];
+        let runs = [TO_VALUE, SPENT, NO_ROOM].map(|tag| [join(40, 3, tag, 7), join(0, 3, tag, 7)]);
+        let tags = [0, NO_ROOM + 1, 255].map(|tag| [join(40, 3, tag, 7), join(0, 3, tag, 7)]);
+        let all = [&others[..], &counted, &elsewhere, &lengths, &runs, &tags, &[[0, u64::MAX]]];
+        for packed in all.into_iter().flatten().flatten().copied() {
+            let unknown = Joined { which: Which::Joint, answer: Answer::Unknown { packed }, bytes: 0 };
+            assert_eq!(Joined::unpacked(packed), unknown, "{packed:#x}");
         }
     }
 }

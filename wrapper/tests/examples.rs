@@ -1,8 +1,9 @@
 //! The desk program, and the example programs in C and in Rust, print the same lines. The lines that they are compared with are the evaluator's
-//! (`evaluator::desk`).
+//! (`evaluator::desk`); those of a join are the wrapper's.
 
 #![cfg(not(library_missing))]
 
+use cerealbank::{join, Answer, PROJECT, WORK};
 use std::ffi::OsStr;
 use std::path::{Path, PathBuf};
 use std::process::{Command, Output};
@@ -25,11 +26,11 @@ fn readme_line() -> String {
     compiling.to_string()
 }
 
-/// The C example, compiled by README's line and with no warning. The library is the one that the wrapper links, and the program is
-/// written where cargo keeps what tests write.
-fn in_c() -> PathBuf {
-    let program = Path::new(env!("CARGO_TARGET_TMPDIR")).join("book");
-    let line = readme_line();
+/// A C example, compiled as README's line compiles `book` and with no warning. The library is the one that the wrapper links, and the
+/// program is written where cargo keeps what tests write.
+fn in_c(example: &str) -> PathBuf {
+    let program = Path::new(env!("CARGO_TARGET_TMPDIR")).join(example);
+    let line = readme_line().replace("examples/book.c", &format!("examples/{example}.c"));
     let mut words: Vec<&OsStr> = line.split_whitespace().map(OsStr::new).collect();
     for (named, file) in [(LIBRARY, Path::new(env!("CEREALBANK_FILE"))), (PROGRAM, &program)] {
         *words.iter_mut().find(|word| **word == named).unwrap_or_else(|| panic!("{line} has no {named}")) = file.as_os_str();
@@ -41,35 +42,35 @@ fn in_c() -> PathBuf {
     program
 }
 
-/// The Rust example.
-fn in_rust() -> PathBuf {
+/// A Rust example.
+fn in_rust(example: &str) -> PathBuf {
     let test = env::current_exe().expect("this program");
     let folder = test.ancestors().nth(3).expect("cargo's folder");
     let mut cargo = Command::new(env!("CARGO"));
-    cargo.current_dir(REPOSITORY).args(["build", "--quiet", "--release", "--offline", "--locked", "--example", "book"]);
+    cargo.current_dir(REPOSITORY).args(["build", "--quiet", "--release", "--offline", "--locked", "--example", example]);
     cargo.args(["--manifest-path", "wrapper/Cargo.toml", "--target-dir"]).arg(folder);
     let status = cargo.status().expect("cargo");
     assert!(status.success(), "{cargo:?}: {status}");
-    folder.join("release/examples/book")
+    folder.join("release/examples").join(example)
 }
 
-/// What a program has written of a book.
-fn written(output: Output, program: &Path, book: &Path) -> String {
-    assert!(output.status.success(), "{} {}: {}", program.display(), book.display(), output.status);
+/// What a program has written of books.
+fn written(output: Output, program: &Path, books: &[&Path]) -> String {
+    assert!(output.status.success(), "{} {books:?}: {}", program.display(), output.status);
     String::from_utf8(output.stdout).expect("text")
 }
 
-/// What a program writes when it is given a book.
-fn printed(program: &Path, book: &Path) -> String {
-    let output = Command::new(program).arg(book).output().unwrap_or_else(|error| panic!("{}: {error}", program.display()));
-    written(output, program, book)
+/// What a program writes when it is given books.
+fn printed(program: &Path, books: &[&Path]) -> String {
+    let output = Command::new(program).args(books).output().unwrap_or_else(|error| panic!("{}: {error}", program.display()));
+    written(output, program, books)
 }
 
 /// What the desk program writes of the book on its standard input.
 fn on_the_desk(book: &Path) -> String {
     let program = Path::new(REPOSITORY).join(DESK);
     let output = Command::new(&program).stdin(fs::File::open(book).expect("a book")).output();
-    written(output.unwrap_or_else(|error| panic!("{DESK}, which `rt check desk` builds: {error}")), &program, book)
+    written(output.unwrap_or_else(|error| panic!("{DESK}, which `rt check desk` builds: {error}")), &program, &[book])
 }
 
 /// The books of a folder.
@@ -81,9 +82,9 @@ fn books_of(folder: &str) -> Vec<PathBuf> {
     books
 }
 
-/// The sample books, the refused ones and those in two orders, and two files that are too short and too long for a book.
+/// The sample books, the refused ones, those in two orders and those to join, and two files that are too short and too long for a book.
 fn books() -> Vec<PathBuf> {
-    let mut books = ["books", "books/refusals", "books/merging"].map(books_of).concat();
+    let mut books = ["books", "books/refusals", "books/merging", "books/joining"].map(books_of).concat();
     for length in [0, 100_000] {
         let file = Path::new(env!("CARGO_TARGET_TMPDIR")).join(format!("{length}.book"));
         fs::write(&file, vec![0; length]).expect("a file written");
@@ -94,12 +95,49 @@ fn books() -> Vec<PathBuf> {
 
 #[test]
 fn both_examples_print_the_lines_of_the_desk_program() {
-    for program in [in_c(), in_rust()] {
-        let hidden = printed(&program, &Path::new(REPOSITORY).join(BOOK));
+    for program in [in_c("book"), in_rust("book")] {
+        let hidden = printed(&program, &[&Path::new(REPOSITORY).join(BOOK)]);
         assert_eq!(hidden, "accepted 1\nvalue 4\n0 17 0 0 2 0\n");
         for book in books() {
             let expected = evaluator::desk(&fs::read(&book).expect("a book"));
-            assert!(printed(&program, &book) == expected, "{} {}", program.display(), book.display());
+            assert!(printed(&program, &[&book]) == expected, "{} {}", program.display(), book.display());
+        }
+    }
+}
+
+/// A join in the examples' lines.
+fn join_lines(project: &[u8], part: &[u8]) -> String {
+    let mut lent = project.to_vec();
+    lent.resize(PROJECT, 0);
+    let joined = join(&mut lent, project.len(), part, &mut vec![0; WORK]);
+    let which = format!("{:?}", joined.which).to_lowercase();
+    match joined.answer {
+        Answer::Refused { number, cell } => format!("{which} refused {number} {cell}\n"),
+        Answer::Accepted { size } => {
+            let cells = lent[..joined.bytes - 8].chunks(8).map(|cell| {
+                let field = |at: usize| u16::from_le_bytes([cell[at], cell[at + 1]]);
+                format!(" {} {} {} {} {}\n", cell[0], cell[1], field(2), field(4), field(6))
+            });
+            let cells: String = cells.enumerate().map(|(number, cell)| format!("{number}{cell}")).collect();
+            format!("{which} accepted {size}\nbytes {}\n{cells}", joined.bytes)
+        }
+        other => panic!("{other:?}"),
+    }
+}
+
+#[test]
+fn both_examples_join_as_the_wrapper_does() {
+    let at = |name: &str| Path::new(REPOSITORY).join(format!("books/{name}.book"));
+    let (office, site) = (at("joining/office"), at("joining/site"));
+    let both_ways = |book: PathBuf| [[office.clone(), book.clone()], [book, office.clone()]];
+    let pairs: Vec<[PathBuf; 2]> = books().into_iter().flat_map(both_ways).collect();
+    for program in [in_c("join"), in_rust("join")] {
+        let joined = printed(&program, &[&office, &site]);
+        assert_eq!(joined, "joint accepted 5\nbytes 48\n0 17 0 0 12 0\n1 24 1 0 0 0\n2 17 0 0 34 0\n3 24 2 2 0 0\n4 22 0 1 3 0\n");
+        assert_eq!(printed(&program, &[&office, &at("refusals/12")]), "part refused 12 2\n");
+        for [project, part] in &pairs {
+            let expected = join_lines(&fs::read(project).expect("a book"), &fs::read(part).expect("a book"));
+            assert!(printed(&program, &[project, part]) == expected, "{} {project:?} {part:?}", program.display());
         }
     }
 }

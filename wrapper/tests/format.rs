@@ -1,17 +1,20 @@
 //! What docs/FORMAT.md and books/README.md say of books is what the engine answers and leaves. A block of FORMAT.md that is marked `book` has a
-//! line a cell, in hexadecimal, and then each answer with the bytes that it leaves; what follows a `;` is for people.
+//! line a cell, in hexadecimal, and then each answer with the bytes that it leaves; what follows a `;` is for people. One that is marked `join` has
+//! a project and a part, and then the answer with the joint.
 
 #![cfg(not(library_missing))]
 
 mod pages;
 
-use cerealbank::{check, run, Answer, WORK};
+use cerealbank::{check, join, run, Answer, Joined, Which, PROJECT, WORK};
 use evaluator::{Cell, Field, Row, Sort, Version, CELL, TABLE};
 use pages::{answer, asked, at, books_in, cut, number, padded, quoted, text, LIMIT};
 use std::collections::BTreeSet;
 use std::fs;
 
-const REFUSALS: std::ops::RangeInclusive<u8> = 1..=15;
+/// The refusals; the last is of a join alone.
+const REFUSALS: std::ops::RangeInclusive<u8> = 1..=16;
+const OF_A_BOOK: std::ops::RangeInclusive<u8> = 1..=15;
 /// The limit of the desk program.
 const DESK_LIMIT: u32 = 10_000;
 
@@ -28,17 +31,25 @@ fn block(lines: &str) -> Block {
             block.answers.push((answer, Vec::new()));
             continue;
         }
-        let bytes = line.split_whitespace().map(|byte| {
+        let (times, row) = line.split_once(" × ").map_or((1, line), |(times, row)| (number(times), row));
+        let bytes = row.split_whitespace().map(|byte| {
             assert_eq!(byte.len(), 2, "{line}");
             u8::from_str_radix(byte, 16).unwrap_or_else(|_| panic!("{line}"))
         });
-        block.answers.last_mut().map_or(&mut block.book, |(_, left)| left).extend(bytes);
+        let bytes: Vec<u8> = bytes.collect();
+        block.answers.last_mut().map_or(&mut block.book, |(_, left)| left).extend(bytes.repeat(times));
     }
     block
 }
 
+/// The blocks of a text that are marked so.
+fn marked(mark: &str, text: &str) -> Vec<Block> {
+    let start = format!("```{mark}\n");
+    text.split(&start).skip(1).map(|text| block(text.split_once("```").expect("the end of the block").0)).collect()
+}
+
 fn blocks(text: &str) -> Vec<Block> {
-    text.split("```book\n").skip(1).map(|text| block(text.split_once("```").expect("the end of the block").0)).collect()
+    marked("book", text)
 }
 
 /// FORMAT.md before the refusals, and the section of each refusal with the number that it begins with.
@@ -66,7 +77,7 @@ fn every_refusal_has_its_section() {
 
 #[test]
 fn every_refused_book_is_refused_as_its_section_says() {
-    for (number, section) in format().1.into_iter().filter(|(number, _)| *number > 1) {
+    for (number, section) in format().1.into_iter().filter(|(number, _)| *number > 1 && OF_A_BOOK.contains(number)) {
         let [Block { book, answers }] = &blocks(&section)[..] else { panic!("{number} has no single book") };
         let [(answer @ Answer::Refused { number: shown, .. }, left)] = &answers[..] else { panic!("{number}: {answers:?}") };
         assert_eq!((number, &Vec::new()), (*shown, left));
@@ -79,7 +90,7 @@ fn every_refused_book_is_refused_as_its_section_says() {
 
 #[test]
 fn every_file_of_a_refused_book_has_a_section() {
-    assert_eq!(books_in("books/refusals"), REFUSALS.skip(1).map(|number| format!("{number:02}.book")).collect());
+    assert_eq!(books_in("books/refusals"), OF_A_BOOK.skip(1).map(|number| format!("{number:02}.book")).collect());
 }
 
 /// What an expression of Samples.antt stands for: lines of eight bytes, lists and named books, one behind the other.
@@ -114,7 +125,7 @@ fn the_refused_books_are_those_of_the_definitions() {
     let (_, list) = definitions.split_once("\nrefusals =\n").expect("the list of refusals");
     let samples = list.lines().map_while(|line| line.trim().trim_start_matches("∷ ").strip_prefix("sample "));
     let defined = samples.map(|sample| checked_sample(sample, &definitions));
-    let shown = REFUSALS.zip(format().1).skip(1).map(|(number, (_, section))| {
+    let shown = OF_A_BOOK.zip(format().1).skip(1).map(|(number, (_, section))| {
         let Block { book, answers } = blocks(&section).remove(0);
         assert!(matches!(answers[0].0, Answer::Refused { number: shown, .. } if shown == number), "{number}");
         (book, answers[0].0)
@@ -179,6 +190,50 @@ fn the_examples_are_answered_as_shown() {
         let ran = asked(|work| run(&book, work, LIMIT));
         assert_eq!([checked, ran].map(Some), [0, 1].map(|n| answers.get(n).map(|(answer, left)| (*answer, padded(left)))));
         assert_eq!(answers.len(), 2);
+    }
+}
+
+/// The joins of the page: the project up to its trailer, the part, and the answer with the joint.
+#[test]
+fn the_joins_are_answered_as_shown() {
+    let page = text("docs/FORMAT.md");
+    let joins = marked("join", &page);
+    assert_eq!(joins.len(), 2);
+    for Block { book, answers } in joins {
+        let [(answer, joint)] = &answers[..] else { panic!("{answers:?}") };
+        let (project, part) = book.split_at(cut(&book).len());
+        assert_eq!(cut(part), part);
+        let (mut lent, mut work) = (project.to_vec(), vec![9; WORK]);
+        lent.resize(PROJECT, 9);
+        let before = lent.clone();
+        let joined = join(&mut lent, project.len(), part, &mut work);
+        assert_eq!(joined, Joined { which: Which::Joint, answer: *answer, bytes: joint.len() });
+        match answer {
+            Answer::Accepted { .. } => {
+                assert!(lent[..joint.len()] == joint[..] && lent[joint.len()..].iter().all(|&byte| byte == 0))
+            }
+            _ => assert!(lent == before),
+        }
+        assert_eq!(asked(|work| check(&lent[..joined.bytes], work)).1, work);
+    }
+    assert!(matches!(marked("join", &format().1[15].1)[0].answers[0].0, Answer::Refused { number: 16, cell: 0 }));
+}
+
+/// The numbers of 64 bits that the page shows, taken apart.
+#[test]
+fn the_packed_answers_are_what_the_page_says() {
+    let (before, _) = format();
+    for (packed, words) in [
+        (0x0000_000E_0000_0002_u64, "0x0000000E00000002 is refused 14, cell 2"),
+        (0x0000_0021_0000_0004, "0x0000002100000004 is a value after 4 steps"),
+        (0x0000_030E_0000_0004, "0x0000030E00000004 is refused 14, cell 4 of the joint"),
+        (0x0028_0320_0000_0004, "0x0028032000000004 is accepted with a type of size 4 and a joint of 40 bytes"),
+    ] {
+        let page = before.split_whitespace().collect::<Vec<_>>().join(" ");
+        assert!(page.contains(words), "{words}");
+        let shown = [packed as u32 as u64, packed >> 32 & 255, packed >> 40 & 255, packed >> 48];
+        let numbers: Vec<u64> = words.split([' ', ',']).skip(1).filter_map(|word| word.parse().ok()).collect();
+        assert!(numbers.iter().all(|number| shown.contains(number)), "{words}: {shown:?}");
     }
 }
 

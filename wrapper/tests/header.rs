@@ -1,6 +1,6 @@
 //! The header, the wrapper's own declarations and the engine's exported functions say the same: names, parameters and results. The
-//! header and the wrapper have the same lengths, and the tags and places of the definition; docs/FORMAT.md has its tags. Nothing else compares
-//! them.
+//! header and the wrapper have the same lengths and the same numbers of a join's books, and the tags and places of the definition;
+//! docs/FORMAT.md has its tags. Nothing else compares them.
 
 use std::collections::BTreeMap;
 use std::fs;
@@ -131,17 +131,39 @@ fn the_header_and_the_wrapper_agree() {
 #[test]
 fn the_header_and_the_wrapper_have_the_same_lengths() {
     assert_eq!(constants()["WORK"], cerealbank::WORK);
+    assert_eq!(constants()["PROJECT"], cerealbank::PROJECT);
     assert_eq!(constants()["STACK"], cerealbank::STACK);
+}
+
+/// The numbers that are no tags: lengths, and the books of a join.
+fn is_tag(name: &str) -> bool {
+    !["WORK", "PROJECT", "STACK"].contains(&name) && !name.starts_with("OF_")
+}
+
+/// The wrapper's constants of one byte: tags, and the books of a join.
+fn in_wrapper() -> BTreeMap<String, usize> {
+    numbers(["const ", ": u8 = ", ";"], &read("src/lib.rs"))
+}
+
+#[test]
+fn the_header_and_the_wrapper_have_the_books_of_a_join() {
+    let of_join = |mut all: BTreeMap<String, usize>| {
+        all.retain(|name, _| name.starts_with("OF_"));
+        all
+    };
+    let books = [("OF_PROJECT", 1), ("OF_PART", 2), ("OF_JOINT", 3)].map(|(name, number)| (name.to_string(), number));
+    assert_eq!(of_join(constants()), BTreeMap::from(books));
+    assert_eq!(of_join(in_wrapper()), of_join(constants()));
 }
 
 #[test]
 fn the_header_and_the_wrapper_have_the_tags_of_the_definition() {
     let tags = defined_tags();
     assert_eq!(tags.len(), 5, "{tags:?}");
-    let mut in_header = constants();
-    in_header.retain(|name, _| name != "WORK" && name != "STACK");
-    assert_eq!(in_header, tags);
-    assert_eq!(numbers(["const ", ": u8 = ", ";"], &read("src/lib.rs")), tags);
+    for mut constants in [constants(), in_wrapper()] {
+        constants.retain(|name, _| is_tag(name));
+        assert_eq!(constants, tags);
+    }
 }
 
 #[test]
@@ -165,14 +187,22 @@ fn in_macro(name: &str, mark: &str) -> usize {
     after.split(|c: char| !c.is_ascii_digit()).next().and_then(|digits| digits.parse().ok()).expect("a number")
 }
 
+/// The lowest bits of what an answer is put together from, as powers of 2: of a join, the second figure is the book that is meant and the bytes
+/// above it.
 #[test]
 fn the_header_and_the_wrapper_have_the_places_of_the_definition() {
-    let places = numbers(["", "Place = ", ""], &definition());
-    let in_header = ["TAG", "SECOND"].map(|name| (name.to_lowercase(), 1 << in_macro(name, ">> ")));
-    assert_eq!(BTreeMap::from(in_header), places);
+    let in_header = ["TAG", "SECOND", "WHICH", "BYTES"].map(|name| (name.to_lowercase(), 1 << in_macro(name, ">> ")));
+    let in_header = BTreeMap::from(in_header);
     let in_wrapper = numbers(["const ", "_PLACE: u32 = ", ";"], &read("src/lib.rs")).into_iter();
-    assert_eq!(in_wrapper.map(|(name, bit)| (name.to_lowercase(), 1 << bit)).collect::<BTreeMap<_, _>>(), places);
-    assert_eq!(in_macro("TAG", "& ") + 1, places["second"] / places["tag"], "the mask");
+    assert_eq!(in_wrapper.map(|(name, bit)| (name.to_lowercase(), 1 << bit)).collect::<BTreeMap<_, _>>(), in_header);
+    let defined = numbers(["", "Place = ", ""], &definition());
+    assert!(["tag", "second"].iter().all(|place| defined.contains_key(*place)), "{defined:?}");
+    for (name, place) in &defined {
+        assert_eq!(in_header.get(name), Some(place), "{name}");
+    }
+    assert_eq!(in_macro("TAG", "& ") + 1, in_header["second"] / in_header["tag"], "the mask of the tag");
+    assert_eq!(in_header["which"], in_header["second"]);
+    assert_eq!(in_macro("WHICH", "& ") + 1, in_header["bytes"] / in_header["which"], "the mask of the book");
 }
 
 #[test]

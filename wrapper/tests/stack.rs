@@ -1,12 +1,12 @@
-//! The deepest and the widest books take no more stack than the wrapper and the header promise.
+//! The deepest and the widest books, checked, run and joined, take no more stack than the wrapper and the header promise.
 
 #![cfg(not(library_missing))]
 
-use cerealbank::{check, run, Answer, STACK, WORK};
+use cerealbank::{check, join, run, Answer, PROJECT, STACK, WORK};
 use compare::deepest::{deepest, Deep};
-use compare::extremes::extremes;
+use compare::extremes::{extremes, times};
 use compare::stack::{in_stack, taken};
-use evaluator::{on_large_stack, restamped};
+use evaluator::{encode_term, on_large_stack, restamped, Term, Type, Version};
 
 const LIMITS: [u32; 6] = [0, 1, 2, 3, 10, 10_000];
 /// Every book fits a thread with so much stack, of which the thread itself takes a little; so many that take most are run in one.
@@ -19,7 +19,20 @@ const AMPLE: usize = 16 << 20;
 fn books() -> Vec<Deep> {
     let others = extremes().into_iter().enumerate();
     let named = |(n, book): (usize, Vec<u8>)| Deep { group: "extremes", name: n.to_string(), book };
-    deepest().into_iter().chain(others.map(named)).collect()
+    deepest().into_iter().chain(others.map(named)).chain(halves()).collect()
+}
+
+/// Books that are joined to themselves with a joint of 4,095 cells, or as near as their form comes.
+fn halves() -> [Deep; 4] {
+    let function = |e: Term| Term::function(e, Type::top(), Type::int());
+    let terms = [
+        ("records", times(2_046, Term::number(1), |e| Term::record(7, e))),
+        ("merges to the right", times(1_023, Term::number(1), |e| Term::merge(Term::number(1), e))),
+        ("a function of field reads", function(times(2_043, Term::top(), |e| Term::projection(7, e)))),
+        ("a function of sums", function(times(1_021, Term::number(1), |e| Term::sum(e, Term::number(1))))),
+    ];
+    let book = |term: &Term| encode_term(term, Version::One);
+    terms.map(|(name, term)| Deep { group: "halves", name: name.to_string(), book: book(&term) })
 }
 
 /// The limits in turn, until the run has ended: with higher ones it is the same.
@@ -37,10 +50,25 @@ fn check_and_run(book: &[u8]) {
     }
 }
 
-#[test]
-fn every_book_runs_in_a_mebibyte_and_in_four_fifths_of_the_stack_promised() {
+/// The top value, which may stand beside every book, in version 2.
+const TOP_VALUE: [u8; 16] = [18, 0, 0, 0, 0, 0, 0, 0, 0xF0, 2, 1, 0, 0, 0, 0, 0];
+
+/// A book as the project, as the part, and as both.
+fn join_all_ways(book: &[u8]) {
+    let (mut project, mut work) = (vec![0; PROJECT], vec![0; WORK]);
+    for (one, part) in [(book, &TOP_VALUE[..]), (&TOP_VALUE, book), (book, book)] {
+        let held = one.len().min(PROJECT);
+        project[..held].copy_from_slice(&one[..held]);
+        let joined = join(&mut project, one.len(), part, &mut work);
+        assert!(matches!(joined.answer, Answer::Accepted { .. } | Answer::Refused { .. }), "{joined:?}");
+    }
+}
+
+/// Books are measured; none takes more than four fifths of what is promised, and those that take most do with a thread's mebibyte. As version 2
+/// they take no more than is allowed either.
+fn suffices(does: impl Fn(&[u8]) + Sync) {
     let books = on_large_stack(books);
-    let bytes = taken(AMPLE, &books, |deep| check_and_run(&deep.book));
+    let bytes = taken(AMPLE, &books, |deep| does(&deep.book));
     let mut all: Vec<(usize, &Deep)> = bytes.into_iter().zip(&books).collect();
     all.sort_by_key(|(bytes, _)| std::cmp::Reverse(*bytes));
     println!("{} bytes at most, of {} books", all[0].0, all.len());
@@ -49,9 +77,18 @@ fn every_book_runs_in_a_mebibyte_and_in_four_fifths_of_the_stack_promised() {
     let over: Vec<String> = over.map(|(bytes, deep)| format!("{bytes} bytes: {}, {}", deep.group, deep.name)).collect();
     assert!(over.is_empty(), "{} of {} books take more than {allowed}:\n{}", over.len(), all.len(), over.join("\n"));
     let most: Vec<&[u8]> = all.iter().take(MOST).map(|(_, deep)| &deep.book[..]).collect();
-    in_stack(THREAD, || most.iter().for_each(|book| check_and_run(book)));
-    // As version 2 they take no more than is allowed either.
+    in_stack(THREAD, || most.iter().for_each(|book| does(book)));
     let restamped: Vec<Vec<u8>> = most.iter().filter_map(|book| restamped(book)).collect();
-    let bytes = taken(AMPLE, &restamped, |book| check_and_run(book));
+    let bytes = taken(AMPLE, &restamped, |book| does(book));
     assert!(restamped.len() == MOST && bytes.iter().all(|bytes| *bytes <= allowed), "restamped: {:?}", bytes.iter().max());
+}
+
+#[test]
+fn every_book_runs_in_a_mebibyte_and_in_four_fifths_of_the_stack_promised() {
+    suffices(check_and_run);
+}
+
+#[test]
+fn every_book_is_joined_in_a_mebibyte_and_in_four_fifths_of_the_stack_promised() {
+    suffices(join_all_ways);
 }
