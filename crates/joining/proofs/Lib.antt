@@ -2,3 +2,5 @@ pub mod Judging
 pub mod Refusals
 pub mod Stages
 pub mod Meaning
+pub mod EitherWay
+pub mod Samples

@@ -51,6 +51,10 @@ pub record Joinable (p q : List ℕ) : Type 0 where
   pub small : suc (size (rootTerm p) + size (rootTerm q)) ≤ sizeLimit
   pub typed : (A : Ty) × Typed [] (merge (rootTerm p) (rootTerm q)) A
 
+-- Project and part may change places: what is joinable stays so. (The joint's bytes differ.)
+abbrev pub EitherWay : Type 0
+EitherWay = (p q : List ℕ) → Joinable p q ↔ Joinable q p
+
 -- "all that an accepted book is owed"
 pub record Owed (b : List ℕ) : Type 0 where
   pub bytes : IsBytes b

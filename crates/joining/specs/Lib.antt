@@ -2,3 +2,4 @@ pub mod Join
 pub mod Exported
 pub mod Joins
 pub mod Stages
+pub mod Samples
