@@ -165,6 +165,50 @@ fn the_samples_of_the_definitions_are_answered_as_they_say() {
     }
 }
 
+/// What a sample join expects: the answer, the joint and the type that is left, both none after a refusal.
+fn expected(shown: &str, definitions: &str) -> (Joined, Vec<u8>, Vec<u8>) {
+    let words: Vec<&str> =
+        shown.strip_prefix('(').and_then(|shown| shown.strip_suffix(')')).expect("brackets").split(' ').collect();
+    match words[..] {
+        ["joins", size, joint, of] => {
+            let (joint, of) = (bytes(joint, definitions), bytes(of, definitions));
+            let answer = Answer::Accepted { size: number(size) };
+            (Joined { which: Which::Joint, answer, bytes: joint.len() }, joint, of)
+        }
+        ["refuses", which, refusal, cell] => {
+            let which = match which {
+                "Project" => Which::Project,
+                "Part" => Which::Part,
+                _ => Which::Joint,
+            };
+            let answer = Answer::Refused { number: number(refusal), cell: number(cell) };
+            (Joined { which, answer, bytes: 0 }, Vec::new(), Vec::new())
+        }
+        _ => panic!("{shown}"),
+    }
+}
+
+#[test]
+fn the_sample_joins_of_the_definition_are_answered_as_they_say() {
+    let definitions = text("crates/joining/specs/Samples.antt");
+    let (_, lines) = definitions.split_once("\njoinSamples =\n").expect("the list");
+    let lines: Vec<&str> = lines.lines().map_while(|line| line.trim().trim_start_matches("∷ ").strip_prefix("sample ")).collect();
+    assert!(lines.len() > 10);
+    for line in lines {
+        let (_, books) = line.rsplit_once("\" ").expect("a name");
+        let (project, books) = books.split_once(' ').expect("a project");
+        let (part, shown) = books.split_once(' ').expect("a part");
+        let (project, part) = (bytes(project, &definitions), bytes(part, &definitions));
+        let (joined, joint, left) = expected(shown, &definitions);
+        let mut lent = project.clone();
+        lent.resize(PROJECT, 0xAA);
+        let mut after = if joined.bytes == 0 { lent.clone() } else { joint };
+        after.resize(PROJECT, 0);
+        assert_eq!(asked(|work| join(&mut lent, project.len(), &part, work)), (joined, padded(&left)), "{line}");
+        assert!(lent == after, "{line}");
+    }
+}
+
 #[test]
 fn refusal_1_is_of_another_length_and_touches_nothing() {
     let section = format().1.remove(0).1;

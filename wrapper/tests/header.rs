@@ -1,6 +1,6 @@
 //! The header, the wrapper's own declarations and the engine's exported functions say the same: names, parameters and results. The
-//! header and the wrapper have the same lengths and the same numbers of a join's books, and the tags and places of the definition;
-//! docs/FORMAT.md has its tags. Nothing else compares them.
+//! header and the wrapper have the same lengths, and the tags, the places and the numbers of a join's books of the definitions;
+//! docs/FORMAT.md has the tags. Nothing else compares them.
 
 use std::collections::BTreeMap;
 use std::fs;
@@ -102,6 +102,11 @@ fn definition() -> String {
     read("../crates/answers/specs/Exported.antt")
 }
 
+/// What a join adds to it.
+fn definition_of_joins() -> String {
+    read("../crates/joining/specs/Exported.antt")
+}
+
 /// The header's name for the tag of an answer.
 fn named(answer: &str) -> String {
     match answer {
@@ -146,13 +151,15 @@ fn in_wrapper() -> BTreeMap<String, usize> {
 }
 
 #[test]
-fn the_header_and_the_wrapper_have_the_books_of_a_join() {
+fn the_header_and_the_wrapper_have_the_books_of_the_definition() {
     let of_join = |mut all: BTreeMap<String, usize>| {
         all.retain(|name, _| name.starts_with("OF_"));
         all
     };
-    let books = [("OF_PROJECT", 1), ("OF_PART", 2), ("OF_JOINT", 3)].map(|(name, number)| (name.to_string(), number));
-    assert_eq!(of_join(constants()), BTreeMap::from(books));
+    let books = numbers(["whichNumber ", " = ", ""], &definition_of_joins());
+    assert_eq!(books.keys().collect::<Vec<_>>(), ["Joint", "Part", "Project"]);
+    let books = books.into_iter().map(|(book, number)| (format!("OF_{}", book.to_uppercase()), number));
+    assert_eq!(of_join(constants()), books.collect());
     assert_eq!(of_join(in_wrapper()), of_join(constants()));
 }
 
@@ -195,11 +202,8 @@ fn the_header_and_the_wrapper_have_the_places_of_the_definition() {
     let in_header = BTreeMap::from(in_header);
     let in_wrapper = numbers(["const ", "_PLACE: u32 = ", ";"], &read("src/lib.rs")).into_iter();
     assert_eq!(in_wrapper.map(|(name, bit)| (name.to_lowercase(), 1 << bit)).collect::<BTreeMap<_, _>>(), in_header);
-    let defined = numbers(["", "Place = ", ""], &definition());
-    assert!(["tag", "second"].iter().all(|place| defined.contains_key(*place)), "{defined:?}");
-    for (name, place) in &defined {
-        assert_eq!(in_header.get(name), Some(place), "{name}");
-    }
+    let defined = [definition(), definition_of_joins()].map(|text| numbers(["", "Place = ", ""], &text));
+    assert_eq!(defined.into_iter().flatten().collect::<BTreeMap<_, _>>(), in_header);
     assert_eq!(in_macro("TAG", "& ") + 1, in_header["second"] / in_header["tag"], "the mask of the tag");
     assert_eq!(in_header["which"], in_header["second"]);
     assert_eq!(in_macro("WHICH", "& ") + 1, in_header["bytes"] / in_header["which"], "the mask of the book");

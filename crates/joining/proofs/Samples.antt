@@ -20,6 +20,7 @@ use Rattle.joining.specs.Joins.{Lent}
 use Rattle.joining.specs.Samples.{JoinSample, expected, Meets, joinSamples}
 use Rattle.joining.specs.Samples.{office, one, otherOffice, minusFive, register, appliedOne, conflicting, aType, cutShort, drafts, notes, counter, doubled}
 use Rattle.joining.specs.Samples.{officeAndOne, officeTwice, minusFiveAndRegister, registerAndMinusFive, draftsAndNotes, officeAndCounter}
+use Rattle.joining.specs.Samples.{typeOfOfficeAndOne, typeOfOfficeTwice, typeOfMinusFiveAndRegister, typeOfRegisterAndMinusFive, typeOfDraftsAndNotes, typeOfOfficeAndCounter}
 use Rattle.joining.proofs.Stages.{is-lent}
 
 -- what a check answers, with any work buffer of 65,536 bytes
@@ -42,7 +43,7 @@ answered l s =
 
 -- the one computation
 computed : (l : List ℕ) → map (answered l) joinSamples ≡ map (λ (s : JoinSample). expected l (s .expects)) joinSamples
-unfolding computing mappedCells restamp together joint joinSamples office one otherOffice minusFive register appliedOne conflicting aType cutShort drafts notes counter doubled officeAndOne officeTwice minusFiveAndRegister registerAndMinusFive draftsAndNotes officeAndCounter
+unfolding computing mappedCells restamp together joint joinSamples office one otherOffice minusFive register appliedOne conflicting aType cutShort drafts notes counter doubled officeAndOne officeTwice minusFiveAndRegister registerAndMinusFive draftsAndNotes officeAndCounter typeOfOfficeAndOne typeOfOfficeTwice typeOfMinusFiveAndRegister typeOfRegisterAndMinusFive typeOfDraftsAndNotes typeOfOfficeAndCounter
 computed l = refl
 
 module _ (s : JoinSample) (l w : List ℕ) (long : length l ≡ lentLength) (begins : take (length (s .project)) l ≡ s .project) (k : IsWork w) where

@@ -40,47 +40,82 @@ Meets s = (l w : List ℕ) → length l ≡ lentLength → take (length (s .proj
 
 -- the record, label 1, of 7
 unfoldable pub office : List ℕ
-office = line 17 0 0 0 7 0 0 0 ++ line 24 1 0 0 0 0 0 0 ++ line 240 1 2 0 1 0 0 0
+office =
+    line 17 0 0 0 7 0 0 0
+    ++ line 24 1 0 0 0 0 0 0
+    ++ line 240 1 2 0 1 0 0 0
 
 -- the number 1
 unfoldable pub one : List ℕ
-one = line 17 0 0 0 1 0 0 0 ++ line 240 1 1 0 0 0 0 0
+one =
+    line 17 0 0 0 1 0 0 0
+    ++ line 240 1 1 0 0 0 0 0
 
 -- the record, label 1, of 2
 unfoldable pub otherOffice : List ℕ
-otherOffice = line 17 0 0 0 2 0 0 0 ++ line 24 1 0 0 0 0 0 0 ++ line 240 1 2 0 1 0 0 0
+otherOffice =
+    line 17 0 0 0 2 0 0 0
+    ++ line 24 1 0 0 0 0 0 0
+    ++ line 240 1 2 0 1 0 0 0
 
 -- -5, in version 1
 unfoldable pub minusFive : List ℕ
-minusFive = line 17 0 0 0 251 255 255 255 ++ line 240 1 1 0 0 0 0 0
+minusFive =
+    line 17 0 0 0 251 255 255 255
+    ++ line 240 1 1 0 0 0 0 0
 
 -- the record, label 2, of 2 to the 40th, in version 2
 unfoldable pub register : List ℕ
-register = line 17 0 0 0 0 0 0 1 ++ line 24 2 0 0 0 0 0 0 ++ line 240 2 2 0 1 0 0 0
+register =
+    line 17 0 0 0 0 0 0 1
+    ++ line 24 2 0 0 0 0 0 0
+    ++ line 240 2 2 0 1 0 0 0
 
 -- 1 applied to 1
 unfoldable pub appliedOne : List ℕ
-appliedOne = line 17 0 0 0 1 0 0 0 ++ line 17 0 0 0 1 0 0 0 ++ line 20 0 0 0 1 0 0 0 ++ line 240 1 3 0 2 0 0 0
+appliedOne =
+    line 17 0 0 0 1 0 0 0
+    ++ line 17 0 0 0 1 0 0 0
+    ++ line 20 0 0 0 1 0 0 0
+    ++ line 240 1 3 0 2 0 0 0
 
 -- 1 merged with 2
 unfoldable pub conflicting : List ℕ
-conflicting = line 17 0 0 0 1 0 0 0 ++ line 17 0 0 0 2 0 0 0 ++ line 22 0 0 0 1 0 0 0 ++ line 240 1 3 0 2 0 0 0
+conflicting =
+    line 17 0 0 0 1 0 0 0
+    ++ line 17 0 0 0 2 0 0 0
+    ++ line 22 0 0 0 1 0 0 0
+    ++ line 240 1 3 0 2 0 0 0
 
 -- Int: the root is a type
 unfoldable pub aType : List ℕ
-aType = line 1 0 0 0 0 0 0 0 ++ line 240 1 1 0 0 0 0 0
+aType =
+    line 1 0 0 0 0 0 0 0
+    ++ line 240 1 1 0 0 0 0 0
 
 -- a record that has no last byte
 unfoldable pub cutShort : List ℕ
-cutShort = line 17 0 0 0 7 0 0 0 ++ line 24 1 0 0 0 0 0 0 ++ (240 ∷ 1 ∷ 2 ∷ 0 ∷ 1 ∷ 0 ∷ 0 ∷ [])
+cutShort =
+    line 17 0 0 0 7 0 0 0
+    ++ line 24 1 0 0 0 0 0 0
+    ++ 240 ∷ 1 ∷ 2 ∷ 0 ∷ 1 ∷ 0 ∷ 0 ∷ []
 
 -- the record, label 4, of 1; the root does not reach a variable that skips 5 binders, and -1
 unfoldable pub drafts : List ℕ
-drafts = line 17 0 0 0 1 0 0 0 ++ line 16 0 5 0 0 0 0 0 ++ line 17 0 0 0 255 255 255 255 ++ line 24 4 0 0 0 0 0 0 ++ line 240 1 4 0 3 0 0 0
+drafts =
+    line 17 0 0 0 1 0 0 0
+    ++ line 16 0 5 0 0 0 0 0
+    ++ line 17 0 0 0 255 255 255 255
+    ++ line 24 4 0 0 0 0 0 0
+    ++ line 240 1 4 0 3 0 0 0
 
 -- the record, label 5, of 9, in version 2; the root does not reach a variable that skips 3
 unfoldable pub notes : List ℕ
-notes = line 17 0 9 0 0 0 0 0 ++ line 16 0 3 0 0 0 0 0 ++ line 24 5 0 0 0 0 0 0 ++ line 240 2 3 0 2 0 0 0
+notes =
+    line 17 0 9 0 0 0 0 0
+    ++ line 16 0 3 0 0 0 0 0
+    ++ line 24 5 0 0 0 0 0 0
+    ++ line 240 2 3 0 2 0 0 0
 
 -- A function from Int to Int: if its argument is 0, the argument and 1, else the argument. Each of its cells refers by every field that its kind has.
 unfoldable pub counter : List ℕ
@@ -172,22 +207,73 @@ officeAndCounter =
     ++ line 22 0 1 0 7 0 0 0
     ++ line 240 1 9 0 8 0 0 0
 
--- cells of the types left
-abbrev int : List ℕ
-int = line 1 0 0 0 0 0 0 0
+-- Int with label 1, and Int
+unfoldable pub typeOfOfficeAndOne : List ℕ
+typeOfOfficeAndOne =
+    line 1 0 0 0 0 0 0 0
+    ++ line 5 1 0 0 0 0 0 0
+    ++ line 1 0 0 0 0 0 0 0
+    ++ line 4 0 1 0 2 0 0 0
+    ++ line 240 1 4 0 3 0 0 0
 
-abbrev labelled : ℕ → ℕ → List ℕ
-labelled l i = line 5 l i 0 0 0 0 0
+-- Int with label 1, twice
+unfoldable pub typeOfOfficeTwice : List ℕ
+typeOfOfficeTwice =
+    line 1 0 0 0 0 0 0 0
+    ++ line 5 1 0 0 0 0 0 0
+    ++ line 1 0 0 0 0 0 0 0
+    ++ line 5 1 2 0 0 0 0 0
+    ++ line 4 0 1 0 3 0 0 0
+    ++ line 240 1 5 0 4 0 0 0
 
+-- Int, and Int with label 2, in version 2
+unfoldable pub typeOfMinusFiveAndRegister : List ℕ
+typeOfMinusFiveAndRegister =
+    line 1 0 0 0 0 0 0 0
+    ++ line 1 0 0 0 0 0 0 0
+    ++ line 5 2 1 0 0 0 0 0
+    ++ line 4 0 0 0 2 0 0 0
+    ++ line 240 2 4 0 3 0 0 0
+
+-- Int with label 2, and Int, in version 2
+unfoldable pub typeOfRegisterAndMinusFive : List ℕ
+typeOfRegisterAndMinusFive =
+    line 1 0 0 0 0 0 0 0
+    ++ line 5 2 0 0 0 0 0 0
+    ++ line 1 0 0 0 0 0 0 0
+    ++ line 4 0 1 0 2 0 0 0
+    ++ line 240 2 4 0 3 0 0 0
+
+-- Int with label 4, and with label 5, in version 2
+unfoldable pub typeOfDraftsAndNotes : List ℕ
+typeOfDraftsAndNotes =
+    line 1 0 0 0 0 0 0 0
+    ++ line 5 4 0 0 0 0 0 0
+    ++ line 1 0 0 0 0 0 0 0
+    ++ line 5 5 2 0 0 0 0 0
+    ++ line 4 0 1 0 3 0 0 0
+    ++ line 240 2 5 0 4 0 0 0
+
+-- Int with label 1, and a function from Int to Int
+unfoldable pub typeOfOfficeAndCounter : List ℕ
+typeOfOfficeAndCounter =
+    line 1 0 0 0 0 0 0 0
+    ++ line 5 1 0 0 0 0 0 0
+    ++ line 1 0 0 0 0 0 0 0
+    ++ line 1 0 0 0 0 0 0 0
+    ++ line 3 0 2 0 3 0 0 0
+    ++ line 4 0 1 0 4 0 0 0
+    ++ line 240 1 6 0 5 0 0 0
+
+-- The type that is left, of the joint's version, stands behind the joint.
 unfoldable pub joinSamples : List JoinSample
 joinSamples =
-    sample "a record and a number" office one (joins 4 officeAndOne (int ++ labelled 1 0 ++ int ++ line 4 0 1 0 2 0 0 0 ++ line 240 1 4 0 3 0 0 0))
-    ∷ sample "a record and itself" office office (joins 5 officeTwice (int ++ labelled 1 0 ++ int ++ labelled 1 2 ++ line 4 0 1 0 3 0 0 0 ++ line 240 1 5 0 4 0 0 0))
-    ∷ sample "version 1, then 2" minusFive register (joins 4 minusFiveAndRegister (int ++ int ++ labelled 2 1 ++ line 4 0 0 0 2 0 0 0 ++ line 240 2 4 0 3 0 0 0))
-    ∷ sample "version 2, then 1" register minusFive (joins 4 registerAndMinusFive (int ++ labelled 2 0 ++ int ++ line 4 0 1 0 2 0 0 0 ++ line 240 2 4 0 3 0 0 0))
-    ∷ sample "cells that no root reaches" drafts notes (joins 5 draftsAndNotes (int ++ labelled 4 0 ++ int ++ labelled 5 2 ++ line 4 0 1 0 3 0 0 0 ++ line 240 2 5 0 4 0 0 0))
-    ∷ sample "references by every field" office counter
-    (joins 6 officeAndCounter (int ++ labelled 1 0 ++ int ++ int ++ line 3 0 2 0 3 0 0 0 ++ line 4 0 1 0 4 0 0 0 ++ line 240 1 6 0 5 0 0 0))
+    sample "a record and a number" office one (joins 4 officeAndOne typeOfOfficeAndOne)
+    ∷ sample "a record and itself" office office (joins 5 officeTwice typeOfOfficeTwice)
+    ∷ sample "version 1, then 2" minusFive register (joins 4 minusFiveAndRegister typeOfMinusFiveAndRegister)
+    ∷ sample "version 2, then 1" register minusFive (joins 4 registerAndMinusFive typeOfRegisterAndMinusFive)
+    ∷ sample "cells that no root reaches" drafts notes (joins 5 draftsAndNotes typeOfDraftsAndNotes)
+    ∷ sample "references by every field" office counter (joins 6 officeAndCounter typeOfOfficeAndCounter)
     ∷ sample "the project is checked before the part" conflicting appliedOne (refuses Project 14 2)
     ∷ sample "a part that is refused" office appliedOne (refuses Part 12 2)
     ∷ sample "a part that is a type" office aType (refuses Part 9 0)

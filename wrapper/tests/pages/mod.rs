@@ -41,7 +41,7 @@ pub fn answer(words: &str) -> Option<Answer> {
 }
 
 /// The answer, and the work buffer after it.
-pub fn asked(call: impl FnOnce(&mut [u8]) -> Answer) -> (Answer, Vec<u8>) {
+pub fn asked<T>(call: impl FnOnce(&mut [u8]) -> T) -> (T, Vec<u8>) {
     let mut work = vec![9; WORK];
     (call(&mut work), work)
 }
