@@ -17,11 +17,14 @@ use std::time::Instant;
 type Side = fn(&mut [u8], usize, &[u8], &mut [u8]) -> usize;
 
 /// The sides, the engine first; another is one more row, and gets its two columns.
-const SIDES: [(&str, Side); 1] = [("engine", |project, length, part, work| {
-    let joined = join(project, length, part, work);
-    assert!(matches!(joined.answer, Answer::Accepted { .. }), "{joined:?}");
-    joined.bytes
-})];
+const SIDES: [(&str, Side); 2] = [
+    ("engine", |project, length, part, work| {
+        let joined = join(project, length, part, work);
+        assert!(matches!(joined.answer, Answer::Accepted { .. }), "{joined:?}");
+        joined.bytes
+    }),
+    ("evaluator", |project, length, part, work| evaluator::join(project, length, part, work).bytes),
+];
 
 /// A project and a part.
 type Pair = (String, [Vec<u8>; 2]);
