@@ -10,7 +10,10 @@ join-requires c κs = search needs
 
 pack-join-requires : tie.Need-pack-join-requires
 pack-join-requires c κs =
-    join-fits (c .before .before .before .before .join .ensures) (join-result-fits _ _ _ _ (λ i. c .before .before .before .before .before .before .before .before .before .slice-known .given i .fits) (λ i. c .before .before .before .before .before .before .before .before .shared-slice-known .given i .fits))
+    let join = c .before .before .before .before .join in
+    let slice-known = c .before .before .before .before .before .before .before .before .before .slice-known in
+    let shared-slice-known = c .before .before .before .before .before .before .before .before .shared-slice-known in
+    join-fits (join .ensures) (join-result-fits _ _ _ _ (λ i. slice-known .given i .fits) (λ i. shared-slice-known .given i .fits))
 
 same-length : tie.Need-same-length
 same-length c = search needs
@@ -20,7 +23,10 @@ same-length-2 c = search needs
 
 returns : tie.Need-returns
 returns c =
-    packs-join (c .before .before .before .before .before .join .ensures) (join-result-fits _ _ _ _ (λ i. c .before .before .before .before .before .before .before .before .before .before .slice-known .given i .fits) (λ i. c .before .before .before .before .before .before .before .before .before .shared-slice-known .given i .fits)) (c .pack-join .ensures)
+    let join = c .before .before .before .before .before .join in
+    let slice-known = c .before .before .before .before .before .before .before .before .before .before .slice-known in
+    let shared-slice-known = c .before .before .before .before .before .before .before .before .before .shared-slice-known in
+    packs-join (join .ensures) (join-result-fits _ _ _ _ (λ i. slice-known .given i .fits) (λ i. shared-slice-known .given i .fits)) (c .pack-join .ensures)
 
 pub cerealbank-join-spec : {M : Type 1} → statement M
 cerealbank-join-spec =

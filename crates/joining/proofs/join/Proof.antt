@@ -20,7 +20,11 @@ slice-aggregate-copy c = search needs
 
 copy-requires : tie.Need-copy-requires
 copy-requires c κs =
-    record { from = omega arith; to = omega (arith, lent-long _ _ _ _ (c .before .before .before .before .before .before .before .judge .ensures .says) (λ i. c .before .before .before .before .before .before .before .before .before .before .before .before .before .slice-known .given i .fits) (λ i. c .before .before .before .before .before .before .before .before .before .before .before .before .shared-slice-known .given i .fits) (c .before .before .if1 .taken)) }
+    let judge = c .before .before .before .before .before .before .before .judge in
+    let slice-known = c .before .before .before .before .before .before .before .before .before .before .before .before .before .slice-known in
+    let shared-slice-known = c .before .before .before .before .before .before .before .before .before .before .before .before .shared-slice-known in
+    let if1 = c .before .before .if1 in
+    record { from = omega arith; to = omega (arith, lent-long _ _ _ _ (judge .ensures .says) (λ i. slice-known .given i .fits) (λ i. shared-slice-known .given i .fits) (if1 .taken)) }
 
 same-length : tie.Need-same-length
 same-length c = search needs
@@ -30,7 +34,12 @@ same-length-2 c = search needs
 
 returns : tie.Need-returns
 returns c =
-    joins _ _ _ _ (c .before .before .before .before .before .before .before .before .before .before .judge .ensures .says) (λ i. c .before .before .before .before .before .before .before .before .before .before .before .before .before .before .before .before .slice-known .given i .fits) (λ i. c .before .before .before .before .before .before .before .before .before .before .before .before .before .before .before .shared-slice-known .given i .fits) (copied-lent _ _ _ _ (c .before .before .before .before .before .before .before .before .before .before .judge .ensures .says) (λ i. c .before .before .before .before .before .before .before .before .before .before .before .before .before .before .before .before .slice-known .given i .fits) (λ i. c .before .before .before .before .before .before .before .before .before .before .before .before .before .before .before .shared-slice-known .given i .fits) (c .before .before .before .before .before .if1 .taken) (omega arith) (c .before .before .copy .ensures))
+    let judge = c .before .before .before .before .before .before .before .before .before .before .judge in
+    let slice-known = c .before .before .before .before .before .before .before .before .before .before .before .before .before .before .before .before .slice-known in
+    let shared-slice-known = c .before .before .before .before .before .before .before .before .before .before .before .before .before .before .before .shared-slice-known in
+    let if1 = c .before .before .before .before .before .if1 in
+    let copy = c .before .before .copy in
+    joins _ _ _ _ (judge .ensures .says) (λ i. slice-known .given i .fits) (λ i. shared-slice-known .given i .fits) (copied-lent _ _ _ _ (judge .ensures .says) (λ i. slice-known .given i .fits) (λ i. shared-slice-known .given i .fits) (if1 .taken) (omega arith) (copy .ensures))
 
 same-length-3 : tie.Need-same-length-3
 same-length-3 c = search needs
@@ -40,7 +49,10 @@ same-length-4 c = search needs
 
 returns-2 : tie.Need-returns-2
 returns-2 c =
-    joins _ _ _ _ (c .before .before .before .before .before .judge .ensures .says) (λ i. c .before .before .before .before .before .before .before .before .before .before .before .slice-known .given i .fits) (λ i. c .before .before .before .before .before .before .before .before .before .before .shared-slice-known .given i .fits) (c .before .before .before .before .before .judge .ensures .says .stays (omega (arith, c .if1 .left)))
+    let judge = c .before .before .before .before .before .judge in
+    let slice-known = c .before .before .before .before .before .before .before .before .before .before .before .slice-known in
+    let shared-slice-known = c .before .before .before .before .before .before .before .before .before .before .shared-slice-known in
+    joins _ _ _ _ (judge .ensures .says) (λ i. slice-known .given i .fits) (λ i. shared-slice-known .given i .fits) (judge .ensures .says .stays (omega (arith, c .if1 .left)))
 
 pub join-spec : {M : Type 1} → statement M
 join-spec =

@@ -32,7 +32,11 @@ same-length-2 c = search needs
 
 returns-3 : tie.Need-returns-3
 returns-3 c =
-    told-more _ _ _ _ (c .before .before .before .before .before .before .if1 .left) (c .before .before .before .before .before .if2 .left) (c .before .before .before .before .if3 .taken) (c .before .before .turn-away2 .ensures)
+    let if1 = c .before .before .before .before .before .before .if1 in
+    let if2 = c .before .before .before .before .before .if2 in
+    let if3 = c .before .before .before .before .if3 in
+    let turn-away2 = c .before .before .turn-away2 in
+    told-more _ _ _ _ (if1 .left) (if2 .left) (if3 .taken) (turn-away2 .ensures)
 
 slice-aggregate-judge-project : tie.Need-slice-aggregate-judge-project
 slice-aggregate-judge-project c =
@@ -49,7 +53,11 @@ same-length-4 c = search needs
 
 returns-4 : tie.Need-returns-4
 returns-4 c =
-    lengths-judged _ _ _ _ (c .before .before .before .before .before .before .before .before .before .before .if1 .left) (c .before .before .before .before .before .before .before .before .before .if2 .left) (c .before .before .before .before .before .before .before .before .if3 .left) (c .before .before .before .before .judge-project .ensures)
+    let if1 = c .before .before .before .before .before .before .before .before .before .before .if1 in
+    let if2 = c .before .before .before .before .before .before .before .before .before .if2 in
+    let if3 = c .before .before .before .before .before .before .before .before .if3 in
+    let judge-project = c .before .before .before .before .judge-project in
+    lengths-judged _ _ _ _ (if1 .left) (if2 .left) (if3 .left) (judge-project .ensures)
 
 pub judge-spec : {M : Type 1} → statement M
 judge-spec =

@@ -27,19 +27,36 @@ same-length c = search needs
 
 returns : tie.Need-returns
 returns c =
-    full-judged (c .before .before .before .before .before .before .before .before .before .pre) (omega (arith, c .before .before .before .before .if1 .taken)) (c .before .before .turn-away .ensures)
+    let pre = c .before .before .before .before .before .before .before .before .before .pre in
+    let if1 = c .before .before .before .before .if1 in
+    let turn-away = c .before .before .turn-away in
+    full-judged (pre) (omega (arith, if1 .taken)) (turn-away .ensures)
 
 write-joint-requires : tie.Need-write-joint-requires
 write-joint-requires c κs =
-    write-ready (λ j. c .before .before .before .before .before .shared-slice-known .given j .fits) (λ j. c .before .before .before .before .shared-slice-known2 .given j .fits) (c .before .before .before .before .before .before .pre) (omega (arith, c .before .if1 .left))
+    let shared-slice-known = c .before .before .before .before .before .shared-slice-known in
+    let shared-slice-known2 = c .before .before .before .before .shared-slice-known2 in
+    let pre = c .before .before .before .before .before .before .pre in
+    let if1 = c .before .if1 in
+    write-ready (λ j. shared-slice-known .given j .fits) (λ j. shared-slice-known2 .given j .fits) (pre) (omega (arith, if1 .left))
 
 slice-reshare-prefix-judge-book : tie.Need-slice-reshare-prefix-judge-book
 slice-reshare-prefix-judge-book c =
-    prefix-fits (λ j. c .before .before .before .before .before .before .before .before .shared-slice-known .given j .fits) (λ j. c .before .before .before .before .before .before .before .shared-slice-known2 .given j .fits) (c .before .before .before .before .before .before .before .before .before .pre) (omega (arith, c .before .before .before .before .if1 .left)) (c .before .before .write-joint .ensures)
+    let shared-slice-known = c .before .before .before .before .before .before .before .before .shared-slice-known in
+    let shared-slice-known2 = c .before .before .before .before .before .before .before .shared-slice-known2 in
+    let pre = c .before .before .before .before .before .before .before .before .before .pre in
+    let if1 = c .before .before .before .before .if1 in
+    let write-joint = c .before .before .write-joint in
+    prefix-fits (λ j. shared-slice-known .given j .fits) (λ j. shared-slice-known2 .given j .fits) (pre) (omega (arith, if1 .left)) (write-joint .ensures)
 
 slice-aggregate-judge-book : tie.Need-slice-aggregate-judge-book
 slice-aggregate-judge-book c =
-    sym (length-take-le _ _ (prefix-fits (λ j. c .before .before .before .before .before .before .before .before .before .shared-slice-known .given j .fits) (λ j. c .before .before .before .before .before .before .before .before .shared-slice-known2 .given j .fits) (c .before .before .before .before .before .before .before .before .before .before .pre) (omega (arith, c .before .before .before .before .before .if1 .left)) (c .before .before .before .write-joint .ensures)))
+    let shared-slice-known = c .before .before .before .before .before .before .before .before .before .shared-slice-known in
+    let shared-slice-known2 = c .before .before .before .before .before .before .before .before .shared-slice-known2 in
+    let pre = c .before .before .before .before .before .before .before .before .before .before .pre in
+    let if1 = c .before .before .before .before .before .if1 in
+    let write-joint = c .before .before .before .write-joint in
+    sym (length-take-le _ _ (prefix-fits (λ j. shared-slice-known .given j .fits) (λ j. shared-slice-known2 .given j .fits) (pre) (omega (arith, if1 .left)) (write-joint .ensures)))
 
 judge-book-requires : tie.Need-judge-book-requires
 judge-book-requires c κs = search needs
@@ -61,7 +78,14 @@ same-length-3 c = search needs
 
 returns-2 : tie.Need-returns-2
 returns-2 c =
-    joint-refused (λ j. c .before .before .before .before .before .before .before .before .before .before .before .before .before .before .before .before .before .shared-slice-known .given j .fits) (λ j. c .before .before .before .before .before .before .before .before .before .before .before .before .before .before .before .before .shared-slice-known2 .given j .fits) (c .before .before .before .before .before .before .before .before .before .before .before .before .before .before .before .before .before .before .pre) (omega (arith, c .before .before .before .before .before .before .before .before .before .before .before .before .before .if1 .left)) (c .before .before .before .before .before .before .before .before .before .before .before .write-joint .ensures) (c .before .before .before .before .before .before .judge-book .ensures) (c .before .before .refusal .given .1) (c .refused .ensures)
+    let shared-slice-known = c .before .before .before .before .before .before .before .before .before .before .before .before .before .before .before .before .before .shared-slice-known in
+    let shared-slice-known2 = c .before .before .before .before .before .before .before .before .before .before .before .before .before .before .before .before .shared-slice-known2 in
+    let pre = c .before .before .before .before .before .before .before .before .before .before .before .before .before .before .before .before .before .before .pre in
+    let if1 = c .before .before .before .before .before .before .before .before .before .before .before .before .before .if1 in
+    let write-joint = c .before .before .before .before .before .before .before .before .before .before .before .write-joint in
+    let judge-book = c .before .before .before .before .before .before .judge-book in
+    let refusal = c .before .before .refusal in
+    joint-refused (λ j. shared-slice-known .given j .fits) (λ j. shared-slice-known2 .given j .fits) (pre) (omega (arith, if1 .left)) (write-joint .ensures) (judge-book .ensures) (refusal .given .1) (c .refused .ensures)
 
 same-length-4 : tie.Need-same-length-4
 same-length-4 c = search needs
@@ -71,7 +95,14 @@ same-length-5 c = search needs
 
 returns-3 : tie.Need-returns-3
 returns-3 c =
-    joint-accepted (λ j. c .before .before .before .before .before .before .before .before .before .before .before .before .before .before .before .before .shared-slice-known .given j .fits) (λ j. c .before .before .before .before .before .before .before .before .before .before .before .before .before .before .before .shared-slice-known2 .given j .fits) (c .before .before .before .before .before .before .before .before .before .before .before .before .before .before .before .before .before .pre) (omega (arith, c .before .before .before .before .before .before .before .before .before .before .before .before .if1 .left)) (c .before .before .before .before .before .before .before .before .before .before .write-joint .ensures) (c .before .before .before .before .before .judge-book .ensures) (c .before .size .given .1)
+    let shared-slice-known = c .before .before .before .before .before .before .before .before .before .before .before .before .before .before .before .before .shared-slice-known in
+    let shared-slice-known2 = c .before .before .before .before .before .before .before .before .before .before .before .before .before .before .before .shared-slice-known2 in
+    let pre = c .before .before .before .before .before .before .before .before .before .before .before .before .before .before .before .before .before .pre in
+    let if1 = c .before .before .before .before .before .before .before .before .before .before .before .before .if1 in
+    let write-joint = c .before .before .before .before .before .before .before .before .before .before .write-joint in
+    let judge-book = c .before .before .before .before .before .judge-book in
+    let size = c .before .size in
+    joint-accepted (λ j. shared-slice-known .given j .fits) (λ j. shared-slice-known2 .given j .fits) (pre) (omega (arith, if1 .left)) (write-joint .ensures) (judge-book .ensures) (size .given .1)
 
 pub judge-joint-spec : {M : Type 1} → statement M
 judge-joint-spec =

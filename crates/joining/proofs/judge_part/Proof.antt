@@ -18,7 +18,12 @@ enum-told c = search needs
 
 judge-joint-requires : tie.Need-judge-joint-requires
 judge-joint-requires c κs =
-    joint-judgeable (c .before .before .before .before .before .before .before .before .before .before .before .before .pre) (λ j. c .before .before .before .before .before .before .before .before .before .before .shared-slice-known2 .given j .fits) (c .before .before .before .before .before .before .judge-book .ensures) (c .before .before .enum-told .given .1) (c .before .before .before .before .before .work .given)
+    let pre = c .before .before .before .before .before .before .before .before .before .before .before .before .pre in
+    let shared-slice-known2 = c .before .before .before .before .before .before .before .before .before .before .shared-slice-known2 in
+    let judge-book = c .before .before .before .before .before .before .judge-book in
+    let enum-told = c .before .before .enum-told in
+    let work = c .before .before .before .before .before .work in
+    joint-judgeable (pre) (λ j. shared-slice-known2 .given j .fits) (judge-book .ensures) (enum-told .given .1) (work .given)
 
 same-length : tie.Need-same-length
 same-length c = search needs
@@ -35,7 +40,12 @@ same-length-3 c = search needs
 
 returns-2 : tie.Need-returns-2
 returns-2 c =
-    part-judged _ _ _ _ (c .before .before .before .before .before .before .before .before .before .before .before .before .before .before .before .before .before .pre .before .work) (c .before .before .before .before .before .before .before .before .before .before .work .given) (c .before .before .before .before .before .before .before .before .before .before .before .judge-book .ensures) (c .before .before .before .before .before .before .before .enum-told .given .1) (c .before .before .before .before .judge-joint .ensures)
+    let pre = c .before .before .before .before .before .before .before .before .before .before .before .before .before .before .before .before .before .pre in
+    let work = c .before .before .before .before .before .before .before .before .before .before .work in
+    let judge-book = c .before .before .before .before .before .before .before .before .before .before .before .judge-book in
+    let enum-told = c .before .before .before .before .before .before .before .enum-told in
+    let judge-joint = c .before .before .before .before .judge-joint in
+    part-judged _ _ _ _ (pre .before .work) (work .given) (judge-book .ensures) (enum-told .given .1) (judge-joint .ensures)
 
 pub judge-part-spec : {M : Type 1} → statement M
 judge-part-spec =

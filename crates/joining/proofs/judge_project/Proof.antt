@@ -18,7 +18,12 @@ enum-told c = search needs
 
 judge-part-requires : tie.Need-judge-part-requires
 judge-part-requires c κs =
-    part-judgeable (c .before .before .before .before .before .before .before .before .before .before .before .before .pre) (λ j. c .before .before .before .before .before .before .before .before .before .before .before .shared-slice-known .given j .fits) (c .before .before .before .before .before .before .judge-book .ensures) (c .before .before .enum-told .given .1) (c .before .before .before .before .before .work .given)
+    let pre = c .before .before .before .before .before .before .before .before .before .before .before .before .pre in
+    let shared-slice-known = c .before .before .before .before .before .before .before .before .before .before .before .shared-slice-known in
+    let judge-book = c .before .before .before .before .before .before .judge-book in
+    let enum-told = c .before .before .enum-told in
+    let work = c .before .before .before .before .before .work in
+    part-judgeable (pre) (λ j. shared-slice-known .given j .fits) (judge-book .ensures) (enum-told .given .1) (work .given)
 
 same-length : tie.Need-same-length
 same-length c = search needs
@@ -35,7 +40,12 @@ same-length-3 c = search needs
 
 returns-2 : tie.Need-returns-2
 returns-2 c =
-    project-judged _ _ _ _ (c .before .before .before .before .before .before .before .before .before .before .before .before .before .before .before .before .before .pre .work) (c .before .before .before .before .before .before .before .before .before .before .work .given) (c .before .before .before .before .before .before .before .before .before .before .before .judge-book .ensures) (c .before .before .before .before .before .before .before .enum-told .given .1) (c .before .before .before .before .judge-part .ensures)
+    let pre = c .before .before .before .before .before .before .before .before .before .before .before .before .before .before .before .before .before .pre in
+    let work = c .before .before .before .before .before .before .before .before .before .before .work in
+    let judge-book = c .before .before .before .before .before .before .before .before .before .before .before .judge-book in
+    let enum-told = c .before .before .before .before .before .before .before .enum-told in
+    let judge-part = c .before .before .before .before .judge-part in
+    project-judged _ _ _ _ (pre .work) (work .given) (judge-book .ensures) (enum-told .given .1) (judge-part .ensures)
 
 pub judge-project-spec : {M : Type 1} → statement M
 judge-project-spec =

@@ -16,8 +16,13 @@ add-write-cell c = search needs
 
 raised-requires : tie.Need-raised-requires
 raised-requires c κs =
-    let at = c .before .before .before .before .before .args in
-    carry-ready (λ j. c .before .before .before .before .shared-slice-known .given j .fits) (c .before .before .before .before .before .pre) (at .version) (at .own) (rw (c .before .before .read-cell .ensures) at (c .before .in-version .ensures))
+    let args = c .before .before .before .before .before .args in
+    let shared-slice-known = c .before .before .before .before .shared-slice-known in
+    let pre = c .before .before .before .before .before .pre in
+    let read-cell = c .before .before .read-cell in
+    let in-version = c .before .in-version in
+    let at = args in
+    carry-ready (λ j. shared-slice-known .given j .fits) (pre) (at .version) (at .own) (rw (read-cell .ensures) at (in-version .ensures))
 
 write-cell-requires : tie.Need-write-cell-requires
 write-cell-requires c κs =
@@ -28,7 +33,11 @@ same-length c = search needs
 
 returns : tie.Need-returns
 returns c =
-    carries-cell (c .before .before .before .before .before .before .read-cell .ensures) (c .before .before .before .before .before .in-version .ensures) (c .before .before .before .raised .ensures .0) (c .before .before .write-cell .ensures)
+    let read-cell = c .before .before .before .before .before .before .read-cell in
+    let in-version = c .before .before .before .before .before .in-version in
+    let raised = c .before .before .before .raised in
+    let write-cell = c .before .before .write-cell in
+    carries-cell (read-cell .ensures) (in-version .ensures) (raised .ensures .0) (write-cell .ensures)
 
 pub carry-cell-spec : {M : Type 1} → statement M
 carry-cell-spec =

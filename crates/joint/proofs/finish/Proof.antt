@@ -24,7 +24,10 @@ same-length c = search needs
 
 returns : tie.Need-returns
 returns c =
-    finished (c .before .before .before .before .before .before .before .write-cell .ensures) (c .before .before .before .version-byte .ensures) (c .before .before .write-cell2 .ensures)
+    let write-cell = c .before .before .before .before .before .before .before .write-cell in
+    let version-byte = c .before .before .before .version-byte in
+    let write-cell2 = c .before .before .write-cell2 in
+    finished (write-cell .ensures) (version-byte .ensures) (write-cell2 .ensures)
 
 pub finish-spec : {M : Type 1} → statement M
 finish-spec =

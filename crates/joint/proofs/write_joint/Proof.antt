@@ -41,11 +41,18 @@ higher-requires c κs = search needs
 
 carry-requires : tie.Need-carry-requires
 carry-requires c κs =
-    first-ready (λ j. c .before .before .before .before .before .before .before .before .shared-slice-known .given j .fits) (λ j. c .before .before .before .before .before .before .before .shared-slice-known2 .given j .fits) (c .before .before .before .before .before .before .before .before .before .pre)
+    let shared-slice-known = c .before .before .before .before .before .before .before .before .shared-slice-known in
+    let shared-slice-known2 = c .before .before .before .before .before .before .before .shared-slice-known2 in
+    let pre = c .before .before .before .before .before .before .before .before .before .pre in
+    first-ready (λ j. shared-slice-known .given j .fits) (λ j. shared-slice-known2 .given j .fits) (pre)
 
 carry-requires-2 : tie.Need-carry-requires-2
 carry-requires-2 c κs =
-    second-ready (λ j. c .before .before .before .before .before .before .before .before .before .before .before .before .shared-slice-known .given j .fits) (λ j. c .before .before .before .before .before .before .before .before .before .before .before .shared-slice-known2 .given j .fits) (c .before .before .before .before .before .before .before .before .before .before .before .before .before .pre) (carries-long (c .before .before .before .carry .ensures))
+    let shared-slice-known = c .before .before .before .before .before .before .before .before .before .before .before .before .shared-slice-known in
+    let shared-slice-known2 = c .before .before .before .before .before .before .before .before .before .before .before .shared-slice-known2 in
+    let pre = c .before .before .before .before .before .before .before .before .before .before .before .before .before .pre in
+    let carry = c .before .before .before .carry in
+    second-ready (λ j. shared-slice-known .given j .fits) (λ j. shared-slice-known2 .given j .fits) (pre) (carries-long (carry .ensures))
 
 mul-read-pair : tie.Need-mul-read-pair
 mul-read-pair c = search needs
@@ -88,7 +95,18 @@ same-length c = search needs
 
 returns : tie.Need-returns
 returns c =
-    writes-joint (λ j. c .before .before .before .before .before .before .before .before .before .before .before .before .before .before .before .before .before .before .before .before .before .shared-slice-known .given j .fits) (λ j. c .before .before .before .before .before .before .before .before .before .before .before .before .before .before .before .before .before .before .before .before .shared-slice-known2 .given j .fits) (c .before .before .before .before .before .before .before .before .before .before .before .before .before .before .before .before .before .before .before .before .before .before .pre) (c .before .before .before .before .before .before .before .before .before .before .before .before .before .before .before .before .before .version-from .ensures) (c .before .before .before .before .before .before .before .before .before .before .before .before .before .before .before .version-from2 .ensures) (c .before .before .before .before .before .before .before .before .before .before .before .before .before .before .higher .ensures ∙ rw (c .before .before .before .before .before .before .before .before .before .before .before .before .before .before .before .before .before .version-from .ensures, c .before .before .before .before .before .before .before .before .before .before .before .before .before .before .before .version-from2 .ensures) refl) (c .before .before .before .before .before .before .before .before .before .before .before .before .carry .ensures) (c .before .before .before .before .before .before .before .before .carry2 .ensures) (rw (c .before .before .before .before .before .read-pair .ensures, c .before .before .before .before .read-pair2 .ensures) at (c .before .before .finish .ensures))
+    let shared-slice-known = c .before .before .before .before .before .before .before .before .before .before .before .before .before .before .before .before .before .before .before .before .before .shared-slice-known in
+    let shared-slice-known2 = c .before .before .before .before .before .before .before .before .before .before .before .before .before .before .before .before .before .before .before .before .shared-slice-known2 in
+    let pre = c .before .before .before .before .before .before .before .before .before .before .before .before .before .before .before .before .before .before .before .before .before .before .pre in
+    let version-from = c .before .before .before .before .before .before .before .before .before .before .before .before .before .before .before .before .before .version-from in
+    let version-from2 = c .before .before .before .before .before .before .before .before .before .before .before .before .before .before .before .version-from2 in
+    let higher = c .before .before .before .before .before .before .before .before .before .before .before .before .before .before .higher in
+    let carry = c .before .before .before .before .before .before .before .before .before .before .before .before .carry in
+    let carry2 = c .before .before .before .before .before .before .before .before .carry2 in
+    let read-pair = c .before .before .before .before .before .read-pair in
+    let read-pair2 = c .before .before .before .before .read-pair2 in
+    let finish = c .before .before .finish in
+    writes-joint (λ j. shared-slice-known .given j .fits) (λ j. shared-slice-known2 .given j .fits) (pre) (version-from .ensures) (version-from2 .ensures) (higher .ensures ∙ rw (version-from .ensures, version-from2 .ensures) refl) (carry .ensures) (carry2 .ensures) (rw (read-pair .ensures, read-pair2 .ensures) at (finish .ensures))
 
 pub write-joint-spec : {M : Type 1} → statement M
 write-joint-spec =
