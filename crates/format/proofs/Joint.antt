@@ -26,6 +26,7 @@ use Rattle.format.proofs.Unsharing.{fieldTree-lower, treeAt-cell}
 use Rattle.format.proofs.Tests.{FieldOk, Each, CellOk, cellFault-says, Looser, same-use, named-too, looser-row, view, All, _also_, cell-fits}
 use Rattle.format.proofs.Tests.{cell-looser, rootTerm-tree}
 use Rattle.format.proofs.Encoding.{Part, part-left, part-right, cell-back, Bytes, is-bytes, bytes-append, cell-bytes}
+use Rattle.format.proofs.RoundTrip.{byte-fits}
 use Rattle.format.proofs.Restamping.{length-mapped, mapped-bytes, mapped-part}
 use Rattle.format.proofs.Restamping.{restamp-count, restamp-root, restamp-version, restamp-bytes, restamp-well-formed, restamp-rootTerm}
 
@@ -145,10 +146,6 @@ merge-sorted = rw (merge-row Two) refl
 version-back : (v : Version) → versionFrom (versionByte v) ≡ v
 version-back One = refl
 version-back Two = refl
-
-version-fits : (v : Version) → versionByte v < 256
-version-fits One = lit< tt
-version-fits Two = lit< tt
 
 raised-fits : (k x n : ℕ) (u : Use) → k + n < 65536 → x < 65536 → (i : ℕ) → i < n → (s : List ℕ) → FieldOk s i u x → raisedField k u x < 65536
 raised-fits k x n unused h f i l s o = f
@@ -313,7 +310,7 @@ module _ (u : Version) (p q : List ℕ) where
         (bytes-append (raised-bytes p yp 0 (count p) (omega arith) (λ i l. cell-looser (versionOf p) p i (wp .formed .sound i l)))
         (bytes-append (raised-bytes q yq (count p) (count q) (omega arith) (λ i l. cell-looser (versionOf q) q i (wq .formed .sound i l)))
         (bytes-append (cell-bytes (mergeCell (rootOf p) (count p + rootOf q)) (lit< tt) (lit< tt) (omega (arith, wp .formed .rooted)) (omega (arith, wq .formed .rooted)) (lit< tt))
-        (cell-bytes (record { kind = 0xf0; label = versionByte u; a = count p + count q + 1; b = count p + count q; c = 0 }) (lit< tt) (version-fits u) (omega arith) (omega arith) (lit< tt)))))
+        (cell-bytes (record { kind = 0xf0; label = versionByte u; a = count p + count q + 1; b = count p + count q; c = 0 }) (lit< tt) (byte-fits u) (omega arith) (omega arith) (lit< tt)))))
 
 -- ---- books of two versions
 

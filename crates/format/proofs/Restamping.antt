@@ -50,7 +50,7 @@ fits-wide Two e f = f
 -- ---- one cell: a number, or one that stays
 
 -- the number's row in version 2
-abbrev numberRow : Row
+abbrev pub numberRow : Row
 numberRow = record { kind = 17; sort = term-sort; label = unused; a = plain; b = plain; c = plain }
 
 -- a number's cell, extended

@@ -90,7 +90,7 @@ pub book-root : {v : Version} {s : Sort} {t : Tree} → Good v (refers s) t → 
 unfolding cellAt
 book-root {v} {t = t} g = ap (λ (c : Cell). c .b) (book-trailer v t) ∙ omega (arith, root-last 0 g)
 
-byte-fits : (v : Version) → versionByte v < 256
+pub byte-fits : (v : Version) → versionByte v < 256
 byte-fits One = lit< tt
 byte-fits Two = lit< tt
 

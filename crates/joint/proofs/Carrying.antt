@@ -10,12 +10,12 @@ use lib.ListN.{length}
 use lib.Seq.{sets, length-sets}
 use Rattle.format.specs.declared.Version.{Version}
 use Rattle.format.specs.declared.Version.the-variants.{One, Two}
-use Rattle.format.specs.Table.{term-sort, Use, unused, plain, refers, Row, table, rowIn, rowFor, rowOf}
+use Rattle.format.specs.Table.{Use, unused, plain, refers, table, rowIn, rowFor, rowOf}
 use Rattle.format.specs.Cell.{IsBytes, Cell, cellAt, cellBytes}
 use Rattle.format.specs.Widths.{mappedCells}
 use Rattle.format.specs.Joint.{raisedField, raised}
 use Rattle.format.proofs.Tests.{FieldOk, cellFault-says, cell-fits}
-use Rattle.format.proofs.Restamping.{wide, by-kind, sign-fits, length-mapped}
+use Rattle.format.proofs.Restamping.{numberRow, wide, by-kind, sign-fits, length-mapped}
 use Rattle.emission.proofs.Compose.{behind}
 use Rattle.joint.specs.Writing.{RaiseReady, cellIn, carried, CarryCellReady, CarriesCell, CarryReady, Carries}
 
@@ -25,10 +25,6 @@ field-fits : (s : List ℕ) (i k : ℕ) → k + i < 8192 → (u : Use) (x : ℕ)
 field-fits s i k l unused x h f = h
 field-fits s i k l plain x h f = h
 field-fits s i k l (refers o) x h f = omega (arith, f .0)
-
--- the number's row in version 2
-abbrev numberRow : Row
-numberRow = record { kind = 17; sort = term-sort; label = unused; a = plain; b = plain; c = plain }
 
 module _ {s d : List ℕ} {i k : ℕ} (bytes : IsBytes s) (p : CarryCellReady s d i k) where
   own-ready : RaiseReady (cellAt s i) k
