@@ -1,6 +1,6 @@
 -- The joint of two well-formed books: cells that are raised keep their sort, pass rows 5 to 8 and decode to the same trees; so the joint passes rows 2 to 9 and
 -- decodes to the merge of the two roots. Assumes nothing.
-use Prim.Native.Nat.{ℕ, zero, suc, _+_, _*_, _-_, _≤_, _<_}
+use Prim.Native.Nat.{ℕ, zero, suc, _+_, _*_, _-_, _≤_, _<_, max}
 use native.Mathlib.Nat.{add-zero, zero-add}
 use native.Mathlib.Decide.{decLt}
 use native.Mathlib.Omega.{arith}
@@ -330,6 +330,12 @@ right-at-most One Two = tt
 right-at-most Two One = tt
 right-at-most Two Two = tt
 
+higher-max : (v w : Version) → versionByte (higher v w) ≡ max (versionByte v) (versionByte w)
+higher-max One One = refl
+higher-max One Two = refl
+higher-max Two One = refl
+higher-max Two Two = refl
+
 -- a well-formed book in a version no lower than its own
 pub record InVersion (u : Version) (s : List ℕ) : Type 0 where
   pub bytes : IsBytes (inVersion u s)
@@ -340,7 +346,7 @@ pub record InVersion (u : Version) (s : List ℕ) : Type 0 where
   pub root : rootTerm (inVersion u s) ≡ rootTerm s
 
 in-version : (s : List ℕ) → IsBytes s → WellFormed s → (u v : Version) → versionOf s ≡ v → AtMost v u → InVersion u s
-in-version s y w One One e a = let i : inVersion One s ≡ s = rw e in record { bytes = rw i y; formed = rw i w; version = rw i e; counted = rw i; rooted = rw i; root = rw i }
+in-version s y w One One e a = record { bytes = y; formed = w; version = e; counted = refl; rooted = refl; root = refl }
 in-version s y w One Two e a = absurd a
 in-version s y w Two One e a =
     let i : inVersion Two s ≡ restamp s = rw e in
@@ -375,6 +381,7 @@ module _ (p q : List ℕ) (yp : IsBytes p) (yq : IsBytes q) (wp : WellFormed p) 
         bytes = together-bytes u s t (a .bytes) (b .bytes) (a .formed) (b .formed) (a .version) (b .version) less;
         long = together-length u s t ∙ (rw (a .counted, b .counted) (omega arith));
         version = together-version u s t;
+        higher-byte = ap versionByte (together-version u s t) ∙ higher-max (versionOf p) (versionOf q);
         counted = together-count u s t ∙ (rw (a .counted, b .counted) refl);
         rooted = together-root u s t ∙ (rw (a .counted, b .counted) refl);
         project = λ i h. project-cell u s t i (rw (a .counted) h);

@@ -1,6 +1,6 @@
 -- Document 02, (vi): "Two books become one: cells of the project, cells of the part with references raised, then a merge of both roots, then a trailer with
 -- the higher version and numbers extended as in (iv)." The bytes of the joint, by the table of kinds, and what holds of them. Assumes nothing.
-use Prim.Native.Nat.{ℕ, suc, _+_, _*_, _≤_, _<_}
+use Prim.Native.Nat.{ℕ, suc, _+_, _*_, _≤_, _<_, max}
 use mathlib.Core.Path.{_≡_}
 use mathlib.Core.Bool.{true}
 use mathlib.Core.List.{List, _++_}
@@ -9,6 +9,7 @@ use lib.ListN.{length}
 use Rattle.calculus.specs.Syntax.{merge, size}
 use Rattle.format.specs.declared.Version.{Version}
 use Rattle.format.specs.declared.Version.the-variants.{One, Two}
+use Rattle.format.specs.Version.{versionByte}
 use Rattle.format.specs.Table.{term-sort, Use, unused, plain, refers, Row, rowOf}
 use Rattle.format.specs.Cell.{IsBytes, Cell, cellAt, cellBytes}
 use Rattle.format.specs.Tree.{cells, treeAt}
@@ -42,15 +43,15 @@ abbrev pub higher : Version → Version → Version
 higher One v = v
 higher Two v = Two
 
--- A book of version v in one of version u.
+-- A book of version v in one of version u, which is no lower.
 abbrev stamped : Version → Version → List ℕ → List ℕ
-stamped One One s = s
-stamped One Two s = restamp s
-stamped Two u s = s
+stamped One v s = s
+stamped Two One s = restamp s
+stamped Two Two s = s
 
 -- "numbers extended as in (iv)", where the versions differ: every number cell, whether the root reaches it or not.
 abbrev pub inVersion : Version → List ℕ → List ℕ
-inVersion u s = stamped (versionOf s) u s
+inVersion u s = stamped u (versionOf s) s
 
 -- A merge of the cells i and j.
 abbrev pub mergeCell : ℕ → ℕ → Cell
@@ -80,7 +81,9 @@ joint p q = together (jointVersion p q) (inVersion (jointVersion p q) p) (inVers
 pub record JointOf (p q : List ℕ) : Type 0 where
   pub bytes : IsBytes (joint p q)
   pub long : length (joint p q) ≡ 8 * (jointCount p q + 1)
+  -- "the higher version"
   pub version : versionOf (joint p q) ≡ jointVersion p q
+  pub higher-byte : versionByte (versionOf (joint p q)) ≡ max (versionByte (versionOf p)) (versionByte (versionOf q))
   pub counted : count (joint p q) ≡ jointCount p q
   pub rooted : rootOf (joint p q) ≡ count p + count q
   -- "cells of the project,

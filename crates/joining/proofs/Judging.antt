@@ -40,7 +40,7 @@ use Rattle.joining.specs.declared.JoinAnswer.the-variants.{Accepted, Ref
 use Rattle.joining.specs.declared.Joined.{Joined}
 use Rattle.joining.specs.declared.Verdict.{Verdict}
 use Rattle.joining.specs.declared.Verdict.the-variants.{Accepted as Verdict·Accepted, Refused as Verdict·Refused}
-use Rattle.joining.specs.Join.{JoinResult, joinAnswer, lentLength, refusal, written, acceptance, afterCheck, afterBooks, afterPart, afterLengths, joined}
+use Rattle.joining.specs.Join.{JoinResult, joinAnswer, lentLength, refusal, written, acceptance, afterCheck, afterBooks, afterProject, afterLengths, joined}
 use Rattle.joining.specs.Stages.{verdictAnswer, JudgesBook, RefusesFor, TurnsAway, Judged, ProjectJudgeable, PartJudgeable, JointJudgeable, JudgesJoint, JudgesPart, JudgesProject, Judges}
 
 -- ---- a check's verdict
@@ -234,29 +234,29 @@ books-alike : (p q l w u : List ℕ) → IsWork w → IsWork u → afterBooks p 
 unfolding afterBooks
 books-alike p q l w u k j = ap (booksWith p q l) (check-alike (joint p q) u w j k)
 
-part-alike : (p q l w u : List ℕ) → IsWork w → IsWork u → afterPart p q l u ≡ afterPart p q l w
-unfolding afterPart
+part-alike : (p q l w u : List ℕ) → IsWork w → IsWork u → afterProject p q l u ≡ afterProject p q l w
+unfolding afterProject
 part-alike p q l w u k j = ap₂ (λ (c : Result) (x : JoinResult). afterCheck Part l c x) (check-alike q u w j k) (books-alike p q l w u k j)
 
 module _ (p q w u : List ℕ) (k : IsWork w) (h : length u ≡ length w) {e v : List ℕ} {z : Verdict} {n : ℕ} {r : Joined} where
   pub part-judged : JudgesBook q w u z → z ≡ Verdict·Accepted n → JudgesJoint p q e u v r → JudgesPart p q e w v r
-  unfolding afterPart
+  unfolding afterProject
   part-judged c o g =
       record { says = λ l. book-accepted Part q w l (afterBooks p q l w) c o (subst (Judged l e v r) (books-alike p q l w u k (h ∙ k)) (g .says l)) }
 
   pub project-judged : JudgesBook p w u z → z ≡ Verdict·Accepted n → JudgesPart p q e u v r → JudgesProject p q e w v r
   unfolding afterLengths
   project-judged c o g =
-      record { says = λ l. book-accepted Project p w l (afterPart p q l w) c o (subst (Judged l e v r) (part-alike p q l w u k (h ∙ k)) (g .says l)) }
+      record { says = λ l. book-accepted Project p w l (afterProject p q l w) c o (subst (Judged l e v r) (part-alike p q l w u k (h ∙ k)) (g .says l)) }
 
 module _ (p q w : List ℕ) {d v : List ℕ} {z : Verdict} {x : Refusal} {r : Joined} where
   pub part-refused : JudgesBook q w v z → z ≡ Verdict·Refused x → RefusesFor Part (Refused x) r → JudgesPart p q d w v r
-  unfolding afterPart
+  unfolding afterProject
   part-refused c e f = record { says = λ l. book-refused Part q w l (afterBooks p q l w) c e f }
 
   pub project-refused : JudgesBook p w v z → z ≡ Verdict·Refused x → RefusesFor Project (Refused x) r → JudgesProject p q d w v r
   unfolding afterLengths
-  project-refused c e f = record { says = λ l. book-refused Project p w l (afterPart p q l w) c e f }
+  project-refused c e f = record { says = λ l. book-refused Project p w l (afterProject p q l w) c e f }
 
 -- ---- the lengths
 

@@ -3,4 +3,5 @@ pub mod Refusals
 pub mod Stages
 pub mod Meaning
 pub mod EitherWay
+pub mod Uses
 pub mod Samples

@@ -25,7 +25,7 @@ use Rattle.joining.specs.declared.Which.{Which}
 use Rattle.joining.specs.declared.Which.the-variants.{Project, Part, Joint}
 use Rattle.joining.specs.declared.Joined.{Joined}
 use Rattle.joining.specs.Join.{JoinResult, joinAnswer, lentLength, refusal, written, acceptance, joined}
-use Rattle.joining.specs.Joins.{JoinRow, buffer, lent, of-project, of-part, full, of-joint, Lent, Joinable, Owed, Written, Says, Joins}
+use Rattle.joining.specs.Joins.{too-large, conflict, JoinRow, buffer, lent, of-project, of-part, full, of-joint, SaidOfJoint, Lent, BothAccepted, Joinable, Owed, Written, Says, Joins}
 use Rattle.joining.specs.Stages.{Judged}
 use Rattle.joining.proofs.Stages.{Ends, at-buffer, at-lent, at-project, at-part, at-full, at-joint, at-end, ends}
 use Rattle.joining.proofs.Stages as Stages
@@ -88,6 +88,9 @@ module _ (l : List ℕ) (n : ℕ) (q w : List ℕ) where
   check-meant : (x : Which) (b : List ℕ) → IsBytes b → (m i : ℕ) → check b w .answer ≡ refused m i → JoinRow l n q w x m i → Meant l n q w (refusal x l (check b w))
   check-meant x b y m i e row = let f = check-refuses b w y m i e in refusal-meant x (check b w) m i e row (f .untouched) (f .zeroed)
 
+  both : IsBytes l → IsBytes q → Lent l n w → {a b : ℕ} → check (take n l) w .answer ≡ accepted a → check q w .answer ≡ accepted b → BothAccepted (take n l) q
+  both yl yq k f g = record { project = accepts (take-bytes n l yl) w (k .work) f; part = accepts yq w (k .work) g }
+
   module _ (yl : IsBytes l) (yq : IsBytes q) (k : Lent l n w) {a b : ℕ} (f : check (take n l) w .answer ≡ accepted a) (g : check q w .answer ≡ accepted b)
       (h : jointCount (take n l) q ≤ sizeLimit) where
     pub joint-is : JointOf (take n l) q
@@ -97,7 +100,7 @@ module _ (l : List ℕ) (n : ℕ) (q w : List ℕ) where
     joint-meant m i e =
         let s = typed (take-bytes n l yl) w (k .work) f in
         let t = typed yq w (k .work) g in
-        check-meant Joint (joint (take n l) q) (joint-is .bytes) m i e (of-joint (joint-refused joint-is (s .1 .1) (t .1 .1) w (k .work) m i e))
+        check-meant Joint (joint (take n l) q) (joint-is .bytes) m i e (of-joint k (both yl yq k f g) h (joint-refused joint-is (s .1 .1) (t .1 .1) w (k .work) m i e))
 
     end-joinable : {m : ℕ} → check (joint (take n l) q) w .answer ≡ accepted m → Joinable (take n l) q
     end-joinable e =
@@ -136,13 +139,23 @@ module _ (l : List ℕ) (n : ℕ) (q w : List ℕ) where
 
   meant : IsBytes l → IsBytes q → {x : JoinResult} → Ends l n q w x → Meant l n q w x
   meant yl yq (at-buffer h) = refusal-meant Joint _ 1 0 refl (buffer h) (λ _. refl) (λ u. absurd (u refl))
-  meant yl yq (at-lent k h) = plain-meant Project 2 0 (λ o. absurd (omega (arith, o))) (lent h)
+  meant yl yq (at-lent k h) = plain-meant Project 2 0 (λ o. absurd (omega (arith, o))) (lent k h)
   meant yl yq (at-project {m} {i} k e) =
-      check-meant Project (take n l) (take-bytes n l yl) m i e (of-project (check-refuses (take n l) w (take-bytes n l yl) m i e .row))
-  meant yl yq (at-part {m = m} {i} k f e) = check-meant Part q yq m i e (of-part (check-refuses q w yq m i e .row))
-  meant yl yq (at-full k f g h) = plain-meant Joint 16 0 (λ o. absurd (omega (arith, o))) (full h)
+      check-meant Project (take n l) (take-bytes n l yl) m i e (of-project k (check-refuses (take n l) w (take-bytes n l yl) m i e .row))
+  meant yl yq (at-part {m = m} {i} k f e) = check-meant Part q yq m i e (of-part k (accepts (take-bytes n l yl) w (k .work) f) (check-refuses q w yq m i e .row))
+  meant yl yq (at-full k f g h) = plain-meant Joint 16 0 (λ o. absurd (omega (arith, o))) (full k (both yl yq k f g) h)
   meant yl yq (at-joint {m = m} {i} k f g h e) = joint-meant yl yq k f g h m i e
   meant yl yq (at-end {m = m} k f g h e) = end-meant yl yq k f g h m e
+
+-- what the rows leave to say of a joint
+said-of-joint : {l : List ℕ} {n : ℕ} {q w : List ℕ} {x : Which} {m i : ℕ} → IsWork w → x ≡ Joint → JoinRow l n q w x m i → SaidOfJoint (take n l) q m i
+said-of-joint k e (buffer h) = absurd (h k)
+said-of-joint k e (lent j h) = absurd (clash cc)
+said-of-joint k e (of-project j h) = absurd (clash cc)
+said-of-joint k e (of-part j a h) = absurd (clash cc)
+said-of-joint k e (full j a h) = inl (refl, refl)
+said-of-joint k e (of-joint j a h (too-large o)) = inr (inl refl, refl)
+said-of-joint k e (of-joint j a h (conflict o s t u)) = inr (inr refl, refl)
 
 -- a result with bytes is of lent bytes of the right length
 bytes-lent : {l : List ℕ} {n : ℕ} {q w : List ℕ} {x : JoinResult} → Ends l n q w x → 0 < x .bytes → Lent l n w
@@ -174,15 +187,19 @@ module _ (l : List ℕ) (n : ℕ) (q w : List ℕ) {v d : List ℕ} {r : Joined}
     means : Meant l n q w (joined l n q w)
     means = meant l n q w yl yq (ends l n q w)
 
-    joint-last : Lent l n w → Accepts definition (take n l) → Accepts definition q → jointCount (take n l) q ≤ sizeLimit →
-        (r .which ≡ Joint) × (joinAnswer (r .answer) ≡ check (joint (take n l) q) w .answer)
-    joint-last k a b h =
-        let f = accepted-here yp w (k .work) a .1 in
-        let g = accepted-here yq w (k .work) b .1 in
+    joint-last : Lent l n w → BothAccepted (take n l) q → jointCount (take n l) q ≤ sizeLimit →
+        JointOf (take n l) q × (r .which ≡ Joint) × (joinAnswer (r .answer) ≡ check (joint (take n l) q) w .answer)
+    joint-last k a h =
+        let f = accepted-here yp w (k .work) (a .project) .1 in
+        let g = accepted-here yq w (k .work) (a .part) .1 in
+        let j = joint-is l n q w yl yq k f g h in
         elim (Stages.verdict (joint (take n l) q) w) [
-          | Stages.turned e ↦ of-the-joint (Stages.joint-refused l n q w k f g h e) refl refl
-          | Stages.passed e ↦ of-the-joint (Stages.joint-accepted l n q w k f g h e) refl refl
+          | Stages.turned e ↦ let o = of-the-joint (Stages.joint-refused l n q w k f g h e) refl refl in (j, o .0, o .1)
+          | Stages.passed e ↦ let o = of-the-joint (Stages.joint-accepted l n q w k f g h e) refl refl in (j, o .0, o .1)
         ]
+
+    row-of : (m i : ℕ) → joinAnswer (r .answer) ≡ refused m i → JoinRow l n q w (r .which) m i
+    row-of m i e = subst (λ (x : Which). JoinRow l n q w x m i) (sym (j .which)) (means .refuses m i (sym (j .answer) ∙ e))
 
     joins-joinable : Lent l n w → Joinable (take n l) q → (m : ℕ) × (joinAnswer (r .answer) ≡ accepted m)
     joins-joinable k t =
@@ -206,9 +223,10 @@ module _ (l : List ℕ) (n : ℕ) (q w : List ℕ) {v d : List ℕ} {r : Joined}
           another-length = λ c h. answers (Stages.not-lent l n q w c h) refl;
           project-first = λ c m i e. answers (Stages.project-refused l n q w c e) e;
           part-second = λ c a m i e. answers (Stages.part-refused l n q w c (accepted-here yp w (c .work) a .1) e) e;
-          full = λ c a b h. answers (Stages.books-full l n q w c (accepted-here yp w (c .work) a .1) (accepted-here yq w (c .work) b .1) h) refl;
+          full = λ c a h. answers (Stages.books-full l n q w c (accepted-here yp w (c .work) (a .project) .1) (accepted-here yq w (c .work) (a .part) .1) h) refl;
           joint-last = joint-last;
-          refuses = λ m i e. subst (λ (x : Which). JoinRow l n q w x m i) (sym (j .which)) (means .refuses m i (sym (j .answer) ∙ e));
+          refuses = row-of;
+          of-joint = λ c m i s. said-of-joint c (s .which) (row-of m i (s .answer));
           untouched = λ m i e. let u = means .untouched m i (sym (j .answer) ∙ e) in (z ∙ u .0, j .bytes ∙ u .1);
           kept = λ i e. j .left ∙ means .kept i (sym (j .answer) ∙ e);
           zeroed = λ m i u e. j .left ∙ means .zeroed m i u (sym (j .answer) ∙ e);

@@ -82,4 +82,4 @@ module _ {p q : List ℕ} (j : JointOf p q) {A B : Ty} (s : Typed [] (rootTerm p
           absurd (clash cc)
       tested h false g =
           let f : infer [] (rootTerm (joint p q)) ≡ Infer.refused Infer.conflict [] = rw g at found-merge in
-          same-refusal (JointRefusal p q) (ap (refused 14) (sym (j .rooted)) ∙ sym (small-answer h (Infer.refused Infer.conflict []) f) ∙ e) (conflict s t (no-type f))
+          same-refusal (JointRefusal p q) (ap (refused 14) (sym (j .rooted)) ∙ sym (small-answer h (Infer.refused Infer.conflict []) f) ∙ e) (conflict (omega (arith, h, j .sized)) s t (no-type f))

@@ -15,7 +15,7 @@ use Rattle.answers.specs.Engine.{IsWork}
 use Rattle.answers.specs.Definition.{check, afterForm, shown, refusalResult}
 use Rattle.answers.proofs.AllSamples.{computing, in-work}
 use Rattle.joining.specs.declared.Which.the-variants.{Project, Part, Joint}
-use Rattle.joining.specs.Join.{JoinResult, lentLength, refusal, acceptance, afterCheck, afterBooks, afterPart, afterLengths, joined}
+use Rattle.joining.specs.Join.{JoinResult, lentLength, refusal, acceptance, afterCheck, afterBooks, afterProject, afterLengths, joined}
 use Rattle.joining.specs.Joins.{Lent}
 use Rattle.joining.specs.Samples.{JoinSample, expected, Meets, joinSamples}
 use Rattle.joining.specs.Samples.{office, one, otherOffice, minusFive, register, appliedOne, conflicting, aType, cutShort, drafts, notes, counter, doubled}
@@ -51,7 +51,7 @@ module _ (s : JoinSample) (l w : List ℕ) (long : length l ≡ lentLength) (beg
   is-lent-here = record { work = k; long = long; within = omega (arith, ap length begins, length-take (length (s .project)) l) }
 
   as-answered : joined l (length (s .project)) (s .part) w ≡ answered l s
-  unfolding afterLengths afterPart afterBooks
+  unfolding afterLengths afterProject afterBooks
   as-answered =
       is-lent l (length (s .project)) (s .part) w is-lent-here
       ∙ ap (λ (p : List ℕ). afterLengths p (s .part) l w) begins

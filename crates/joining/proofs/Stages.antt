@@ -16,7 +16,7 @@ use Rattle.answers.specs.Engine.{workLength, IsWork}
 use Rattle.answers.specs.Definition.{check, refusalResult}
 use Rattle.joining.specs.declared.Which.{Which}
 use Rattle.joining.specs.declared.Which.the-variants.{Project, Part, Joint}
-use Rattle.joining.specs.Join.{JoinResult, lentLength, refusal, acceptance, afterCheck, afterBooks, afterPart, afterLengths, joined}
+use Rattle.joining.specs.Join.{JoinResult, lentLength, refusal, acceptance, afterCheck, afterBooks, afterProject, afterLengths, joined}
 use Rattle.joining.specs.Joins.{Lent}
 use Rattle.joining.proofs.Judging.{not-stopped}
 
@@ -83,20 +83,20 @@ module _ (l : List ℕ) (n : ℕ) (q w : List ℕ) where
   module _ (k : Lent l n w) where
     pub project-refused : {m i : ℕ} → check (take n l) w .answer ≡ refused m i → joined l n q w ≡ refusal Project l (check (take n l) w)
     unfolding afterLengths
-    project-refused e = is-lent k ∙ on-refused Project l (check (take n l) w) (afterPart (take n l) q l w) e
+    project-refused e = is-lent k ∙ on-refused Project l (check (take n l) w) (afterProject (take n l) q l w) e
 
     module _ {a : ℕ} (f : check (take n l) w .answer ≡ accepted a) where
-      to-part : joined l n q w ≡ afterPart (take n l) q l w
+      to-part : joined l n q w ≡ afterProject (take n l) q l w
       unfolding afterLengths
-      to-part = is-lent k ∙ on-accepted Project l (check (take n l) w) (afterPart (take n l) q l w) f
+      to-part = is-lent k ∙ on-accepted Project l (check (take n l) w) (afterProject (take n l) q l w) f
 
       pub part-refused : {m i : ℕ} → check q w .answer ≡ refused m i → joined l n q w ≡ refusal Part l (check q w)
-      unfolding afterPart
+      unfolding afterProject
       part-refused e = to-part ∙ on-refused Part l (check q w) (afterBooks (take n l) q l w) e
 
       module _ {b : ℕ} (g : check q w .answer ≡ accepted b) where
         to-books : joined l n q w ≡ afterBooks (take n l) q l w
-        unfolding afterPart
+        unfolding afterProject
         to-books = to-part ∙ on-accepted Part l (check q w) (afterBooks (take n l) q l w) g
 
         pub books-full : sizeLimit < jointCount (take n l) q → joined l n q w ≡ refusal Joint l (refusalResult 16 0)

@@ -60,12 +60,13 @@ afterBooks p q l w =
       | false ↦ afterCheck Joint l (check (joint p q) w) (acceptance (joint p q) (check (joint p q) w))
     ]
 
--- "The project is checked before the part."
-unfoldable pub afterPart : List ℕ → List ℕ → List ℕ → List ℕ → JoinResult
-afterPart p q l w = afterCheck Part l (check q w) (afterBooks p q l w)
+-- The part's rows, after the project's.
+unfoldable pub afterProject : List ℕ → List ℕ → List ℕ → List ℕ → JoinResult
+afterProject p q l w = afterCheck Part l (check q w) (afterBooks p q l w)
 
+-- "The project is checked before the part."
 unfoldable pub afterLengths : List ℕ → List ℕ → List ℕ → List ℕ → JoinResult
-afterLengths p q l w = afterCheck Project l (check p w) (afterPart p q l w)
+afterLengths p q l w = afterCheck Project l (check p w) (afterProject p q l w)
 
 -- "Refusal 1 comes first, under joint"; "Project bytes lent at another length are answered 2, project": and so is a told length above 32,768.
 unfoldable pub joined : List ℕ → ℕ → List ℕ → List ℕ → JoinResult

@@ -13,7 +13,7 @@ use Rattle.joining.specs.declared.JoinAnswer.{JoinAnswer}
 use Rattle.joining.specs.declared.Joined.{Joined}
 use Rattle.joining.specs.declared.Verdict.{Verdict}
 use Rattle.joining.specs.declared.Verdict.the-variants.{Accepted, Refused}
-use Rattle.joining.specs.Join.{JoinResult, joinAnswer, lentLength, afterBooks, afterPart, afterLengths, joined}
+use Rattle.joining.specs.Join.{JoinResult, joinAnswer, lentLength, afterBooks, afterProject, afterLengths, joined}
 
 -- a verdict, as an answer
 abbrev pub verdictAnswer : Verdict → Answer
@@ -36,12 +36,12 @@ pub record TurnsAway (x : Which) (a : JoinAnswer) (w v : List ℕ) (r : Joined) 
   pub zeroed : v ≡ zeros (length w)
 
 -- A buffer of zeros for the joint.
-pub record Judgeable (d : List ℕ) : Type 0 where
+pub record JointBuffer (d : List ℕ) : Type 0 where
   pub zeros-only : d ≡ zeros lentLength
 
 -- The same, and a work buffer;
 pub record ProjectJudgeable (d w : List ℕ) : Type 0 where
-  pub buffer : Judgeable d
+  pub buffer : JointBuffer d
   pub work : IsWork w
 
 -- a well-formed project too;
@@ -69,7 +69,7 @@ pub record JudgesJoint (p q d w v : List ℕ) (r : Joined) : Type 0 where
 
 -- The part's rows before.
 pub record JudgesPart (p q d w v : List ℕ) (r : Joined) : Type 0 where
-  pub says : (l : List ℕ) → Judged l d v r (afterPart p q l w)
+  pub says : (l : List ℕ) → Judged l d v r (afterProject p q l w)
 
 -- The project's rows before.
 pub record JudgesProject (p q d w v : List ℕ) (r : Joined) : Type 0 where

@@ -1,5 +1,5 @@
-// Joining a part to the project. For every project's bytes, told length, part and work buffer the answer, the byte count, each byte left in the work buffer
-// and each lent byte of the project are fixed. A join is a judgement on a buffer of its own, and then one copy.
+// Joining a part to the project. For every project's bytes, told length, part and work buffer the answer, the book that it means, the byte count, each byte
+// left in the work buffer and each lent byte of the project are fixed. A join is a judgement on a buffer of its own, and then one copy.
 use answers::Outcome;
 use answers::Refusal;
 use answers::cell;
@@ -9,7 +9,7 @@ use joint::write_joint;
 use layout::clear;
 use moving::copy;
 ghost use Rattle.joining.specs.Stages.{JudgesBook, RefusesFor, TurnsAway, JointJudgeable, JudgesJoint, PartJudgeable, JudgesPart};
-ghost use Rattle.joining.specs.Stages.{ProjectJudgeable, JudgesProject, Judgeable, Judges};
+ghost use Rattle.joining.specs.Stages.{ProjectJudgeable, JudgesProject, JointBuffer, Judges};
 ghost use Rattle.joining.specs.Joins.{Joins};
 ghost use mathlib.Core.Path.{_≡_};
 ghost use Prim.Native.Nat.{_<_};
@@ -129,7 +129,7 @@ fn judge_project(project: &[u8], part: &[u8], joint: &mut [u8], work: &mut [u8])
 
 // All that a join says, and the joint, if it is accepted, in a buffer of zeros.
 fn judge(project: &[u8], length: usize, part: &[u8], joint: &mut [u8], work: &mut [u8]) -> Joined
-    requires { ⌜ Judgeable (now joint) ⌝ }
+    requires { ⌜ JointBuffer (now joint) ⌝ }
     ensures { λ r. ⌜ Judges (now (project .entry)) length (now (part .entry)) (now (joint .exit)) (now (work .entry)) (now (work .exit)) r ⌝ }
 {
     if work.len() != 65536 {

@@ -35,8 +35,7 @@ mapped-alike f g s t zero i h = refl
 mapped-alike f g s t (suc n) i h = ap₂ (λ (x y : List ℕ). x ++ y) (ap cellBytes (h i (omega arith))) (mapped-alike f g s t n (suc i) (λ j l. h j (omega arith)))
 
 cell-in : (s : List ℕ) (u v : Version) → versionOf s ≡ v → (i : ℕ) → i < count s → cellAt (inVersion u s) i ≡ cellIn u v (cellAt s i)
-cell-in s One One e i h = rw e refl
-cell-in s One Two e i h = rw e refl
+cell-in s One v e i h = refl
 cell-in s Two One e i h = rw e (restamp-cell s i h)
 cell-in s Two Two e i h = rw e refl
 

@@ -52,7 +52,7 @@ pub record CarryReady (s d : List ℕ) (n k : ℕ) : Type 0 where
 pub record Carries (s d e : List ℕ) (n k : ℕ) (v u : Version) : Type 0 where
   pub is : e ≡ sets d (8 * k) (mappedCells (carried u v k) s n 0)
 
--- Room for a merge as cell k, of lower cells, and for a trailer behind it.
+-- Room for a merge as cell k, of the cells i and j, and for a trailer behind it.
 pub record FinishReady (d : List ℕ) (k i j : ℕ) : Type 0 where
   pub room : 8 * k + 16 ≤ length d
   pub low : k < 8192
