@@ -8,7 +8,7 @@ use mathlib.Core.Logic.{_≢_}
 use mathlib.Core.Option.{Option, none, some}
 use mathlib.Core.List.{List, [], _++_}
 use borrow.Author.Tests.{lt-ltb, le-ltb, eq-eqb, ne-eqb}
-use lib.Dec.{eqb, ltb}
+use lib.Dec.{eqb, ltb, lit<}
 use lib.ListN.{length, take, drop, replicate, length-replicate}
 use lib.Seq.{sets, sets-eq, length-sets, take-at}
 use Rattle.calculus.specs.Syntax.{Ty}
@@ -90,23 +90,23 @@ check-alike b w v j k = in-work b w (shown (versionOf b)) j ∙ sym (in-work b v
 
 -- ---- one stage
 
--- every refusal has a number and a cell
-refusal-number : (q : Refusal) → (n : ℕ) × (i : ℕ) × (refusalAnswer q ≡ refused n i)
-refusal-number Buffer = (_, _, refl)
-refusal-number Length = (_, _, refl)
-refusal-number Trailer = (_, _, refl)
-refusal-number Count = (_, _, refl)
-refusal-number (Kind i) = (_, _, refl)
-refusal-number (Unnamed i) = (_, _, refl)
-refusal-number (Reference i) = (_, _, refl)
-refusal-number (Sort i) = (_, _, refl)
-refusal-number (Root i) = (_, _, refl)
-refusal-number (Size i) = (_, _, refl)
-refusal-number (Unbound i) = (_, _, refl)
-refusal-number (Application i) = (_, _, refl)
-refusal-number (Projection i) = (_, _, refl)
-refusal-number (Merge i) = (_, _, refl)
-refusal-number (Mismatch i) = (_, _, refl)
+-- every refusal of a book has a number below 16 and a cell
+pub refusal-number : (q : Refusal) → (n : ℕ) × (i : ℕ) × (refusalAnswer q ≡ refused n i) × (n < 16)
+refusal-number Buffer = (_, _, refl, lit< tt)
+refusal-number Length = (_, _, refl, lit< tt)
+refusal-number Trailer = (_, _, refl, lit< tt)
+refusal-number Count = (_, _, refl, lit< tt)
+refusal-number (Kind i) = (_, _, refl, lit< tt)
+refusal-number (Unnamed i) = (_, _, refl, lit< tt)
+refusal-number (Reference i) = (_, _, refl, lit< tt)
+refusal-number (Sort i) = (_, _, refl, lit< tt)
+refusal-number (Root i) = (_, _, refl, lit< tt)
+refusal-number (Size i) = (_, _, refl, lit< tt)
+refusal-number (Unbound i) = (_, _, refl, lit< tt)
+refusal-number (Application i) = (_, _, refl, lit< tt)
+refusal-number (Projection i) = (_, _, refl, lit< tt)
+refusal-number (Merge i) = (_, _, refl, lit< tt)
+refusal-number (Mismatch i) = (_, _, refl, lit< tt)
 
 -- a refusal of the book x, with a result's answer and bytes
 refusal-judged : {x : Which} {a : JoinAnswer} {r : Joined} {y : Result} {l d v : List ℕ} → RefusesFor x a r → joinAnswer a ≡ y .answer → v ≡ y .left →

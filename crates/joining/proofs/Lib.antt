@@ -3,5 +3,6 @@ pub mod Refusals
 pub mod Stages
 pub mod Meaning
 pub mod EitherWay
+pub mod Cases
 pub mod Uses
 pub mod Samples

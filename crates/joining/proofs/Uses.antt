@@ -17,21 +17,19 @@ use Rattle.joining.specs.declared.Joined.{Joined}
 use Rattle.joining.specs.Join.{joinAnswer, lentLength, written}
 use Rattle.joining.specs.Joins.{Lent, Joinable, Joins}
 use Rattle.joining.proofs.EitherWay.{joinable-either-way}
+use Rattle.joining.proofs.Cases.{join-answer-fixes}
 
--- Two calls with the same bytes lent, told length, part and work buffer answer and leave the same.
+-- Two calls with the same bytes lent, told length, part and work buffer answer and leave the same, to the case of the code's answer.
 pub record Alike (k k' v v' : List ℕ) (r r' : Joined) : Type 0 where
-  pub which : r .which ≡ r' .which
-  pub answer : joinAnswer (r .answer) ≡ joinAnswer (r' .answer)
-  pub bytes : r .bytes ≡ r' .bytes
+  pub answer : r ≡ r'
   pub lent : k ≡ k'
   pub left : v ≡ v'
 
 pub calls-agree : {l k k' : List ℕ} {n : ℕ} {q w v v' : List ℕ} {r r' : Joined} → Joins l k n q w v r → Joins l k' n q w v' r' → Alike k k' v v' r r'
-calls-agree c d =
+calls-agree {r = r} {r'} c d =
+    let e = join-answer-fixes (r .answer) (r' .answer) (c .answer ∙ sym (d .answer)) in
     record {
-      which = c .which ∙ sym (d .which);
-      answer = c .answer ∙ sym (d .answer);
-      bytes = c .bytes ∙ sym (d .bytes);
+      answer = λ i. record { which = (c .which ∙ sym (d .which)) i; answer = e i; bytes = (c .bytes ∙ sym (d .bytes)) i };
       lent = c .lent ∙ sym (d .lent);
       left = c .left ∙ sym (d .left);
     }
