@@ -1,7 +1,7 @@
 -- The joint of two well-formed books: cells that are raised keep their sort, pass rows 5 to 8 and decode to the same trees; so the joint passes rows 2 to 9 and
 -- decodes to the merge of the two roots. Assumes nothing.
 use Prim.Native.Nat.{ℕ, zero, suc, _+_, _*_, _-_, _≤_, _<_, max}
-use native.Mathlib.Nat.{add-zero, zero-add}
+use native.Mathlib.Nat.{zero-add}
 use native.Mathlib.Decide.{decLt}
 use native.Mathlib.Omega.{arith}
 use mathlib.Core.Path.{_≡_, refl, sym, ap, _∙_, subst}
@@ -10,20 +10,20 @@ use mathlib.Core.Option.{Option, none, some}
 use mathlib.Core.List.{List, [], _++_, append-nil}
 use lib.Dec.{lit<}
 use lib.ListN.{length, length-append}
-use Rattle.calculus.specs.Syntax.{Term, merge, size}
+use Rattle.calculus.specs.Syntax.{merge, size}
 use Rattle.format.specs.declared.Version.{Version}
 use Rattle.format.specs.declared.Version.the-variants.{One, Two}
 use Rattle.format.specs.Version.{versionByte, versionFrom}
 use Rattle.format.specs.Table.{Sort, term-sort, Use, unused, plain, refers, Row, table, rowIn, rowFor, rowOf}
 use Rattle.format.specs.Cell.{IsBytes, byte, Cell, cellAt, cellBytes}
-use Rattle.format.specs.Tree.{Tree, raw, node, cells, fieldTree, cellTree, treeAt}
+use Rattle.format.specs.Tree.{raw, node, cells, fieldTree, cellTree, treeAt}
 use Rattle.format.specs.Terms.{toTermIn}
 use Rattle.format.specs.Book.{count, rootOf, versionOf, sizeLimit, sortIs, hasSort, cellFault, WellFormedCells, WellFormed, rootTerm, trailer}
 use Rattle.format.specs.Widths.{restamp, mappedCells}
 use Rattle.format.specs.Joint.{raisedField, raisedBy, raised, higher, inVersion, mergeCell, together, jointVersion, jointCount, joint, JointOf}
 use Rattle.format.proofs.Trees.{term-cells}
 use Rattle.format.proofs.Unsharing.{fieldTree-lower, treeAt-cell}
-use Rattle.format.proofs.Tests.{FieldOk, Each, CellOk, cellFault-says, Looser, same-use, named-too, looser-row, view, All, _also_, cell-fits}
+use Rattle.format.proofs.Tests.{FieldOk, cellFault-says, Looser, same-use, named-too, looser-row, view, All, _also_, cell-fits}
 use Rattle.format.proofs.Tests.{cell-looser, rootTerm-tree}
 use Rattle.format.proofs.Encoding.{Part, part-left, part-right, cell-back, Bytes, is-bytes, bytes-append, cell-bytes}
 use Rattle.format.proofs.RoundTrip.{byte-fits}

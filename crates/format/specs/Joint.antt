@@ -1,6 +1,6 @@
 -- Document 02, (vi): "Two books become one: cells of the project, cells of the part with references raised, then a merge of both roots, then a trailer with
 -- the higher version and numbers extended as in (iv)." The bytes of the joint, by the table of kinds, and what holds of them. Assumes nothing.
-use Prim.Native.Nat.{ℕ, suc, _+_, _*_, _≤_, _<_, max}
+use Prim.Native.Nat.{ℕ, suc, _+_, _*_, _<_, max}
 use mathlib.Core.Path.{_≡_}
 use mathlib.Core.Bool.{true}
 use mathlib.Core.List.{List, _++_}

@@ -3,24 +3,19 @@ use Prim.Native.Nat.{ℕ, zero, suc, _+_, _*_, _-_, _≤_, _<_}
 use native.Mathlib.Nat.{zero-add}
 use native.Mathlib.Omega.{arith}
 use mathlib.Core.Path.{_≡_, refl, sym, ap, ap₂, subst, _∙_}
-use mathlib.Core.Bool.{Bool, true, false, not, _&&_}
-use mathlib.Core.Logic.{_≢_}
-use mathlib.Core.Option.{Option, none, some}
-use mathlib.Core.List.{List, [], _++_}
-use borrow.Author.Tests.{lt-ltb, le-ltb, eq-eqb, ne-eqb}
-use lib.Dec.{eqb, ltb, lit<}
+use mathlib.Core.Logic.{_≢_, _⊎_}
+use mathlib.Core.Option.{none}
+use mathlib.Core.List.{List, _++_}
+use lib.Dec.{lit<}
 use lib.ListN.{length, take, drop, replicate, length-replicate}
 use lib.Seq.{sets, sets-eq, length-sets, take-at}
-use Rattle.calculus.specs.Syntax.{Ty}
-use Rattle.calculus.specs.Infer.{Found, found, infer}
-use Rattle.calculus.specs.Infer as Infer
 use Rattle.format.specs.Cell.{IsBytes}
-use Rattle.format.specs.Book.{Finding, WellFormed, sizeLimit, formFinding, rootTerm, versionOf}
+use Rattle.format.specs.Book.{WellFormed, sizeLimit, versionOf}
 use Rattle.format.specs.Joint.{jointCount, joint}
 use Rattle.format.proofs.Joint.{joint-of}
-use Rattle.answers.specs.Answer.{Stop, value, spent, room, Answer, refused, accepted, stopped, Result, result}
+use Rattle.answers.specs.Answer.{value, spent, room, Answer, refused, accepted, Result, result}
 use Rattle.answers.specs.Engine.{workLength, IsWork, zeros}
-use Rattle.answers.specs.Definition.{check, judge, afterForm, afterTyping, refusalResult, shown}
+use Rattle.answers.specs.Definition.{check, refusalResult, shown}
 use Rattle.answers.specs.Cases.{answerOf, refusalAnswer, stopAnswer}
 use Rattle.answers.specs.declared.Refusal.{Refusal}
 use Rattle.answers.specs.declared.Refusal.the-variants.{Buffer, Length, Trailer, Count, Kind, Unnamed, Reference, Sort, Root, Size}
@@ -40,30 +35,12 @@ use Rattle.joining.specs.declared.JoinAnswer.the-variants.{Accepted, Ref
 use Rattle.joining.specs.declared.Joined.{Joined}
 use Rattle.joining.specs.declared.Verdict.{Verdict}
 use Rattle.joining.specs.declared.Verdict.the-variants.{Accepted as Verdict·Accepted, Refused as Verdict·Refused}
-use Rattle.joining.specs.Join.{JoinResult, joinAnswer, lentLength, refusal, written, acceptance, afterCheck, afterBooks, afterProject, afterLengths, joined}
+use Rattle.joining.specs.Join.{JoinResult, joinAnswer, lentLength, refusal, written, acceptance, afterCheck, afterBooks, afterProject, afterLengths}
+use Rattle.joining.proofs.Stages as Stages
+use Rattle.joining.proofs.Stages.{not-stopped, ofJoint, books-are, too-many, few-enough}
 use Rattle.joining.specs.Stages.{verdictAnswer, JudgesBook, RefusesFor, TurnsAway, Judged, ProjectJudgeable, PartJudgeable, JointJudgeable, JudgesJoint, JudgesPart, JudgesProject, Judges}
 
 -- ---- a check's verdict
-
--- no check is stopped
-pub not-stopped : (b w : List ℕ) (s : Stop) (n : ℕ) → check b w .answer ≢ stopped s n
-unfolding check judge shown afterForm afterTyping refusalResult
-not-stopped b w s n e = tested (eqb (length w) workLength) refl e
-  where
-    clash : ¬ (_≡_ {A = ℕ} 0 1)
-    clash z = omega arith
-
-    typed : (f : Found) → afterTyping b (shown (versionOf b)) f .answer ≢ stopped s n
-    typed (found A) e = clash cc
-    typed (Infer.refused r p) e = clash cc
-
-    formed : (f : Option Finding) → afterForm b (shown (versionOf b)) f .answer ≢ stopped s n
-    formed none e = typed (infer [] (rootTerm b)) e
-    formed (some f) e = clash cc
-
-    tested : (t : Bool) → eqb (length w) workLength ≡ t → check b w .answer ≢ stopped s n
-    tested true p e = formed (formFinding b) (rw (p, judge) at e)
-    tested false p e = let z : refused 1 0 ≡ stopped s n = rw (p, judge) at e in clash cc
 
 module _ {b w v : List ℕ} {o : Outcome} (c : Checked b w v o) where
   whole : {a : Answer} → answerOf o ≡ a → check b w ≡ result a v
@@ -149,9 +126,9 @@ over-zeros n b h =
     sets-eq b (replicate {A = ℕ} n 0) 0 k ∙ rw zero-add (ap (λ (x : List ℕ). b ++ x) (drop-replicate (length b) n))
 
 pub full-judged : {p q d w v : List ℕ} {r : Joined} → JointJudgeable p q d w → sizeLimit < jointCount p q → TurnsAway Joint Full w v r → JudgesJoint p q d w v r
-unfolding refusalResult afterBooks
-full-judged {p} {q} a h t =
-    record { says = λ l. rw (lt-ltb sizeLimit (jointCount p q) h, afterBooks) (refusal-judged (t .says) refl (t .zeroed ∙ ap zeros (a .before .before .work))) }
+unfolding refusalResult
+full-judged {p} {q} {w = w} a h t =
+    record { says = λ l. rw (too-many p q l w h) (refusal-judged (t .says) refl (t .zeroed ∙ ap zeros (a .before .before .work))) }
 
 module _ {p q d w : List ℕ} (yp : IsBytes p) (yq : IsBytes q) (a : JointJudgeable p q d w) (h : jointCount p q ≤ sizeLimit) where
   buffer-long : length d ≡ lentLength
@@ -182,19 +159,17 @@ module _ {p q d w : List ℕ} (yp : IsBytes p) (yq : IsBytes q) (a : JointJudgea
       judges-joint = record { says = rw prefix-is at (c .says) }
 
       pub joint-refused : {x : Refusal} {r : Joined} → z ≡ Verdict·Refused x → RefusesFor Joint (Refused x) r → JudgesJoint p q e w v r
-      unfolding afterBooks
       joint-refused o f =
           record {
-            says = λ l. rw (le-ltb sizeLimit (jointCount p q) h, afterBooks)
+            says = λ l. rw (few-enough p q l w h)
                 (book-refused Joint (joint p q) w l (acceptance (joint p q) (check (joint p q) w)) judges-joint o f);
           }
 
       pub joint-accepted : {n : ℕ} → z ≡ Verdict·Accepted n → JudgesJoint p q e w v (record { which = Joint; answer = Accepted n; bytes = b })
-      unfolding afterBooks
       joint-accepted {n} o =
           let k : check (joint p q) w ≡ result (accepted n) v = judges-joint .says ∙ ap (λ (x : Verdict). result (verdictAnswer x) v) o in
           record {
-            says = λ l. rw (le-ltb sizeLimit (jointCount p q) h, afterBooks)
+            says = λ l. rw (few-enough p q l w h)
                 (book-accepted Joint (joint p q) w l (acceptance (joint p q) (check (joint p q) w)) judges-joint o
                 (record {
                   which = refl;
@@ -227,12 +202,8 @@ joint-judgeable a y c e h =
     }
 
 -- what comes after does not ask what the work buffer holds
-abbrev booksWith : List ℕ → List ℕ → List ℕ → Result → JoinResult
-booksWith p q l c = elim (ltb sizeLimit (jointCount p q)) [ true ↦ refusal Joint l (refusalResult 16 0) | false ↦ afterCheck Joint l c (acceptance (joint p q) c) ]
-
 books-alike : (p q l w u : List ℕ) → IsWork w → IsWork u → afterBooks p q l u ≡ afterBooks p q l w
-unfolding afterBooks
-books-alike p q l w u k j = ap (booksWith p q l) (check-alike (joint p q) u w j k)
+books-alike p q l w u k j = books-are p q l u ∙ ap (ofJoint p q l) (check-alike (joint p q) u w j k) ∙ sym (books-are p q l w)
 
 part-alike : (p q l w u : List ℕ) → IsWork w → IsWork u → afterProject p q l u ≡ afterProject p q l w
 unfolding afterProject
@@ -262,20 +233,12 @@ module _ (p q w : List ℕ) {d v : List ℕ} {z : Verdict} {x : Refusal} {r : Jo
 
 module _ (l : List ℕ) (n : ℕ) (q w : List ℕ) {d : List ℕ} {r : Joined} where
   pub no-work : length w ≢ workLength → RefusesFor Joint (Refused Buffer) r → Judges l n q d w w r
-  unfolding joined
-  no-work h f = record { says = rw (ne-eqb (length w) workLength h, joined) (refusal-judged f refl refl) }
+  no-work h f = record { says = rw (Stages.no-work l n q w h) (refusal-judged f refl refl) }
 
   module _ {v : List ℕ} (k : IsWork w) where
-    not-lent : (eqb (length l) lentLength && not (ltb lentLength n)) ≡ false → TurnsAway Project (Refused Length) w v r → Judges l n q d w v r
-    unfolding joined refusalResult
-    not-lent h f = record { says = rw (k, h, joined) (refusal-judged (f .says) refl (f .zeroed ∙ ap zeros k)) }
-
-    pub another-length : length l ≢ lentLength → TurnsAway Project (Refused Length) w v r → Judges l n q d w v r
-    another-length h = not-lent (rw (ne-eqb (length l) lentLength h) refl)
-
-    pub told-more : length l ≡ lentLength → lentLength < n → TurnsAway Project (Refused Length) w v r → Judges l n q d w v r
-    told-more e h = not-lent (rw (eq-eqb (length l) lentLength e, lt-ltb lentLength n h) refl)
+    pub not-lent : (length l ≢ lentLength) ⊎ (lentLength < n) → TurnsAway Project (Refused Length) w v r → Judges l n q d w v r
+    unfolding refusalResult
+    not-lent h f = record { says = rw (Stages.not-lent l n q w k h) (refusal-judged (f .says) refl (f .zeroed ∙ ap zeros k)) }
 
     pub lengths-judged : length l ≡ lentLength → n ≤ lentLength → JudgesProject (take n l) q d w v r → Judges l n q d w v r
-    unfolding joined
-    lengths-judged e h g = record { says = rw (eq-eqb (length w) workLength k, eq-eqb (length l) lentLength e, le-ltb lentLength n h, joined) (g .says l) }
+    lengths-judged e h g = record { says = rw (Stages.is-lent l n q w (record { work = k; long = e; within = h })) (g .says l) }

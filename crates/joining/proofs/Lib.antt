@@ -1,6 +1,6 @@
+pub mod Stages
 pub mod Judging
 pub mod Refusals
-pub mod Stages
 pub mod Meaning
 pub mod EitherWay
 pub mod Cases

@@ -1,13 +1,13 @@
 -- What the definition of a join answers means what document 02 says, and so does what the call answers. Assumes nothing.
-use Prim.Native.Nat.{ℕ, zero, suc, _+_, _*_, _-_, _≤_, _<_}
+use Prim.Native.Nat.{ℕ, zero, suc, _-_, _≤_, _<_}
 use native.Mathlib.Omega.{arith}
 use mathlib.Core.Path.{_≡_, refl, sym, ap, subst, _∙_}
-use mathlib.Core.Logic.{_≢_, _⊎_, inl, inr}
-use mathlib.Core.List.{List, [], _∷_, _++_}
+use mathlib.Core.Logic.{_≢_, inl, inr}
+use mathlib.Core.List.{List, [], _∷_}
 use lib.Dec.{lit<}
-use lib.ListN.{length, take, drop}
+use lib.ListN.{length, take}
 use lib.Seq.{take-at, drop-at, take-all}
-use Rattle.calculus.specs.Syntax.{Ty, Term, merge, size, size-type}
+use Rattle.calculus.specs.Syntax.{Ty, Term, size, size-type}
 use Rattle.calculus.specs.Typing.{Typed}
 use Rattle.format.specs.Cell.{IsBytes}
 use Rattle.format.specs.Book.{sizeLimit, WellFormed, rootTerm}

@@ -1,24 +1,22 @@
 -- Of the joint of two accepted books only 10 and 14 can be said, at its last cell: it is too large, or the merge of the two roots has no type. Assumes nothing.
-use Prim.Native.Nat.{ℕ, suc, _+_, _≤_, _<_}
+use Prim.Native.Nat.{ℕ, _+_, _≤_, _<_}
 use native.Mathlib.Decide.{decLe}
 use native.Mathlib.Omega.{arith}
 use mathlib.Core.Path.{_≡_, refl, sym, ap, subst, _∙_}
 use mathlib.Core.Bool.{Bool, true, false, cond}
-use mathlib.Core.Option.{Option, none, some}
+use mathlib.Core.Option.{Option, some}
 use mathlib.Core.List.{List, []}
 use borrow.Author.Tests.{lt-ltb}
-use lib.Dec.{ltb}
-use Rattle.calculus.specs.Syntax.{Ty, Term, inter, merge, size}
+use Rattle.calculus.specs.Syntax.{Ty, inter, merge}
 use Rattle.calculus.specs.Typing.{Typed}
 use Rattle.calculus.specs.Infer.{Found, found, infer, mergeable?, merged}
 use Rattle.calculus.specs.Infer as Infer
 use Rattle.calculus.proofs.Inference.{infer-says}
-use Rattle.format.specs.Table.{term-sort}
 use Rattle.format.specs.Tree.{cells, treeAt}
-use Rattle.format.specs.Book.{bad-size, Finding, cellsForm, rootFinding, formFinding, sizeLimit, WellFormed, count, versionOf, rootOf, rootTerm, follow}
+use Rattle.format.specs.Book.{bad-size, Finding, rootFinding, formFinding, sizeLimit, WellFormed, count, versionOf, rootOf, rootTerm, follow}
 use Rattle.format.specs.Joint.{joint, JointOf}
 use Rattle.format.proofs.Tests.{cellsForm-says, formFinding-says}
-use Rattle.answers.specs.Answer.{Answer, refused, accepted, Result}
+use Rattle.answers.specs.Answer.{refused, Result}
 use Rattle.answers.specs.Engine.{IsWork}
 use Rattle.answers.specs.Definition.{check, afterForm, afterTyping, refusalResult, shown}
 use Rattle.answers.proofs.AllSamples.{in-work}

@@ -1,27 +1,25 @@
 -- The sample joins hold of the definition, by one computation. Assumes nothing.
-use Prim.Native.Nat.{ℕ, _≤_, _<_}
+use Prim.Native.Nat.{ℕ}
 use native.Mathlib.Omega.{arith}
 use mathlib.Core.Path.{_≡_, refl, ap, _∙_}
-use mathlib.Core.Bool.{true, false}
 use mathlib.Core.List.{List, [], _∷_, map}
-use lib.Dec.{ltb}
 use lib.ListN.{length, take, length-take}
 use Rattle.format.specs.Table.{All}
-use Rattle.format.specs.Book.{formFinding, versionOf, sizeLimit}
+use Rattle.format.specs.Book.{formFinding, versionOf}
 use Rattle.format.specs.Widths.{mappedCells, restamp}
-use Rattle.format.specs.Joint.{together, jointCount, joint}
+use Rattle.format.specs.Joint.{together, joint}
 use Rattle.answers.specs.Answer.{Result}
 use Rattle.answers.specs.Engine.{IsWork}
-use Rattle.answers.specs.Definition.{check, afterForm, shown, refusalResult}
+use Rattle.answers.specs.Definition.{check, afterForm, shown}
 use Rattle.answers.proofs.AllSamples.{computing, in-work}
-use Rattle.joining.specs.declared.Which.the-variants.{Project, Part, Joint}
-use Rattle.joining.specs.Join.{JoinResult, lentLength, refusal, acceptance, afterCheck, afterBooks, afterProject, afterLengths, joined}
+use Rattle.joining.specs.declared.Which.the-variants.{Project, Part}
+use Rattle.joining.specs.Join.{JoinResult, lentLength, afterCheck, afterBooks, afterProject, afterLengths, joined}
 use Rattle.joining.specs.Joins.{Lent}
 use Rattle.joining.specs.Samples.{JoinSample, expected, Meets, joinSamples}
 use Rattle.joining.specs.Samples.{office, one, otherOffice, minusFive, register, appliedOne, conflicting, aType, cutShort, drafts, notes, counter, doubled}
 use Rattle.joining.specs.Samples.{officeAndOne, officeTwice, minusFiveAndRegister, registerAndMinusFive, draftsAndNotes, officeAndCounter}
 use Rattle.joining.specs.Samples.{typeOfOfficeAndOne, typeOfOfficeTwice, typeOfMinusFiveAndRegister, typeOfRegisterAndMinusFive, typeOfDraftsAndNotes, typeOfOfficeAndCounter}
-use Rattle.joining.proofs.Stages.{is-lent}
+use Rattle.joining.proofs.Stages.{is-lent, ofJoint}
 
 -- what a check answers, with any work buffer of 65,536 bytes
 abbrev checked : List ℕ → Result
@@ -32,9 +30,6 @@ unfolding check
 checked-is b w k = in-work b w (shown (versionOf b)) k
 
 -- and a join
-abbrev ofJoint : List ℕ → List ℕ → List ℕ → Result → JoinResult
-ofJoint p q l c = elim (ltb sizeLimit (jointCount p q)) [ true ↦ refusal Joint l (refusalResult 16 0) | false ↦ afterCheck Joint l c (acceptance (joint p q) c) ]
-
 abbrev answered : List ℕ → JoinSample → JoinResult
 answered l s =
     let p = s .project in

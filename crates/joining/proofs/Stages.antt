@@ -2,23 +2,26 @@
 use Prim.Native.Nat.{ℕ, _≤_, _<_}
 use native.Mathlib.Decide.{decLe, ℕ-discrete}
 use native.Mathlib.Omega.{arith}
-use mathlib.Core.Path.{_≡_, refl, sym, ap, subst, _∙_}
+use mathlib.Core.Path.{_≡_, refl, sym, subst, _∙_}
 use mathlib.Core.Bool.{Bool, true, false, not, _&&_}
 use mathlib.Core.Logic.{_≢_, _⊎_, inl, inr}
-use mathlib.Core.List.{List}
+use mathlib.Core.Option.{Option, none, some}
+use mathlib.Core.List.{List, []}
 use borrow.Author.Tests.{lt-ltb, le-ltb, eq-eqb, ne-eqb}
 use lib.Dec.{eqb, ltb}
 use lib.ListN.{length, take}
-use Rattle.format.specs.Book.{sizeLimit}
+use Rattle.calculus.specs.Infer.{Found, found, infer}
+use Rattle.calculus.specs.Infer as Infer
+use Rattle.format.specs.Book.{Finding, sizeLimit, formFinding, rootTerm, versionOf}
 use Rattle.format.specs.Joint.{jointCount, joint}
-use Rattle.answers.specs.Answer.{Answer, refused, accepted, stopped, Result, result}
+use Rattle.answers.specs.Answer.{Stop, Answer, refused, accepted, stopped, Result, result}
 use Rattle.answers.specs.Engine.{workLength, IsWork}
-use Rattle.answers.specs.Definition.{check, refusalResult}
+use Rattle.answers.specs.Definition.{check, judge, afterForm, afterTyping, refusalResult, shown}
+use Rattle.answers.proofs.Demands.{clash}
 use Rattle.joining.specs.declared.Which.{Which}
 use Rattle.joining.specs.declared.Which.the-variants.{Project, Part, Joint}
 use Rattle.joining.specs.Join.{JoinResult, lentLength, refusal, acceptance, afterCheck, afterBooks, afterProject, afterLengths, joined}
 use Rattle.joining.specs.Joins.{Lent}
-use Rattle.joining.proofs.Judging.{not-stopped}
 
 -- ---- one book
 
@@ -28,6 +31,23 @@ module _ (x : Which) (l : List ℕ) (r : Result) (y : JoinResult) where
 
   pub on-accepted : {m : ℕ} → r .answer ≡ accepted m → afterCheck x l r y ≡ y
   on-accepted e = rw e refl
+
+-- no check is stopped
+pub not-stopped : (b w : List ℕ) (s : Stop) (n : ℕ) → check b w .answer ≢ stopped s n
+unfolding check judge shown afterForm afterTyping refusalResult
+not-stopped b w s n e = tested (eqb (length w) workLength) refl e
+  where
+    typed : (f : Found) → afterTyping b (shown (versionOf b)) f .answer ≢ stopped s n
+    typed (found A) e = clash cc
+    typed (Infer.refused r p) e = clash cc
+
+    formed : (f : Option Finding) → afterForm b (shown (versionOf b)) f .answer ≢ stopped s n
+    formed none e = typed (infer [] (rootTerm b)) e
+    formed (some f) e = clash cc
+
+    tested : (t : Bool) → eqb (length w) workLength ≡ t → check b w .answer ≢ stopped s n
+    tested true p e = formed (formFinding b) (rw (p, judge) at e)
+    tested false p e = let z : refused 1 0 ≡ stopped s n = rw (p, judge) at e in clash cc
 
 -- a check refuses or accepts
 pub data Verdict (b w : List ℕ) : Type 0 where
@@ -41,6 +61,22 @@ verdict b w = go (check b w .answer) refl
     go (refused m i) e = turned e
     go (accepted m) e = passed e
     go (stopped s m) e = absurd (not-stopped b w s m e)
+
+-- ---- 16 and the joint, c its check
+
+abbrev pub ofJoint : List ℕ → List ℕ → List ℕ → Result → JoinResult
+ofJoint p q l c = elim (ltb sizeLimit (jointCount p q)) [ true ↦ refusal Joint l (refusalResult 16 0) | false ↦ afterCheck Joint l c (acceptance (joint p q) c) ]
+
+module _ (p q l w : List ℕ) where
+  pub books-are : afterBooks p q l w ≡ ofJoint p q l (check (joint p q) w)
+  unfolding afterBooks
+  books-are = refl
+
+  pub too-many : sizeLimit < jointCount p q → afterBooks p q l w ≡ refusal Joint l (refusalResult 16 0)
+  too-many h = books-are ∙ (rw (lt-ltb sizeLimit (jointCount p q) h, ofJoint) refl)
+
+  pub few-enough : jointCount p q ≤ sizeLimit → afterBooks p q l w ≡ afterCheck Joint l (check (joint p q) w) (acceptance (joint p q) (check (joint p q) w))
+  few-enough h = books-are ∙ (rw (le-ltb sizeLimit (jointCount p q) h, ofJoint) refl)
 
 -- ---- the ways
 
@@ -100,13 +136,11 @@ module _ (l : List ℕ) (n : ℕ) (q w : List ℕ) where
         to-books = to-part ∙ on-accepted Part l (check q w) (afterBooks (take n l) q l w) g
 
         pub books-full : sizeLimit < jointCount (take n l) q → joined l n q w ≡ refusal Joint l (refusalResult 16 0)
-        unfolding afterBooks
-        books-full h = to-books ∙ (rw (lt-ltb sizeLimit (jointCount (take n l) q) h, afterBooks) refl)
+        books-full h = to-books ∙ too-many (take n l) q l w h
 
         module _ (h : jointCount (take n l) q ≤ sizeLimit) where
           to-joint : joined l n q w ≡ afterCheck Joint l (check (joint (take n l) q) w) (acceptance (joint (take n l) q) (check (joint (take n l) q) w))
-          unfolding afterBooks
-          to-joint = to-books ∙ (rw (le-ltb sizeLimit (jointCount (take n l) q) h, afterBooks) refl)
+          to-joint = to-books ∙ few-enough (take n l) q l w h
 
           pub joint-refused : {m i : ℕ} → check (joint (take n l) q) w .answer ≡ refused m i → joined l n q w ≡ refusal Joint l (check (joint (take n l) q) w)
           joint-refused e = to-joint ∙ on-refused Joint l (check (joint (take n l) q) w) (acceptance (joint (take n l) q) (check (joint (take n l) q) w)) e

@@ -1,9 +1,9 @@
 -- What follows from the contract of a join alone, of any calls that meet it. Assumes nothing.
-use Prim.Native.Nat.{ℕ, _-_, _≤_}
+use Prim.Native.Nat.{ℕ, _-_}
 use native.Mathlib.Omega.{arith}
 use mathlib.Core.Path.{_≡_, sym, ap, ap₂, subst, _∙_}
 use mathlib.Core.List.{List, _++_}
-use lib.ListN.{length, take, drop, replicate, length-append, length-replicate, take-append-drop}
+use lib.ListN.{length, take, replicate, length-append, length-replicate, take-append-drop}
 use Rattle.calculus.specs.Syntax.{Term, merge}
 use Rattle.calculus.specs.Step.{Reaches, Ends}
 use Rattle.format.specs.Version.{halfOf}
@@ -15,7 +15,7 @@ use Rattle.answers.specs.Definition.{definition}
 use Rattle.answers.specs.Demands.{Accepts}
 use Rattle.joining.specs.declared.Joined.{Joined}
 use Rattle.joining.specs.Join.{joinAnswer, lentLength, written}
-use Rattle.joining.specs.Joins.{Lent, Joinable, Joins}
+use Rattle.joining.specs.Joins.{Lent, Joins}
 use Rattle.joining.proofs.EitherWay.{joinable-either-way}
 use Rattle.joining.proofs.Cases.{join-answer-fixes}
 

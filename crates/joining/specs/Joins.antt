@@ -11,7 +11,7 @@ use Rattle.format.specs.declared.Version.the-variants.{One}
 use Rattle.format.specs.Cell.{IsBytes}
 use Rattle.format.specs.Book.{sizeLimit, WellFormed, count, versionOf, rootTerm}
 use Rattle.format.specs.Joint.{jointCount, joint, JointOf}
-use Rattle.answers.specs.Answer.{refused, accepted, Result}
+use Rattle.answers.specs.Answer.{refused, accepted}
 use Rattle.answers.specs.Engine.{workLength, IsWork, zeros}
 use Rattle.answers.specs.Definition.{definition, check}
 use Rattle.answers.specs.Demands.{Accepts, Demand2For, Demand3For}

@@ -4,7 +4,7 @@ use Prim.Native.String.{String}
 use mathlib.Core.Path.{_≡_}
 use mathlib.Core.List.{List, [], _∷_, _++_}
 use lib.ListN.{length, take}
-use Rattle.answers.specs.Answer.{Answer, refused, accepted, result}
+use Rattle.answers.specs.Answer.{refused, accepted, result}
 use Rattle.answers.specs.Engine.{IsWork, padded}
 use Rattle.answers.specs.Definition.{refusalResult}
 use Rattle.answers.specs.Samples.{line}

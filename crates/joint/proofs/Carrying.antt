@@ -4,13 +4,12 @@ use native.Mathlib.Nat.{add-zero, zero-add}
 use native.Mathlib.Numerals.{add-one}
 use native.Mathlib.Omega.{arith}
 use mathlib.Core.Path.{_≡_, refl, sym, ap, _∙_}
-use mathlib.Core.Option.{some}
-use mathlib.Core.List.{List, [], _∷_, _++_, append-nil, append-assoc}
+use mathlib.Core.List.{List, _++_, append-nil, append-assoc}
 use lib.ListN.{length}
 use lib.Seq.{sets, length-sets}
 use Rattle.format.specs.declared.Version.{Version}
 use Rattle.format.specs.declared.Version.the-variants.{One, Two}
-use Rattle.format.specs.Table.{Use, unused, plain, refers, table, rowIn, rowFor, rowOf}
+use Rattle.format.specs.Table.{Use, unused, plain, refers, table, rowIn, rowFor}
 use Rattle.format.specs.Cell.{IsBytes, Cell, cellAt, cellBytes}
 use Rattle.format.specs.Widths.{mappedCells}
 use Rattle.format.specs.Joint.{raisedField, raised}

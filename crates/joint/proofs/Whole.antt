@@ -1,21 +1,20 @@
 -- The cells of both books, the merge and the trailer, one after the other, are the joint. Assumes nothing.
-use Prim.Native.Nat.{ℕ, zero, suc, _+_, _*_, _≤_, _<_}
-use native.Mathlib.Nat.{zero-add}
+use Prim.Native.Nat.{ℕ, zero, suc, _+_, _*_, _<_}
 use native.Mathlib.Omega.{arith}
 use mathlib.Core.Path.{_≡_, refl, sym, ap, ap₂, _∙_}
-use mathlib.Core.List.{List, [], _++_}
+use mathlib.Core.List.{List, _++_}
 use lib.ListN.{length}
 use lib.Seq.{sets}
 use Rattle.format.specs.declared.Version.{Version}
 use Rattle.format.specs.declared.Version.the-variants.{One, Two}
 use Rattle.format.specs.Version.{versionByte}
 use Rattle.format.specs.Cell.{IsBytes, Cell, cellAt, cellBytes}
-use Rattle.format.specs.Book.{count, rootOf, versionOf, sizeLimit, trailer, WellFormed}
+use Rattle.format.specs.Book.{count, rootOf, versionOf, trailer}
 use Rattle.format.specs.Widths.{mappedCells}
-use Rattle.format.specs.Joint.{raised, inVersion, mergeCell, together, jointVersion, jointCount, joint}
+use Rattle.format.specs.Joint.{raised, inVersion, mergeCell, together, jointVersion, joint}
 use Rattle.format.proofs.Tests.{cell-looser}
 use Rattle.format.proofs.Restamping.{restamp-cell, length-mapped}
-use Rattle.format.proofs.Joint.{InVersion, project-in-version, part-in-version, joint-of}
+use Rattle.format.proofs.Joint.{project-in-version, part-in-version, joint-of}
 use Rattle.emission.proofs.Compose.{behind}
 use Rattle.joint.specs.Writing.{cellIn, carried, CarryReady, Carries, Finishes, JointReady, WritesJoint}
 

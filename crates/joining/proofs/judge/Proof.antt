@@ -1,8 +1,9 @@
 -- `joining::judge` meets its contract. Assumes nothing.
 use mathlib.Core.Path.{sym}
+use mathlib.Core.Logic.{inl, inr}
 use native.Mathlib.Omega.{arith}
 use lib.Seq.{length-take-le}
-use Rattle.joining.proofs.Judging.{no-work, another-length, told-more, lengths-judged}
+use Rattle.joining.proofs.Judging.{no-work, not-lent, lengths-judged}
 use borrow.Author.Needs.{needs}
 use Rattle.joining.proofs.judge.Statement.{statement}
 use Rattle.joining.proofs.judge.Tie as tie
@@ -22,7 +23,7 @@ same-length c = search needs
 
 returns-2 : tie.Need-returns-2
 returns-2 c =
-    another-length _ _ _ _ (c .before .before .before .before .before .if1 .left) (c .before .before .before .before .if2 .taken) (c .before .before .turn-away .ensures)
+    not-lent _ _ _ _ (c .before .before .before .before .before .if1 .left) (inl (c .before .before .before .before .if2 .taken)) (c .before .before .turn-away .ensures)
 
 turn-away-requires-2 : tie.Need-turn-away-requires-2
 turn-away-requires-2 c κs = search needs
@@ -33,10 +34,9 @@ same-length-2 c = search needs
 returns-3 : tie.Need-returns-3
 returns-3 c =
     let if1 = c .before .before .before .before .before .before .if1 in
-    let if2 = c .before .before .before .before .before .if2 in
     let if3 = c .before .before .before .before .if3 in
     let turn-away2 = c .before .before .turn-away2 in
-    told-more _ _ _ _ (if1 .left) (if2 .left) (if3 .taken) (turn-away2 .ensures)
+    not-lent _ _ _ _ (if1 .left) (inr (if3 .taken)) (turn-away2 .ensures)
 
 slice-aggregate-judge-project : tie.Need-slice-aggregate-judge-project
 slice-aggregate-judge-project c =
