@@ -38,7 +38,7 @@ use Rattle.joining.specs.declared.Verdict.the-variants.{Accepted as Verd
 use Rattle.joining.specs.Join.{JoinResult, joinAnswer, lentLength, refusal, written, acceptance, afterCheck, afterBooks, afterProject, afterLengths}
 use Rattle.joining.proofs.Stages as Stages
 use Rattle.joining.proofs.Stages.{not-stopped, ofJoint, books-are, too-many, few-enough}
-use Rattle.joining.specs.Stages.{verdictAnswer, JudgesBook, RefusesFor, TurnsAway, Judged, ProjectJudgeable, PartJudgeable, JointJudgeable, JudgesJoint, JudgesPart, JudgesProject, Judges}
+use Rattle.joining.specs.Stages.{verdictAnswer, JudgesBook, RefusesFor, RefusesZeroed, Judged, ProjectJudgeable, PartJudgeable, JointJudgeable, JudgesJoint, JudgesPart, JudgesProject, Judges}
 
 -- ---- a check's verdict
 
@@ -125,7 +125,7 @@ over-zeros n b h =
     let k : 0 + length b ≤ length (replicate {A = ℕ} n 0) = rw length-replicate (omega arith) in
     sets-eq b (replicate {A = ℕ} n 0) 0 k ∙ rw zero-add (ap (λ (x : List ℕ). b ++ x) (drop-replicate (length b) n))
 
-pub full-judged : {p q d w v : List ℕ} {r : Joined} → JointJudgeable p q d w → sizeLimit < jointCount p q → TurnsAway Joint Full w v r → JudgesJoint p q d w v r
+pub full-judged : {p q d w v : List ℕ} {r : Joined} → JointJudgeable p q d w → sizeLimit < jointCount p q → RefusesZeroed Joint Full w v r → JudgesJoint p q d w v r
 unfolding refusalResult
 full-judged {p} {q} {w = w} a h t =
     record { says = λ l. rw (too-many p q l w h) (refusal-judged (t .says) refl (t .zeroed ∙ ap zeros (a .before .before .work))) }
@@ -236,7 +236,7 @@ module _ (l : List ℕ) (n : ℕ) (q w : List ℕ) {d : List ℕ} {r : Joined} w
   no-work h f = record { says = rw (Stages.no-work l n q w h) (refusal-judged f refl refl) }
 
   module _ {v : List ℕ} (k : IsWork w) where
-    pub not-lent : (length l ≢ lentLength) ⊎ (lentLength < n) → TurnsAway Project (Refused Length) w v r → Judges l n q d w v r
+    pub not-lent : (length l ≢ lentLength) ⊎ (lentLength < n) → RefusesZeroed Project (Refused Length) w v r → Judges l n q d w v r
     unfolding refusalResult
     not-lent h f = record { says = rw (Stages.not-lent l n q w k h) (refusal-judged (f .says) refl (f .zeroed ∙ ap zeros k)) }
 

@@ -31,7 +31,7 @@ pub record RefusesFor (x : Which) (a : JoinAnswer) (r : Joined) : Type 0 where
   pub bytes : r .bytes ≡ 0
 
 -- The same, with the work buffer w zeroed.
-pub record TurnsAway (x : Which) (a : JoinAnswer) (w v : List ℕ) (r : Joined) : Type 0 where
+pub record RefusesZeroed (x : Which) (a : JoinAnswer) (w v : List ℕ) (r : Joined) : Type 0 where
   pub says : RefusesFor x a r
   pub zeroed : v ≡ zeros (length w)
 

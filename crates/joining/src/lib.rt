@@ -8,7 +8,7 @@ use engine::check;
 use joint::write_joint;
 use layout::clear;
 use moving::copy;
-ghost use Rattle.joining.specs.Stages.{JudgesBook, RefusesFor, TurnsAway, JointJudgeable, JudgesJoint, PartJudgeable, JudgesPart};
+ghost use Rattle.joining.specs.Stages.{JudgesBook, RefusesFor, RefusesZeroed, JointJudgeable, JudgesJoint, PartJudgeable, JudgesPart};
 ghost use Rattle.joining.specs.Stages.{ProjectJudgeable, JudgesProject, JointBuffer, Judges};
 ghost use Rattle.joining.specs.Joins.{Joins};
 ghost use mathlib.Core.Path.{_≡_};
@@ -77,8 +77,8 @@ fn refused(which: Which, answer: JoinAnswer) -> Joined
 }
 
 // A refusal that no check gives: the work buffer is zeroed.
-fn turn_away(work: &mut [u8], which: Which, answer: JoinAnswer) -> Joined
-    ensures { λ r. ⌜ TurnsAway which answer (now (work .entry)) (now (work .exit)) r ⌝ }
+fn refuse_zeroed(work: &mut [u8], which: Which, answer: JoinAnswer) -> Joined
+    ensures { λ r. ⌜ RefusesZeroed which answer (now (work .entry)) (now (work .exit)) r ⌝ }
 {
     clear(work);
     refused(which, answer)
@@ -92,7 +92,7 @@ fn judge_joint(project: &[u8], part: &[u8], joint: &mut [u8], work: &mut [u8]) -
     let n = project.len() / 8 - 1;
     let m = part.len() / 8 - 1;
     if LIMIT < n + m + 1 {
-        return turn_away(work, Which::Joint, JoinAnswer::Full);
+        return refuse_zeroed(work, Which::Joint, JoinAnswer::Full);
     }
     let bytes = write_joint(project, part, joint);
     match judge_book(&joint[..bytes], work) {
@@ -136,10 +136,10 @@ fn judge(project: &[u8], length: usize, part: &[u8], joint: &mut [u8], work: &mu
         return refused(Which::Joint, JoinAnswer::Refused(Refusal::Buffer));
     }
     if project.len() != LENT {
-        return turn_away(work, Which::Project, JoinAnswer::Refused(Refusal::Length));
+        return refuse_zeroed(work, Which::Project, JoinAnswer::Refused(Refusal::Length));
     }
     if LENT < length {
-        return turn_away(work, Which::Project, JoinAnswer::Refused(Refusal::Length));
+        return refuse_zeroed(work, Which::Project, JoinAnswer::Refused(Refusal::Length));
     }
     judge_project(&project[..length], part, joint, work)
 }

@@ -15,18 +15,18 @@ returns : tie.Need-returns
 returns c =
     no-work _ _ _ _ (c .before .if1 .taken) (c .refused .ensures)
 
-turn-away-requires : tie.Need-turn-away-requires
-turn-away-requires c κs = search needs
+refuse-zeroed-requires : tie.Need-refuse-zeroed-requires
+refuse-zeroed-requires c κs = search needs
 
 same-length : tie.Need-same-length
 same-length c = search needs
 
 returns-2 : tie.Need-returns-2
 returns-2 c =
-    not-lent _ _ _ _ (c .before .before .before .before .before .if1 .left) (inl (c .before .before .before .before .if2 .taken)) (c .before .before .turn-away .ensures)
+    not-lent _ _ _ _ (c .before .before .before .before .before .if1 .left) (inl (c .before .before .before .before .if2 .taken)) (c .before .before .refuse-zeroed .ensures)
 
-turn-away-requires-2 : tie.Need-turn-away-requires-2
-turn-away-requires-2 c κs = search needs
+refuse-zeroed-requires-2 : tie.Need-refuse-zeroed-requires-2
+refuse-zeroed-requires-2 c κs = search needs
 
 same-length-2 : tie.Need-same-length-2
 same-length-2 c = search needs
@@ -35,8 +35,8 @@ returns-3 : tie.Need-returns-3
 returns-3 c =
     let if1 = c .before .before .before .before .before .before .if1 in
     let if3 = c .before .before .before .before .if3 in
-    let turn-away2 = c .before .before .turn-away2 in
-    not-lent _ _ _ _ (if1 .left) (inr (if3 .taken)) (turn-away2 .ensures)
+    let refuse-zeroed2 = c .before .before .refuse-zeroed2 in
+    not-lent _ _ _ _ (if1 .left) (inr (if3 .taken)) (refuse-zeroed2 .ensures)
 
 slice-aggregate-judge-project : tie.Need-slice-aggregate-judge-project
 slice-aggregate-judge-project c =
@@ -65,10 +65,10 @@ judge-spec =
     (tie.spec
     refused-requires
     returns
-    turn-away-requires
+    refuse-zeroed-requires
     same-length
     returns-2
-    turn-away-requires-2
+    refuse-zeroed-requires-2
     same-length-2
     returns-3
     slice-aggregate-judge-project

@@ -19,8 +19,8 @@ add-if1 c = search needs
 add-if1-2 : tie.Need-add-if1-2
 add-if1-2 c = search needs
 
-turn-away-requires : tie.Need-turn-away-requires
-turn-away-requires c κs = search needs
+refuse-zeroed-requires : tie.Need-refuse-zeroed-requires
+refuse-zeroed-requires c κs = search needs
 
 same-length : tie.Need-same-length
 same-length c = search needs
@@ -29,8 +29,8 @@ returns : tie.Need-returns
 returns c =
     let pre = c .before .before .before .before .before .before .before .before .before .pre in
     let if1 = c .before .before .before .before .if1 in
-    let turn-away = c .before .before .turn-away in
-    full-judged (pre) (omega (arith, if1 .taken)) (turn-away .ensures)
+    let refuse-zeroed = c .before .before .refuse-zeroed in
+    full-judged (pre) (omega (arith, if1 .taken)) (refuse-zeroed .ensures)
 
 write-joint-requires : tie.Need-write-joint-requires
 write-joint-requires c κs =
@@ -112,7 +112,7 @@ judge-joint-spec =
     sub-m
     add-if1
     add-if1-2
-    turn-away-requires
+    refuse-zeroed-requires
     same-length
     returns
     write-joint-requires

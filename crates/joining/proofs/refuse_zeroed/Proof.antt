@@ -1,8 +1,8 @@
--- `joining::turn_away` meets its contract. Assumes nothing.
+-- `joining::refuse_zeroed` meets its contract. Assumes nothing.
 use borrow.Author.Needs.{needs}
 use Rattle.answers.specs.Engine.{zeros}
-use Rattle.joining.proofs.turn_away.Statement.{statement}
-use Rattle.joining.proofs.turn_away.Tie as tie
+use Rattle.joining.proofs.refuse_zeroed.Statement.{statement}
+use Rattle.joining.proofs.refuse_zeroed.Tie as tie
 
 clear-requires : tie.Need-clear-requires
 clear-requires c κs = search needs
@@ -18,5 +18,5 @@ unfolding zeros
 returns c =
     record { says = c .refused .ensures; zeroed = c .before .before .before .clear .ensures }
 
-pub turn-away-spec : {M : Type 1} → statement M
-turn-away-spec = tie.close (tie.spec clear-requires refused-requires same-length returns)
+pub refuse-zeroed-spec : {M : Type 1} → statement M
+refuse-zeroed-spec = tie.close (tie.spec clear-requires refused-requires same-length returns)
