@@ -2,7 +2,7 @@
 use Prim.Native.Nat.{ℕ}
 use native.Mathlib.Omega.{arith}
 use mathlib.Core.Path.{_≡_, refl, sym, ap, _∙_}
-use Rattle.answers.specs.Answer.{refused, accepted}
+use Rattle.answers.specs.Answer.{Stop, refused, accepted, stopped}
 use Rattle.answers.specs.Cases.{refusalAnswer}
 use Rattle.answers.specs.declared.Refusal.{Refusal}
 use Rattle.answers.specs.declared.Outcome.the-variants.{Refused as Outcome·Refused}
@@ -25,6 +25,11 @@ not-full q e =
 
 same-refusal : (q r : Refusal) → refusalAnswer q ≡ refusalAnswer r → q ≡ r
 same-refusal q r e = let z : Outcome·Refused q ≡ Outcome·Refused r = answer-fixes (Outcome·Refused q) (Outcome·Refused r) e in cc
+
+pub never-stopped : (a : JoinAnswer) (s : Stop) (n : ℕ) → ¬ (joinAnswer a ≡ stopped s n)
+never-stopped (Accepted m) s n e = clash cc
+never-stopped (Refused q) s n e = let x = refusal-number q in let z : refused (x .0) (x .1) ≡ stopped s n = sym (x .2) ∙ e in clash cc
+never-stopped Full s n e = clash cc
 
 pub join-answer-fixes : (a b : JoinAnswer) → joinAnswer a ≡ joinAnswer b → a ≡ b
 join-answer-fixes (Accepted n) (Accepted m) e = let z : n ≡ m = cc in ap Accepted z
