@@ -9,8 +9,9 @@ use Rattle.joining.specs.declared.Joined.{Joined}
 use Rattle.joining.specs.Join.{JoinResult, joined}
 use Rattle.joining.specs.declared.Which.{Which}
 use Rattle.joining.specs.Joins.{Joins}
+use Rattle.joining.specs.Previews.{Previews}
 use Rattle.joining.specs.Exported.{whichNumber}
-use Rattle.cerealbank.specs.Packed.{Packs, JoinFits, PackedJoin, PacksJoin}
+use Rattle.cerealbank.specs.Packed.{Packs, JoinFits, PackedJoin, PacksJoin, PacksPreview}
 
 pub packs : {v : List ℕ} {r : ℕ} {a : Answer} (x : Result) → valueOf (x .answer) < tagPlace → a ≡ x .answer → v ≡ x .left
     → (r ≡ packed a) × (tagOf a < 256) → Packs v r x
@@ -36,3 +37,11 @@ module _ {l k : List ℕ} {n : ℕ} {q w v : List ℕ} {j : Joined} (c : Joins l
       let g = f .value in
       let h = f .bytes in
       record { answer = e; value = omega arith; tag = omega arith; which = omega arith; bytes = omega arith; lent = c .lent; left = c .left }
+
+-- a preview's figures are those of the join that it foresees
+module _ {l k : List ℕ} {n : ℕ} {q w v : List ℕ} {j : Joined} (c : Previews l k n q w v j) (f : ResultFits (joined l n q w)) where
+  pub preview-fits : JoinFits j
+  preview-fits = join-fits (c .foresees) f
+
+  pub packs-preview : {r : ℕ} → PackedJoin j r → PacksPreview l k v r (joined l n q w)
+  packs-preview p = record { foresees = packs-join (c .foresees) f p; kept = c .kept }

@@ -1,4 +1,4 @@
--- A result as the exported calls give it: a number of 64 bits, and the bytes left in the work buffer; of a join, the project's lent bytes too. Assumes nothing.
+-- A result as the exported calls give it: a number of 64 bits, and the bytes left in the work buffer; of a join and a preview, the project's lent bytes too. Assumes nothing.
 use Prim.Native.Nat.{ℕ, _+_, _*_, _/_, _%_, _<_}
 use mathlib.Core.Path.{_≡_}
 use mathlib.Core.List.{List}
@@ -43,3 +43,8 @@ pub record PacksJoin (k v : List ℕ) (r : ℕ) (x : JoinResult) : Type 0 where
   pub bytes : r / bytesPlace ≡ x .bytes
   pub lent : k ≡ x .lent
   pub left : v ≡ x .left
+
+-- The same of a preview: the number and the bytes v are a join's of a copy, and the project's lent bytes l, which are k afterwards, are not altered.
+pub record PacksPreview (l k v : List ℕ) (r : ℕ) (x : JoinResult) : Type 0 where
+  pub foresees : PacksJoin (x .lent) v r x
+  pub kept : k ≡ l

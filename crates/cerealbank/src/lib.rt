@@ -8,6 +8,7 @@ use joining::Joined;
 use joining::join;
 use joining::join_tag;
 use joining::join_value;
+use joining::preview;
 use joining::which_number;
 ghost use mathlib.Core.Path.{_≡_};
 ghost use Prim.Native.Nat.{_<_};
@@ -15,7 +16,7 @@ ghost use Rattle.answers.specs.Cases.{answerOf};
 ghost use Rattle.answers.specs.Definition.{definition};
 ghost use Rattle.answers.specs.Exported.{tagOf, valueOf, tagPlace, packed};
 ghost use Rattle.joining.specs.Join.{joined};
-ghost use Rattle.cerealbank.specs.Packed.{Packs, JoinFits, PackedJoin, PacksJoin};
+ghost use Rattle.cerealbank.specs.Packed.{Packs, JoinFits, PackedJoin, PacksJoin, PacksPreview};
 
 // The tag in bits 32 to 39, its value in bits 0 to 31.
 fn pack(o: Outcome) -> u64
@@ -61,4 +62,16 @@ pub extern "C" fn cerealbank_join(
     ensures { λ r. ⌜ PacksJoin (now (project .exit)) (now (work .exit)) r (joined (now (project .entry)) length (now (part .entry)) (now (work .entry))) ⌝ }
 {
     pack_join(join(project, length, part, work))
+}
+
+#[no_mangle]
+pub extern "C" fn cerealbank_preview(
+    project: &[u8],
+    length: usize,
+    part: &[u8],
+    work: &mut [u8],
+) -> u64
+    ensures { λ r. ⌜ PacksPreview (now (project .entry)) (now (project .exit)) (now (work .exit)) r (joined (now (project .entry)) length (now (part .entry)) (now (work .entry))) ⌝ }
+{
+    pack_join(preview(project, length, part, work))
 }

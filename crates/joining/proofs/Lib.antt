@@ -5,4 +5,5 @@ pub mod Meaning
 pub mod EitherWay
 pub mod Cases
 pub mod Uses
+pub mod Previews
 pub mod Samples

@@ -11,6 +11,7 @@ use moving::copy;
 ghost use Rattle.joining.specs.Stages.{JudgesBook, RefusesFor, RefusesZeroed, JointJudgeable, JudgesJoint, PartJudgeable, JudgesPart};
 ghost use Rattle.joining.specs.Stages.{ProjectJudgeable, JudgesProject, JointBuffer, Judges};
 ghost use Rattle.joining.specs.Joins.{Joins};
+ghost use Rattle.joining.specs.Previews.{Previews};
 ghost use mathlib.Core.Path.{_≡_};
 ghost use Prim.Native.Nat.{_<_};
 ghost use Rattle.answers.specs.Exported.{tagOf, valueOf};
@@ -154,6 +155,14 @@ pub fn join(project: &mut [u8], length: usize, part: &[u8], work: &mut [u8]) -> 
         copy(&joint, project, LENT);
     }
     joined
+}
+
+// What a join of a copy would say. Not a byte of the project is written.
+pub fn preview(project: &[u8], length: usize, part: &[u8], work: &mut [u8]) -> Joined
+    ensures { λ r. ⌜ Previews (now (project .entry)) (now (project .exit)) length (now (part .entry)) (now (work .entry)) (now (work .exit)) r ⌝ }
+{
+    let mut joint = [0u8; LENT];
+    judge(project, length, part, &mut joint, work)
 }
 
 // The number of a book, its place in the order of checks.

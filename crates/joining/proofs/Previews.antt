@@ -1,0 +1,136 @@
+-- What a preview answers and leaves means what document 02 says, and agrees with a join: on a copy, and on the buffers that the preview leaves. The last two
+-- are proved from the two contracts alone. Assumes nothing.
+use Prim.Native.Nat.{ℕ, _-_, _≤_}
+use native.Mathlib.Decide.{decLe, ℕ-discrete}
+use native.Mathlib.Omega.{arith}
+use mathlib.Core.Path.{_≡_, refl, sym, ap, subst, _∙_}
+use mathlib.Core.Logic.{inl, inr}
+use mathlib.Core.List.{List, []}
+use lib.ListN.{length, take, replicate, length-append, length-replicate}
+use Rattle.calculus.specs.Syntax.{Ty, Term, merge, size-type}
+use Rattle.calculus.specs.Typing.{Typed}
+use Rattle.calculus.proofs.Typing.{typed-size}
+use Rattle.format.specs.Cell.{IsBytes}
+use Rattle.format.specs.Book.{rootTerm, versionOf, typeBook}
+use Rattle.format.specs.Terms.{fromType}
+use Rattle.format.specs.Joint.{joint}
+use Rattle.format.proofs.RoundTrip.{book-length}
+use Rattle.format.proofs.Trees.{type-cells}
+use Rattle.format.proofs.Tests.{rootTerm-small}
+use Rattle.answers.specs.Answer.{Answer, refused, accepted, stopped, Result}
+use Rattle.answers.specs.Engine.{workLength, IsWork, zeros, padded}
+use Rattle.answers.specs.Definition.{check, shown}
+use Rattle.answers.proofs.AllSamples.{in-work}
+use Rattle.answers.proofs.Demands.{work-at-hand}
+use Rattle.joining.specs.declared.Joined.{Joined}
+use Rattle.joining.specs.Join.{JoinResult, joinAnswer, lentLength, afterBooks, afterProject, afterLengths, joined}
+use Rattle.joining.specs.Joins.{Owed, Joins}
+use Rattle.joining.specs.Stages.{Judged}
+use Rattle.joining.specs.Previews.{Previews, Agrees, Agree, ThenJoined}
+use Rattle.joining.proofs.Stages.{not-lent, is-lent}
+use Rattle.joining.proofs.Meaning.{joins}
+use Rattle.joining.proofs.Cases.{never-stopped, join-answer-fixes}
+
+-- ---- the call
+
+-- the size that an accepted join gives is that of the type of the merge
+type-shown : {l k : List ℕ} {n : ℕ} {q w v : List ℕ} {r : Joined} → Joins l k n q w v r → (m : ℕ) → joinAnswer (r .answer) ≡ accepted m →
+    (A : Ty) × Typed [] (merge (rootTerm (take n l)) (rootTerm q)) A × (m ≡ size-type A)
+type-shown {w = w} c m e =
+    let x = c .writes m e in
+    let o = x .3 .owed in
+    let t = o .demand2 .accepts .0 (o .accepts) in
+    let s = ap (λ (y : Result). y .answer) (o .demand2 .shows (t .1 .0) (t .0) (t .1 .1) w (x .1 .work)) in
+    let z : accepted m ≡ accepted (size-type (t .1 .0)) = sym (x .3 .answer) ∙ s in
+    (t .1 .0, subst (λ (y : Term). Typed [] y (t .1 .0)) (x .2 .opens) (t .1 .1), cc)
+
+pub previews : (l : List ℕ) (n : ℕ) (q w : List ℕ) {v d k : List ℕ} {r : Joined} → Judged l d v r (joined l n q w) → IsBytes l → IsBytes q → k ≡ l → Previews l k n q w v r
+previews l n q w j yl yq e =
+    let c = joins l n q w j yl yq refl in
+    record { which = j .which; answer = j .answer; bytes = j .bytes; sized = type-shown c; left = j .left; kept = e; foresees = c }
+
+-- ---- on a copy
+
+-- what is answered, r, and left, v, is the result x
+abbrev Is : JoinResult → List ℕ → Joined → Type 0
+Is x v r = (r .which ≡ x .which) × (joinAnswer (r .answer) ≡ x .answer) × (r .bytes ≡ x .bytes) × (v ≡ x .left)
+
+same-result : (x : JoinResult) (v v' : List ℕ) (r r' : Joined) → Is x v r → Is x v' r' → Agrees v v' r r'
+same-result x v v' r r' c d =
+    let e = join-answer-fixes (r .answer) (r' .answer) (c .1 ∙ sym (d .1)) in
+    record {
+      answer = λ i. record { which = (c .0 ∙ sym (d .0)) i; answer = e i; bytes = (c .2 ∙ sym (d .2)) i };
+      left = c .3 ∙ sym (d .3);
+    }
+
+pub agree : Agree
+agree l k k' n q w v v' r r' p j =
+    same-result (joined l n q w) v v' r r' (p .which, p .answer, p .bytes, p .left) (j .which, j .answer, j .bytes, j .left)
+
+-- ---- on the buffers that the preview leaves
+
+-- no work buffer of 65,536 bytes makes a difference
+check-alike : (b w v : List ℕ) → IsWork w → IsWork v → check b w ≡ check b v
+unfolding check
+check-alike b w v k h = in-work b w (shown (versionOf b)) k ∙ sym (in-work b v (shown (versionOf b)) h)
+
+module _ (l : List ℕ) (n : ℕ) (q w v : List ℕ) (k : IsWork w) (h : IsWork v) where
+  books-alike : (p : List ℕ) → afterLengths p q l w ≡ afterLengths p q l v
+  unfolding afterLengths afterProject afterBooks
+  books-alike p = cc (check-alike p w v k h, check-alike q w v k h, check-alike (joint p q) w v k h)
+
+  joined-alike : joined l n q w ≡ joined l n q v
+  joined-alike =
+      elim (ℕ-discrete (length l) lentLength) [
+        | no u ↦ not-lent l n q w k (inl u) ∙ sym (not-lent l n q v h (inl u))
+        | yes e ↦ elim (decLe n lentLength) [
+          | no u ↦ not-lent l n q w k (inr (omega arith)) ∙ sym (not-lent l n q v h (inr (omega arith)))
+          | yes o ↦
+              is-lent l n q w (record { work = k; long = e; within = o })
+              ∙ books-alike (take n l)
+              ∙ sym (is-lent l n q v (record { work = h; long = e; within = o }))
+        ]
+      ]
+
+-- what an accepted book's check leaves fills the work buffer
+padded-whole : (b : List ℕ) → length b ≤ workLength → IsWork (padded b)
+unfolding padded zeros
+padded-whole b h = length-append b (replicate {A = ℕ} (workLength - length b) 0) ∙ omega (arith, h, length-replicate {A = ℕ} (workLength - length b) 0)
+
+left-whole : (b w : List ℕ) → IsWork w → Owed b → IsWork (check b w .left)
+left-whole b w k o =
+    let t = o .demand2 .accepts .0 (o .accepts) in
+    let A = t .1 .0 in
+    let s = o .demand2 .shows A (t .0) (t .1 .1) w k in
+    let n : length (typeBook (versionOf b) A) ≤ workLength =
+    omega (arith, book-length (versionOf b) (fromType A), type-cells A, typed-size (t .1 .1), rootTerm-small b (o .bytes) (t .0)) in
+    ap (λ (y : Result). length (y .left)) s ∙ padded-whole (typeBook (versionOf b) A) n
+
+module _ {l k : List ℕ} {n : ℕ} {q w v : List ℕ} {r : Joined} (p : Previews l k n q w v r) where
+  -- a work buffer is left as one
+  still-work : IsWork w → IsWork v
+  still-work o = by (joinAnswer (r .answer)) refl
+    where
+      c : Joins l (joined l n q w .lent) n q w v r
+      c = p .foresees
+
+      by : (a : Answer) → joinAnswer (r .answer) ≡ a → IsWork v
+      by (refused m i) e = elim (ℕ-discrete m 1) [
+        | yes u ↦ ap length (c .kept i (e ∙ ap (λ (x : ℕ). refused x i) u)) ∙ o
+        | no u ↦ ap length (c .zeroed m i u e) ∙ work-at-hand
+      ]
+      by (accepted m) e = let x = c .writes m e .3 in ap length (x .left) ∙ left-whole (joint (take n l) q) w o (x .owed)
+      by (stopped s m) e = absurd (never-stopped (r .answer) s m e)
+
+  after : joined l n q w ≡ joined l n q v
+  after =
+      elim (ℕ-discrete (length w) workLength) [
+        | yes o ↦ joined-alike l n q w v o (still-work o)
+        | no u ↦ ap (joined l n q) (sym (p .foresees .kept 0 (p .foresees .first u .answer)))
+      ]
+
+pub then-joined : ThenJoined
+then-joined l k k' n q w v v' r r' p j =
+    let c = subst (λ (x : List ℕ). Joins x k' n q v v' r') (p .kept) j in
+    let d = subst (λ (x : JoinResult). Is x v' r') (sym (after p)) (c .which, c .answer, c .bytes, c .left) in
+    same-result (joined l n q w) v v' r r' (p .which, p .answer, p .bytes, p .left) d

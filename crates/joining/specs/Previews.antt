@@ -1,0 +1,46 @@
+-- Document 02, (vii): what a preview answers and leaves, for every project's lent bytes, every told length, every part and every work buffer; and that it agrees
+-- with a join of a copy. Assumes nothing.
+use Prim.Native.Nat.{ℕ}
+use mathlib.Core.Path.{_≡_}
+use mathlib.Core.List.{List, []}
+use lib.ListN.{take}
+use Rattle.calculus.specs.Syntax.{Ty, merge, size-type}
+use Rattle.calculus.specs.Typing.{Typed}
+use Rattle.format.specs.Book.{rootTerm}
+use Rattle.answers.specs.Answer.{accepted}
+use Rattle.joining.specs.declared.Joined.{Joined}
+use Rattle.joining.specs.Join.{joinAnswer, joined}
+use Rattle.joining.specs.Joins.{Joins}
+
+-- "A preview takes what a join takes": the project's lent bytes l, which are k afterwards, and how many of them hold it, n; the part q; the work buffer w as lent
+-- and v as left; the answer r.
+pub record Previews (l k : List ℕ) (n : ℕ) (q w v : List ℕ) (r : Joined) : Type 0 where
+  -- "It gives the answer
+  pub which : r .which ≡ joined l n q w .which
+  pub answer : joinAnswer (r .answer) ≡ joined l n q w .answer
+  -- and byte count that the join would give on a copy,
+  pub bytes : r .bytes ≡ joined l n q w .bytes
+  -- with the type's size if accepted,
+  pub sized : (m : ℕ) → joinAnswer (r .answer) ≡ accepted m → (A : Ty) × Typed [] (merge (rootTerm (take n l)) (rootTerm q)) A × (m ≡ size-type A)
+  -- and leaves the work buffer alike,
+  pub left : v ≡ joined l n q w .left
+  -- with not a lent byte of the project altered."
+  pub kept : k ≡ l
+  -- so each sentence about a join's answer and work buffer is one about a preview's, the copy being what the join leaves of it
+  pub foresees : Joins l (joined l n q w .lent) n q w v r
+
+-- What a preview answers, r, and leaves, v, and what a join does, r' and v'.
+pub record Agrees (v v' : List ℕ) (r r' : Joined) : Type 0 where
+  -- the book that is meant, the answer, the byte count
+  pub answer : r ≡ r'
+  -- the work buffer
+  pub left : v ≡ v'
+
+-- "Proof: preview and join on a copy agree for every pair of books": whatever the lent bytes, the told length, the part and the work buffer, and whichever two
+-- calls meet the two contracts.
+abbrev pub Agree : Type 0
+Agree = (l k k' : List ℕ) (n : ℕ) (q w v v' : List ℕ) (r r' : Joined) → Previews l k n q w v r → Joins l k' n q w v' r' → Agrees v v' r r'
+
+-- The join may follow on the preview's own buffers: the project as it is then, and the work buffer as the preview left it.
+abbrev pub ThenJoined : Type 0
+ThenJoined = (l k k' : List ℕ) (n : ℕ) (q w v v' : List ℕ) (r r' : Joined) → Previews l k n q w v r → Joins k k' n q v v' r' → Agrees v v' r r'
