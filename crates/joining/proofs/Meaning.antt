@@ -236,14 +236,14 @@ module _ (l : List ℕ) (n : ℕ) (q w : List ℕ) {v d : List ℕ} {r : Joined}
               (j .which ∙ t .0, t .1, t .2, rw (z, j .left, j .bytes) (t .3));
         }
 
-    -- the lent bytes have the length that is asked for, where there is a joint to write
-    pub lent-long : 0 < r .bytes → length l ≡ lentLength
-    lent-long h = bytes-lent (ends l n q w) (rw (j .bytes) at h) .long
+    -- where there is a joint to write, what is lent has the lengths that are asked for
+    pub lent-here : 0 < r .bytes → Lent l n w
+    lent-here h = bytes-lent (ends l n q w) (rw (j .bytes) at h)
 
     -- the copy of all of them is the joint's buffer
     pub copied-lent : {k : List ℕ} → 0 < r .bytes → length d ≡ lentLength → Copies d l k lentLength → k ≡ joined l n q w .lent
     copied-lent {k} h s c =
-        sym (take-all lentLength k (omega (arith, c .long, lent-long h)))
+        sym (take-all lentLength k (omega (arith, c .long, lent-here h .long)))
         ∙ c .first
         ∙ take-all lentLength d (omega (arith, s))
         ∙ j .written h

@@ -2,7 +2,7 @@
 use native.Mathlib.Omega.{arith}
 use mathlib.Core.Path.{refl}
 use Rattle.answers.specs.Engine.{zeros}
-use Rattle.joining.proofs.Meaning.{joins, lent-long, copied-lent}
+use Rattle.joining.proofs.Meaning.{joins, lent-here, copied-lent}
 use borrow.Author.Needs.{needs}
 use Rattle.joining.proofs.join.Statement.{statement}
 use Rattle.joining.proofs.join.Tie as tie
@@ -24,7 +24,7 @@ copy-requires c κs =
     let slice-known = c .before .before .before .before .before .before .before .before .before .before .before .before .before .slice-known in
     let shared-slice-known = c .before .before .before .before .before .before .before .before .before .before .before .before .shared-slice-known in
     let if1 = c .before .before .if1 in
-    record { from = omega arith; to = omega (arith, lent-long _ _ _ _ (judge .ensures .says) (λ i. slice-known .given i .fits) (λ i. shared-slice-known .given i .fits) (if1 .taken)) }
+    record { from = omega arith; to = omega (arith, lent-here _ _ _ _ (judge .ensures .says) (λ i. slice-known .given i .fits) (λ i. shared-slice-known .given i .fits) (if1 .taken) .long) }
 
 same-length : tie.Need-same-length
 same-length c = search needs
