@@ -1,4 +1,5 @@
--- `joining::preview` meets its contract. Assumes nothing.
+-- `joining::preview` meets its contract: a judgement on a buffer of its own says what a join of a copy says.
+-- Assumes nothing.
 use mathlib.Core.Path.{refl}
 use Rattle.answers.specs.Engine.{zeros}
 use Rattle.joining.proofs.Previews.{previews}
