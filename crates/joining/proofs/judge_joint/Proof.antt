@@ -27,10 +27,7 @@ same-length c = search needs
 
 returns : tie.Need-returns
 returns c =
-    let pre = c .before .before .before .before .before .before .before .before .before .pre in
-    let if1 = c .before .before .before .before .if1 in
-    let refuse-zeroed = c .before .before .refuse-zeroed in
-    full-judged (pre) (omega (arith, if1 .taken)) (refuse-zeroed .ensures)
+    full-judged (c .before .before .before .before .before .before .before .before .before .pre) (omega (arith, c .before .before .before .before .if1 .taken)) (c .before .before .refuse-zeroed .ensures)
 
 write-joint-requires : tie.Need-write-joint-requires
 write-joint-requires c κs =
