@@ -44,4 +44,4 @@ module _ {l k : List ℕ} {n : ℕ} {q w v : List ℕ} {j : Joined} (c : Preview
   preview-fits = join-fits (c .foresees) f
 
   pub packs-preview : {r : ℕ} → PackedJoin j r → PacksPreview l k v r (joined l n q w)
-  packs-preview p = record { foresees = packs-join (c .foresees) f p; kept = c .kept }
+  packs-preview p = record { foresees = packs-join (c .foresees) f p; unaltered = c .unaltered }

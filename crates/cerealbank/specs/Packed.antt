@@ -47,4 +47,4 @@ pub record PacksJoin (k v : List ℕ) (r : ℕ) (x : JoinResult) : Type 0 where
 -- The same of a preview: the number and the bytes v are a join's of a copy, and the project's lent bytes l, which are k afterwards, are not altered.
 pub record PacksPreview (l k v : List ℕ) (r : ℕ) (x : JoinResult) : Type 0 where
   pub foresees : PacksJoin (x .lent) v r x
-  pub kept : k ≡ l
+  pub unaltered : k ≡ l

@@ -10,6 +10,7 @@ use Rattle.answers.proofs.Cases.{answer-fixes}
 use Rattle.answers.proofs.Demands.{clash}
 use Rattle.joining.specs.declared.JoinAnswer.{JoinAnswer}
 use Rattle.joining.specs.declared.JoinAnswer.the-variants.{Accepted, Refused, Full}
+use Rattle.joining.specs.declared.Joined.{Joined}
 use Rattle.joining.specs.Join.{joinAnswer}
 use Rattle.joining.proofs.Judging.{refusal-number}
 
@@ -41,3 +42,7 @@ join-answer-fixes (Refused q) Full e = absurd (not-full q (sym e))
 join-answer-fixes Full (Accepted m) e = absurd (clash cc)
 join-answer-fixes Full (Refused r) e = absurd (not-full r e)
 join-answer-fixes Full Full e = refl
+
+-- nor two whole answers with one book, number, value and byte count
+pub same-joined : (r r' : Joined) → r .which ≡ r' .which → joinAnswer (r .answer) ≡ joinAnswer (r' .answer) → r .bytes ≡ r' .bytes → r ≡ r'
+same-joined r r' x a b = let e = join-answer-fixes (r .answer) (r' .answer) a in λ i. record { which = x i; answer = e i; bytes = b i }

@@ -26,10 +26,10 @@ use Rattle.joining.specs.declared.Joined.{Joined}
 use Rattle.joining.specs.Join.{JoinResult, joinAnswer, lentLength, afterBooks, afterProject, afterLengths, joined}
 use Rattle.joining.specs.Joins.{Owed, Joins}
 use Rattle.joining.specs.Stages.{Judged}
-use Rattle.joining.specs.Previews.{Previews, Agrees, Agree, ThenJoined}
+use Rattle.joining.specs.Previews.{Previews, Foreseen, PreviewAgrees, JoinFollows}
 use Rattle.joining.proofs.Stages.{not-lent, is-lent}
 use Rattle.joining.proofs.Meaning.{joins}
-use Rattle.joining.proofs.Cases.{never-stopped, join-answer-fixes}
+use Rattle.joining.proofs.Cases.{never-stopped, same-joined}
 
 -- ---- the call
 
@@ -47,25 +47,23 @@ type-shown {w = w} c m e =
 pub previews : (l : List ℕ) (n : ℕ) (q w : List ℕ) {v d k : List ℕ} {r : Joined} → Judged l d v r (joined l n q w) → IsBytes l → IsBytes q → k ≡ l → Previews l k n q w v r
 previews l n q w j yl yq e =
     let c = joins l n q w j yl yq refl in
-    record { which = j .which; answer = j .answer; bytes = j .bytes; sized = type-shown c; left = j .left; kept = e; foresees = c }
+    record { which = j .which; answer = j .answer; bytes = j .bytes; sized = type-shown c; left = j .left; unaltered = e; foresees = c }
 
 -- ---- on a copy
 
--- what is answered, r, and left, v, is the result x
-abbrev Is : JoinResult → List ℕ → Joined → Type 0
-Is x v r = (r .which ≡ x .which) × (joinAnswer (r .answer) ≡ x .answer) × (r .bytes ≡ x .bytes) × (v ≡ x .left)
-
-same-result : (x : JoinResult) (v v' : List ℕ) (r r' : Joined) → Is x v r → Is x v' r' → Agrees v v' r r'
-same-result x v v' r r' c d =
-    let e = join-answer-fixes (r .answer) (r' .answer) (c .1 ∙ sym (d .1)) in
+-- two work buffers of which the definition makes no difference
+foreseen : {l k k' : List ℕ} {n : ℕ} {q w w' v v' : List ℕ} {r r' : Joined} → joined l n q w ≡ joined l n q w' → Previews l k n q w v r → Joins l k' n q w' v' r' → Foreseen v v' r r'
+foreseen {r = r} {r'} e p j =
     record {
-      answer = λ i. record { which = (c .0 ∙ sym (d .0)) i; answer = e i; bytes = (c .2 ∙ sym (d .2)) i };
-      left = c .3 ∙ sym (d .3);
+      answer = same-joined r r'
+          (p .which ∙ ap (λ (x : JoinResult). x .which) e ∙ sym (j .which))
+          (p .answer ∙ ap (λ (x : JoinResult). x .answer) e ∙ sym (j .answer))
+          (p .bytes ∙ ap (λ (x : JoinResult). x .bytes) e ∙ sym (j .bytes));
+      left = p .left ∙ ap (λ (x : JoinResult). x .left) e ∙ sym (j .left);
     }
 
-pub agree : Agree
-agree l k k' n q w v v' r r' p j =
-    same-result (joined l n q w) v v' r r' (p .which, p .answer, p .bytes, p .left) (j .which, j .answer, j .bytes, j .left)
+pub preview-agrees : PreviewAgrees
+preview-agrees l k k' n q w v v' r r' p j = foreseen refl p j
 
 -- ---- on the buffers that the preview leaves
 
@@ -129,8 +127,5 @@ module _ {l k : List ℕ} {n : ℕ} {q w v : List ℕ} {r : Joined} (p : Preview
         | no u ↦ ap (joined l n q) (sym (p .foresees .kept 0 (p .foresees .first u .answer)))
       ]
 
-pub then-joined : ThenJoined
-then-joined l k k' n q w v v' r r' p j =
-    let c = subst (λ (x : List ℕ). Joins x k' n q v v' r') (p .kept) j in
-    let d = subst (λ (x : JoinResult). Is x v' r') (sym (after p)) (c .which, c .answer, c .bytes, c .left) in
-    same-result (joined l n q w) v v' r r' (p .which, p .answer, p .bytes, p .left) d
+pub join-follows : JoinFollows
+join-follows l k k' n q w v v' r r' p j = foreseen (after p) p (subst (λ (x : List ℕ). Joins x k' n q v v' r') (p .unaltered) j)

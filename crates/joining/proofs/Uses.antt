@@ -21,7 +21,7 @@ use Rattle.joining.specs.declared.Joined.{Joined}
 use Rattle.joining.specs.Join.{joinAnswer, lentLength, written}
 use Rattle.joining.specs.Joins.{Lent, BothAccepted, Joins}
 use Rattle.joining.proofs.EitherWay.{joinable-either-way}
-use Rattle.joining.proofs.Cases.{never-stopped, join-answer-fixes}
+use Rattle.joining.proofs.Cases.{never-stopped, same-joined}
 use Rattle.joining.proofs.Stages.{verdict, turned, passed}
 
 -- Two calls with the same bytes lent, told length, part and work buffer answer and leave the same, to the case of the code's answer.
@@ -32,9 +32,8 @@ pub record Alike (k k' v v' : List ℕ) (r r' : Joined) : Type 0 where
 
 pub calls-agree : {l k k' : List ℕ} {n : ℕ} {q w v v' : List ℕ} {r r' : Joined} → Joins l k n q w v r → Joins l k' n q w v' r' → Alike k k' v v' r r'
 calls-agree {r = r} {r'} c d =
-    let e = join-answer-fixes (r .answer) (r' .answer) (c .answer ∙ sym (d .answer)) in
     record {
-      answer = λ i. record { which = (c .which ∙ sym (d .which)) i; answer = e i; bytes = (c .bytes ∙ sym (d .bytes)) i };
+      answer = same-joined r r' (c .which ∙ sym (d .which)) (c .answer ∙ sym (d .answer)) (c .bytes ∙ sym (d .bytes));
       lent = c .lent ∙ sym (d .lent);
       left = c .left ∙ sym (d .left);
     }
@@ -151,9 +150,8 @@ clauses-agree {l = l} {n = n} {q = q} {w = w} {r = r} {r' = r'} c d =
     let y = leaves l n q w (x .1) in
     let a = y .3 _ _ _ c (s .1) in
     let b = y .3 _ _ _ d (t .1) in
-    let e = join-answer-fixes (r .answer) (r' .answer) (s .1 ∙ sym (t .1)) in
     record {
-      answer = λ i. record { which = (s .0 ∙ sym (t .0)) i; answer = e i; bytes = (a .bytes ∙ sym (b .bytes)) i };
+      answer = same-joined r r' (s .0 ∙ sym (t .0)) (s .1 ∙ sym (t .1)) (a .bytes ∙ sym (b .bytes));
       lent = a .lent ∙ sym (b .lent);
       left = a .left ∙ sym (b .left);
     }

@@ -1,4 +1,4 @@
--- How a join's answer is shown in numbers: a check's tag and value, and as the second figure the book that is meant and the byte count. Assumes nothing.
+-- How the answer of a join, or of a preview, is shown in numbers: a check's tag and value, and as the second figure the book that is meant and the byte count. Assumes nothing.
 use Prim.Native.Nat.{ℕ, _+_, _*_}
 use Rattle.answers.specs.Exported.{tagOf, valueOf, tagPlace}
 use Rattle.joining.specs.declared.Which.{Which}

@@ -25,12 +25,12 @@ pub record Previews (l k : List ℕ) (n : ℕ) (q w v : List ℕ) (r : Joined) :
   -- and leaves the work buffer alike,
   pub left : v ≡ joined l n q w .left
   -- with not a lent byte of the project altered."
-  pub kept : k ≡ l
+  pub unaltered : k ≡ l
   -- so each sentence about a join's answer and work buffer is one about a preview's, the copy being what the join leaves of it
   pub foresees : Joins l (joined l n q w .lent) n q w v r
 
 -- What a preview answers, r, and leaves, v, and what a join does, r' and v'.
-pub record Agrees (v v' : List ℕ) (r r' : Joined) : Type 0 where
+pub record Foreseen (v v' : List ℕ) (r r' : Joined) : Type 0 where
   -- the book that is meant, the answer, the byte count
   pub answer : r ≡ r'
   -- the work buffer
@@ -38,9 +38,9 @@ pub record Agrees (v v' : List ℕ) (r r' : Joined) : Type 0 where
 
 -- "Proof: preview and join on a copy agree for every pair of books": whatever the lent bytes, the told length, the part and the work buffer, and whichever two
 -- calls meet the two contracts.
-abbrev pub Agree : Type 0
-Agree = (l k k' : List ℕ) (n : ℕ) (q w v v' : List ℕ) (r r' : Joined) → Previews l k n q w v r → Joins l k' n q w v' r' → Agrees v v' r r'
+abbrev pub PreviewAgrees : Type 0
+PreviewAgrees = (l k k' : List ℕ) (n : ℕ) (q w v v' : List ℕ) (r r' : Joined) → Previews l k n q w v r → Joins l k' n q w v' r' → Foreseen v v' r r'
 
 -- The join may follow on the preview's own buffers: the project as it is then, and the work buffer as the preview left it.
-abbrev pub ThenJoined : Type 0
-ThenJoined = (l k k' : List ℕ) (n : ℕ) (q w v v' : List ℕ) (r r' : Joined) → Previews l k n q w v r → Joins k k' n q v v' r' → Agrees v v' r r'
+abbrev pub JoinFollows : Type 0
+JoinFollows = (l k k' : List ℕ) (n : ℕ) (q w v v' : List ℕ) (r r' : Joined) → Previews l k n q w v r → Joins k k' n q v v' r' → Foreseen v v' r r'

@@ -1,5 +1,6 @@
 // Joining a part to the project. For every project's bytes, told length, part and work buffer the answer, the book that it means, the byte count, each byte
-// left in the work buffer and each lent byte of the project are fixed. A join is a judgement on a buffer of its own, and then one copy.
+// left in the work buffer and each lent byte of the project are fixed. A join is a judgement on a buffer of its own, and then one copy; a preview is the
+// judgement alone.
 use answers::Outcome;
 use answers::Refusal;
 use answers::cell;
