@@ -26,10 +26,10 @@ pub record Previews (l k : List ℕ) (n : ℕ) (q w v : List ℕ) (r : Joined) :
   pub left : v ≡ joined l n q w .left
   -- with not a lent byte of the project altered."
   pub unaltered : k ≡ l
-  -- so each sentence about a join's answer and work buffer is one about a preview's, the copy being what the join leaves of it
+  -- Every sentence about a join holds of this answer and work buffer, with a copy as the join would leave it.
   pub foresees : Joins l (joined l n q w .lent) n q w v r
 
--- What a preview answers, r, and leaves, v, and what a join does, r' and v'.
+-- What a join answers, r', and leaves in the work buffer, v', is what a preview answered, r, and left, v.
 pub record Foreseen (v v' : List ℕ) (r r' : Joined) : Type 0 where
   -- the book that is meant, the answer, the byte count
   pub answer : r ≡ r'
@@ -41,6 +41,6 @@ pub record Foreseen (v v' : List ℕ) (r r' : Joined) : Type 0 where
 abbrev pub PreviewAgrees : Type 0
 PreviewAgrees = (l k k' : List ℕ) (n : ℕ) (q w v v' : List ℕ) (r r' : Joined) → Previews l k n q w v r → Joins l k' n q w v' r' → Foreseen v v' r r'
 
--- The join may follow on the preview's own buffers: the project as it is then, and the work buffer as the preview left it.
+-- So do a preview and the join that follows it, of the project as it is then, with the work buffer that the preview left.
 abbrev pub JoinFollows : Type 0
 JoinFollows = (l k k' : List ℕ) (n : ℕ) (q w v v' : List ℕ) (r r' : Joined) → Previews l k n q w v r → Joins k k' n q v v' r' → Foreseen v v' r r'
