@@ -61,6 +61,11 @@ uint64_t cerealbank_run(const uint8_t *book, size_t book_len, uint8_t *work, siz
 uint64_t cerealbank_join(uint8_t *project, size_t project_len, size_t length, const uint8_t *part, size_t part_len, uint8_t *work,
                          size_t work_len);
 
+/* What cerealbank_join would say, with the project lent to be read: its answer on a copy of the project, with the byte count that the joint
+   would have, and the work buffer as it would leave it. Not a byte of the project is written. */
+uint64_t cerealbank_preview(const uint8_t *project, size_t project_len, size_t length, const uint8_t *part, size_t part_len, uint8_t *work,
+                            size_t work_len);
+
 #ifdef __cplusplus
 }
 #endif

@@ -201,6 +201,15 @@ extern "C" {
         work: *mut u8,
         work_len: usize,
     ) -> u64;
+    fn cerealbank_preview(
+        project: *const u8,
+        project_len: usize,
+        length: usize,
+        part: *const u8,
+        part_len: usize,
+        work: *mut u8,
+        work_len: usize,
+    ) -> u64;
 }
 
 /// Checks a book: [`Answer::Accepted`] with its type encoded as a book of its own, of the same version, at the start of the work
@@ -227,6 +236,15 @@ pub fn join(project: &mut [u8], length: usize, part: &[u8], work: &mut [u8]) -> 
     // SAFETY: the three slices are valid for their lengths, the first and the last are lent to be written, and no two overlap.
     Joined::unpacked(unsafe {
         cerealbank_join(project.as_mut_ptr(), project.len(), length, part.as_ptr(), part.len(), work.as_mut_ptr(), work.len())
+    })
+}
+
+/// What a [`join`] would say, with the project lent to be read: what it would answer on a copy of the project, the byte count that the joint
+/// would have, and the work buffer as it would leave it. Not a byte of the project is written.
+pub fn preview(project: &[u8], length: usize, part: &[u8], work: &mut [u8]) -> Joined {
+    // SAFETY: the three slices are valid for their lengths, the last alone is lent to be written, and it overlaps neither of the others.
+    Joined::unpacked(unsafe {
+        cerealbank_preview(project.as_ptr(), project.len(), length, part.as_ptr(), part.len(), work.as_mut_ptr(), work.len())
     })
 }
 
