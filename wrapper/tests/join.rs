@@ -211,7 +211,9 @@ fn lengths_that_are_no_projects() {
         }
     }
     let whole = lent(&record(1, 7), PROJECT);
-    for told in [0, 8, 17, 23, PROJECT + 1, PROJECT + 8, 1 << 16, 1 << 32, usize::MAX - 7, usize::MAX] {
+    // Of the long ones, some are the project's own length in their low bits.
+    for told in [0, 8, 17, 23, PROJECT + 1, PROJECT + 8, (1 << 16) + 24, (1 << 32) + 24, (1 << 63) + 24, usize::MAX - 7, usize::MAX]
+    {
         is_refused(&whole, told, &applied(), WORK, Which::Project, 2, 0);
     }
     is_refused(&vec![PAST; PROJECT], PROJECT, &one(), WORK, Which::Project, 3, 0);
