@@ -1,9 +1,9 @@
-//! A join beside the checks that it is made of.
+//! A join beside its preview, and beside the checks that it is made of.
 
 use crate::books::{int, merged};
 use crate::timing::{engine, enough};
 use crate::{cells, head};
-use cerealbank::{join, Answer, PROJECT};
+use cerealbank::{join, preview, Answer, Joined, PROJECT};
 use compare::cells::{zeroed, Cells};
 use compare::engines::Call;
 use compare::extremes::times;
@@ -13,18 +13,28 @@ use std::fs;
 use std::path::Path;
 use std::time::Instant;
 
-/// A join, answered in some way: how many bytes hold the joint.
-type Side = fn(&mut [u8], usize, &[u8], &mut [u8]) -> usize;
+/// A join, answered in some way: how many bytes hold the joint. A preview says it, and writes none of them.
+struct Side {
+    name: &'static str,
+    writes: bool,
+    call: fn(&mut [u8], usize, &[u8], &mut [u8]) -> usize,
+}
 
-/// The sides, the engine first; another is one more row, and gets its two columns.
-const SIDES: [(&str, Side); 2] = [
-    ("engine", |project, length, part, work| {
-        let joined = join(project, length, part, work);
-        assert!(matches!(joined.answer, Answer::Accepted { .. }), "{joined:?}");
-        joined.bytes
-    }),
-    ("evaluator", |project, length, part, work| evaluator::join(project, length, part, work).bytes),
+/// The sides: the engine's join, the engine's preview, and others; another is one more row, and gets its two columns.
+const SIDES: [Side; 3] = [
+    Side { name: "join", writes: true, call: |project, length, part, work| bytes(join(project, length, part, work)) },
+    Side { name: "preview", writes: false, call: |project, length, part, work| bytes(preview(project, length, part, work)) },
+    Side {
+        name: "evaluator",
+        writes: true,
+        call: |project, length, part, work| evaluator::join(project, length, part, work).bytes,
+    },
 ];
+
+fn bytes(joined: Joined) -> usize {
+    assert!(matches!(joined.answer, Answer::Accepted { .. }), "{joined:?}");
+    joined.bytes
+}
 
 /// A project and a part.
 type Pair = (String, [Vec<u8>; 2]);
@@ -76,12 +86,12 @@ fn pairs() -> Vec<Pair> {
 fn joint([project, part]: &[Vec<u8>; 2]) -> Vec<u8> {
     let mut lent = project.clone();
     lent.resize(PROJECT, 0);
-    let bytes = SIDES[0].1(&mut lent, project.len(), part, &mut vec![0; WORK]);
+    let bytes = (SIDES[0].call)(&mut lent, project.len(), part, &mut vec![0; WORK]);
     lent.truncate(bytes);
     lent
 }
 
-/// The least seconds of each side's join, and then of the engine's checks of the project, of the part and of the joint.
+/// The least seconds of each side, forward and back in turn, and then of the engine's checks of the project, of the part and of the joint.
 fn least(pair: &[Vec<u8>; 2]) -> Vec<f64> {
     let joint = joint(pair);
     let [project, part] = pair;
@@ -89,13 +99,16 @@ fn least(pair: &[Vec<u8>; 2]) -> Vec<f64> {
     let mut seconds = vec![f64::MAX; SIDES.len() + 3];
     let start = Instant::now();
     for round in 1..=4_000 {
-        for (least, (name, side)) in seconds.iter_mut().zip(SIDES) {
+        for turn in 0..SIDES.len() {
+            let at = if round % 2 == 0 { turn } else { SIDES.len() - 1 - turn };
+            let Side { name, writes, call } = SIDES[at];
             lent[..project.len()].copy_from_slice(project);
             work.fill(0xA5);
             let from = Instant::now();
-            let bytes = side(&mut lent, project.len(), part, &mut work);
-            *least = least.min(from.elapsed().as_secs_f64());
-            assert!(lent[..bytes] == joint, "{name} joins to other bytes");
+            let bytes = call(&mut lent, project.len(), part, &mut work);
+            seconds[at] = seconds[at].min(from.elapsed().as_secs_f64());
+            let left = if writes { &joint } else { project };
+            assert!(bytes == joint.len() && lent.starts_with(left), "{name}: other bytes");
         }
         for (least, book) in seconds[SIDES.len()..].iter_mut().zip([project, part, &joint]) {
             work.fill(0xA5);
@@ -115,15 +128,16 @@ fn us(seconds: f64) -> String {
 }
 
 pub fn joins(title: &str) {
-    let others = SIDES[1..].iter().map(|(name, _)| format!(", {name} μs, engine / {name}")).collect::<String>();
+    let others = SIDES[2..].iter().map(|Side { name, .. }| format!(", {name} μs, engine / {name}")).collect::<String>();
     let checks = "check of the project μs, of the part μs, of the joint μs, join / three checks";
-    head(title, &format!("project and part, cells of the joint, join μs, {checks}{others}"));
+    head(title, &format!("project and part, cells of the joint, join μs, preview μs, preview / join, {checks}{others}"));
     for (name, pair) in pairs() {
         let seconds = on_large_stack(|| least(&pair));
         let (sides, checks) = seconds.split_at(SIDES.len());
         let over = sides[0] / checks.iter().sum::<f64>();
         let checks: Vec<String> = checks.iter().map(|&seconds| us(seconds)).collect();
-        let others = sides[1..].iter().map(|&other| format!(" {} | {:.2} |", us(other), sides[0] / other)).collect::<String>();
-        println!("| {name} | {} | {} | {} | {over:.2} |{others}", cells(&joint(&pair)), us(sides[0]), checks.join(" | "));
+        let others = sides[2..].iter().map(|&other| format!(" {} | {:.2} |", us(other), sides[0] / other)).collect::<String>();
+        let both = format!("{} | {} | {:.2}", us(sides[0]), us(sides[1]), sides[1] / sides[0]);
+        println!("| {name} | {} | {both} | {} | {over:.2} |{others}", cells(&joint(&pair)), checks.join(" | "));
     }
 }

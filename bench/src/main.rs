@@ -239,11 +239,14 @@ const TABLES: [(&str, Table); 17] = [
     ("Version 2 beside version 1: check", |title| table(title, &TWO, Call::Check, &books::both_versions())),
     ("Version 2 beside version 1: run, limit 10,000", |title| table(title, &TWO, DESK, &books::both_versions())),
     ("The sample books: check, and run with limit 10,000", samples),
-    ("Joins, beside the checks that they are made of", joins::joins),
+    ("Joins, beside their previews and the checks that they are made of", joins::joins),
     ("Growth: the check", growth_of_the_check),
     ("Growth: a step of a function that calls itself within records", growth_of_a_step),
     ("The largest readings: the one step alone", casts),
-    ("Stack: the most that a book takes, run with limits 0, 1, 2, 3, 10 and 10,000, and joined with the top value", stack::stack),
+    (
+        "Stack: the most that a book takes, run with limits 0, 1, 2, 3, 10 and 10,000, and joined and previewed with the top value",
+        stack::stack,
+    ),
 ];
 
 fn main() -> ExitCode {

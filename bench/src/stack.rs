@@ -2,7 +2,7 @@
 
 use crate::books::costly;
 use crate::timing::engine;
-use cerealbank::{join, PROJECT};
+use cerealbank::{join, preview, Joined, PROJECT};
 use compare::deepest::{deepest, Deep};
 use compare::engines::Call;
 use compare::extremes::extremes;
@@ -26,13 +26,13 @@ fn ask(calls: &[Call], book: &[u8]) {
 }
 
 /// A book as the project, and as the part. The other is the top value, of version 2.
-fn join_both_ways(book: &[u8]) {
+fn both_ways(book: &[u8], call: fn(&mut [u8], usize, &[u8], &mut [u8]) -> Joined) {
     let (mut project, mut work) = (vec![0; PROJECT], vec![0; WORK]);
     let top = [18, 0, 0, 0, 0, 0, 0, 0, TRAILER, 2, 1, 0, 0, 0, 0, 0];
     for (one, part) in [(book, &top[..]), (&top, book)] {
         let held = one.len().min(PROJECT);
         project[..held].copy_from_slice(&one[..held]);
-        join(&mut project, one.len(), part, &mut work);
+        call(&mut project, one.len(), part, &mut work);
     }
 }
 
@@ -43,14 +43,15 @@ fn books() -> Vec<Deep> {
 }
 
 pub fn stack(title: &str) {
-    crate::head(title, "books, how many, check KiB, run KiB, the run that takes most, join KiB");
+    crate::head(title, "books, how many, check KiB, run KiB, the run that takes most, join KiB, preview KiB");
     let books = on_large_stack(books);
     let runs = [0, 1, 2, 3, 10, 10_000].map(|limit| Call::Run { limit });
     for group in books.chunk_by(|one, other| one.group == other.group) {
         let group: Vec<&Deep> = group.iter().collect();
         let (check, _) = most(|book| ask(&[Call::Check], book), &group);
         let (run, name) = most(|book| ask(&runs, book), &group);
-        let (join, _) = most(join_both_ways, &group);
-        println!("| {} | {} | {check} | {run} | {name} | {join} |", group[0].group, group.len());
+        let (joined, _) = most(|book| both_ways(book, join), &group);
+        let (previewed, _) = most(|book| both_ways(book, |p, length, part, work| preview(p, length, part, work)), &group);
+        println!("| {} | {} | {check} | {run} | {name} | {joined} | {previewed} |", group[0].group, group.len());
     }
 }

@@ -1,5 +1,5 @@
-/* Joins the part in the second file to the project in the first, and prints which book the answer means and the answer, and of an accepted joint
-   its bytes and its cells. Both files stay as they are. */
+/* Previews the join of the part in the second file to the project in the first, and joins them. Prints of both calls which book the answer means, the
+   answer, and the bytes of an accepted joint, and then its cells. Both files stay as they are. */
 
 #include <inttypes.h>
 #include <stdio.h>
@@ -45,6 +45,15 @@ static const char *book_of(uint64_t answer)
     exit(1);
 }
 
+static void print_answer(const char *call, uint64_t answer)
+{
+    uint32_t tag = CEREALBANK_TAG(answer), value = CEREALBANK_VALUE(answer);
+    if (tag == CEREALBANK_ACCEPTED)
+        printf("%s: %s accepted %" PRIu32 ", %" PRIu32 " bytes\n", call, book_of(answer), value, CEREALBANK_BYTES(answer));
+    else
+        printf("%s: %s refused %" PRIu32 " %" PRIu32 "\n", call, book_of(answer), tag, value);
+}
+
 /* A line a cell, up to the trailer: its number, kind, label and the fields a, b and c, which are little-endian. */
 static void print_cells(uint32_t bytes)
 {
@@ -66,12 +75,10 @@ int main(int argc, char **argv)
     if (part_length > sizeof part)
         part_length = sizeof part;
 
+    /* The project is as it was after a preview. A join writes the joint over it, or leaves it as it was. */
+    print_answer("preview", cerealbank_preview(project, sizeof project, length, part, part_length, work, sizeof work));
     uint64_t answer = cerealbank_join(project, sizeof project, length, part, part_length, work, sizeof work);
-    uint32_t tag = CEREALBANK_TAG(answer), value = CEREALBANK_VALUE(answer), bytes = CEREALBANK_BYTES(answer);
-    if (tag == CEREALBANK_ACCEPTED) {
-        printf("%s accepted %" PRIu32 "\nbytes %" PRIu32 "\n", book_of(answer), value, bytes);
-        print_cells(bytes);
-    } else
-        printf("%s refused %" PRIu32 " %" PRIu32 "\n", book_of(answer), tag, value);
+    print_answer("join", answer);
+    print_cells(CEREALBANK_BYTES(answer));
     return 0;
 }

@@ -1,7 +1,7 @@
-//! Joins the part in the second file to the project in the first, and prints which book the answer means and the answer, and of an accepted
-//! joint its bytes and its cells. Both files stay as they are.
+//! Previews the join of the part in the second file to the project in the first, and joins them. Prints of both calls which book the answer
+//! means, the answer, and the bytes of an accepted joint, and then its cells. Both files stay as they are.
 
-use cerealbank::{join, Answer, Which, PROJECT, WORK};
+use cerealbank::{join, preview, Answer, Joined, Which, PROJECT, WORK};
 use std::{env, fs, io};
 
 fn name(which: Which) -> &'static str {
@@ -9,6 +9,15 @@ fn name(which: Which) -> &'static str {
         Which::Project => "project",
         Which::Part => "part",
         Which::Joint => "joint",
+    }
+}
+
+fn print_answer(call: &str, joined: Joined) {
+    let which = name(joined.which);
+    match joined.answer {
+        Answer::Accepted { size } => println!("{call}: {which} accepted {size}, {} bytes", joined.bytes),
+        Answer::Refused { number, cell } => println!("{call}: {which} refused {number} {cell}"),
+        other => unreachable!("{other:?} is no answer"),
     }
 }
 
@@ -30,14 +39,11 @@ fn main() -> io::Result<()> {
     let length = project.len();
     project.resize(PROJECT, 0);
 
-    let joined = join(&mut project, length, &part, &mut vec![0; WORK]);
-    match joined.answer {
-        Answer::Accepted { size } => {
-            println!("{} accepted {size}\nbytes {}", name(joined.which), joined.bytes);
-            print_cells(&project[..joined.bytes]);
-        }
-        Answer::Refused { number, cell } => println!("{} refused {number} {cell}", name(joined.which)),
-        other => unreachable!("{other:?} is no answer"),
-    }
+    let mut work = vec![0; WORK];
+    // The project is as it was after a preview. A join writes the joint over it, or leaves it as it was.
+    print_answer("preview", preview(&project, length, &part, &mut work));
+    let joined = join(&mut project, length, &part, &mut work);
+    print_answer("join", joined);
+    print_cells(&project[..joined.bytes]);
     Ok(())
 }

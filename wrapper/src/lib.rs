@@ -1,10 +1,10 @@
-//! Checks, runs and joins folder books.
+//! Checks, runs and joins folder books, and says before a join what it would say.
 //!
 //! A book is a small typed program in bytes; docs/FORMAT.md gives its format and what every answer means. There are two versions: the
 //! numbers of a version 1 book have 32 bits, those of a version 2 book 48. The calls are lent the books to read and a work buffer of
-//! [`WORK`] bytes to write; a join also writes the project's lent bytes. They write nothing else but their thread's stack, of which
-//! [`STACK`] bytes suffice. Their answer, and every byte that they leave, depend on the bytes lent and the numbers given alone. They
-//! never panic.
+//! [`WORK`] bytes to write; a join also writes the project's lent bytes, which its preview only reads. They write nothing else but their
+//! thread's stack, of which [`STACK`] bytes suffice. Their answer, and every byte that they leave, depend on the bytes lent and the
+//! numbers given alone. They never panic.
 //!
 //! # Example
 //!
@@ -34,21 +34,29 @@
 //! assert!(work.iter().all(|&byte| byte == 0));
 //! ```
 //!
-//! # A join
+//! # A join, and its preview
 //!
-//! A part is joined to a project, whose book stands at the start of [`PROJECT`] bytes:
+//! A part is joined to a project, whose book stands at the start of [`PROJECT`] bytes. A preview is lent the same, and says what the join
+//! would say:
 //!
 #![cfg_attr(not(library_missing), doc = "```")]
 #![cfg_attr(library_missing, doc = "```ignore")]
-//! use cerealbank::{join, Answer, Joined, Which, PROJECT, WORK};
+//! use cerealbank::{join, preview, Answer, Joined, Which, PROJECT, WORK};
 //!
 //! let office = [17, 0, 0, 0, 7, 0, 0, 0, 24, 1, 0, 0, 0, 0, 0, 0, 0xF0, 1, 2, 0, 1, 0, 0, 0]; // a record, label 1, of 7
 //! let site = [17, 0, 0, 0, 1, 0, 0, 0, 0xF0, 1, 1, 0, 0, 0, 0, 0]; // the number 1
 //! let (mut project, mut work) = ([0; PROJECT], [0; WORK]);
 //! project[..office.len()].copy_from_slice(&office);
 //!
+//! // The joint would be accepted, with a type of size 4, and have 40 bytes. The type is in the work buffer, the project as it was.
+//! let previewed = preview(&project, office.len(), &site, &mut work);
+//! assert_eq!(previewed, Joined { which: Which::Joint, answer: Answer::Accepted { size: 4 }, bytes: 40 });
+//! assert_eq!(work[..8], [1, 0, 0, 0, 0, 0, 0, 0]);
+//! assert!(project.starts_with(&office));
+//!
+//! // The join says the same, and writes the joint.
 //! let joined = join(&mut project, office.len(), &site, &mut work);
-//! assert_eq!(joined, Joined { which: Which::Joint, answer: Answer::Accepted { size: 4 }, bytes: 40 });
+//! assert_eq!(joined, previewed);
 //! let joint = &project[..joined.bytes];
 //! assert_eq!(joint[24..], [22, 0, 1, 0, 2, 0, 0, 0, 0xF0, 1, 4, 0, 3, 0, 0, 0]); // merge of cells 1 and 2, 4 cells, root 3
 //!
@@ -83,7 +91,7 @@ const NO_ROOM: u8 = 35;
 const TAG_PLACE: u32 = 32;
 const SECOND_PLACE: u32 = 40;
 
-// Of a join, the second figure is the book that is meant, and above it how many bytes hold the joint.
+// Of a join and of a preview, the second figure is the book that is meant, and above it the byte count.
 const WHICH_PLACE: u32 = 40;
 const BYTES_PLACE: u32 = 48;
 const OF_PROJECT: u8 = 1;
@@ -95,12 +103,12 @@ const OF_JOINT: u8 = 3;
 pub enum Answer {
     /// The book is refused, with the number and cell that docs/FORMAT.md explains.
     Refused {
-        /// 1 to 31, of which 1 to 16 are in use, 16 by a join alone.
+        /// 1 to 31, of which 1 to 16 are in use, 16 by a join or its preview.
         number: u8,
         /// The cell that is meant; 0 for the numbers 1 to 4 and 16.
         cell: u32,
     },
-    /// A check or a join accepted the book and encoded its type.
+    /// A check accepted the book, or a join or its preview the joint, and encoded its type.
     Accepted {
         /// The type's count of cells.
         size: u32,
@@ -146,10 +154,10 @@ impl Answer {
     }
 }
 
-/// Which book a join's answer means.
+/// Which book the answer of a join or of its preview means.
 #[derive(Clone, Copy, PartialEq, Eq, Debug)]
 pub enum Which {
-    /// The book that is lent to be written.
+    /// The book that the part is joined to.
     Project,
     /// The book that is joined to it.
     Part,
@@ -157,19 +165,20 @@ pub enum Which {
     Joint,
 }
 
-/// What a join says.
+/// What a join says, and what its preview says.
 #[derive(Clone, Copy, PartialEq, Eq, Debug)]
 pub struct Joined {
     /// The book that the answer means: the joint, if it is accepted.
     pub which: Which,
     /// [`Answer::Refused`], or [`Answer::Accepted`] with the size of the joint's type; what is neither is [`Answer::Unknown`].
     pub answer: Answer,
-    /// How many of the project's lent bytes hold the joint; 0 when refused.
+    /// How many of the project's lent bytes hold the joint, and of a preview how many would; 0 when refused.
     pub bytes: usize,
 }
 
 impl Joined {
-    /// A join returns what a check returns in bits 0 to 39, the book that is meant in bits 40 to 47 and the byte count in bits 48 to 63.
+    /// A join and a preview return what a check returns in bits 0 to 39, the book that is meant in bits 40 to 47 and the byte count in bits
+    /// 48 to 63.
     fn unpacked(packed: u64) -> Joined {
         let which = match (packed >> WHICH_PLACE) as u8 {
             OF_PROJECT => Some(Which::Project),
@@ -194,6 +203,15 @@ extern "C" {
     fn cerealbank_run(book: *const u8, book_len: usize, work: *mut u8, work_len: usize, limit: u32) -> u64;
     fn cerealbank_join(
         project: *mut u8,
+        project_len: usize,
+        length: usize,
+        part: *const u8,
+        part_len: usize,
+        work: *mut u8,
+        work_len: usize,
+    ) -> u64;
+    fn cerealbank_preview(
+        project: *const u8,
         project_len: usize,
         length: usize,
         part: *const u8,
@@ -230,6 +248,16 @@ pub fn join(project: &mut [u8], length: usize, part: &[u8], work: &mut [u8]) -> 
     })
 }
 
+/// Says what a [`join`] would say, and joins nothing: the book that is meant, the answer and the byte count are those that the join would
+/// give on a copy of the project, with the size of the joint's type if accepted, and the work buffer is left as it would leave it. Not a
+/// byte of the project is written. As both are only read, `project` and `part` may overlap, or be the same bytes.
+pub fn preview(project: &[u8], length: usize, part: &[u8], work: &mut [u8]) -> Joined {
+    // SAFETY: the three slices are valid for their lengths, the last alone is lent to be written, and it overlaps neither of the others.
+    Joined::unpacked(unsafe {
+        cerealbank_preview(project.as_ptr(), project.len(), length, part.as_ptr(), part.len(), work.as_mut_ptr(), work.len())
+    })
+}
+
 #[cfg(test)]
 mod tests {
     use super::{Answer, Joined, Which, ACCEPTED, LAST_REFUSAL, NO_ROOM, PROJECT, SECOND_PLACE, SPENT, TAG_PLACE, TO_VALUE};
@@ -238,7 +266,7 @@ mod tests {
         second << SECOND_PLACE | u64::from(tag) << TAG_PLACE | u64::from(value)
     }
 
-    /// What a join packs: the bytes stand above the book that is meant.
+    /// What a join packs, and a preview: the bytes stand above the book that is meant.
     fn join(bytes: usize, which: u8, tag: u8, value: u32) -> u64 {
         packed((bytes as u64) << 8 | u64::from(which), tag, value)
     }

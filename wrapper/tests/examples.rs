@@ -1,9 +1,9 @@
 //! The desk program, and the example programs in C and in Rust, print the same lines. The lines that they are compared with are the evaluator's
-//! (`evaluator::desk`); those of a join are the wrapper's.
+//! (`evaluator::desk`); those of a join and of its preview are the wrapper's.
 
 #![cfg(not(library_missing))]
 
-use cerealbank::{join, Answer, PROJECT, WORK};
+use cerealbank::{join, preview, Answer, Joined, PROJECT, WORK};
 use std::ffi::OsStr;
 use std::path::{Path, PathBuf};
 use std::process::{Command, Output};
@@ -105,24 +105,28 @@ fn both_examples_print_the_lines_of_the_desk_program() {
     }
 }
 
-/// A join in the examples' lines.
-fn join_lines(project: &[u8], part: &[u8]) -> String {
-    let mut lent = project.to_vec();
-    lent.resize(PROJECT, 0);
-    let joined = join(&mut lent, project.len(), part, &mut vec![0; WORK]);
+/// What a join or its preview says, in the examples' words.
+fn in_words(joined: Joined) -> String {
     let which = format!("{:?}", joined.which).to_lowercase();
     match joined.answer {
-        Answer::Refused { number, cell } => format!("{which} refused {number} {cell}\n"),
-        Answer::Accepted { size } => {
-            let cells = lent[..joined.bytes - 8].chunks(8).map(|cell| {
-                let field = |at: usize| u16::from_le_bytes([cell[at], cell[at + 1]]);
-                format!(" {} {} {} {} {}\n", cell[0], cell[1], field(2), field(4), field(6))
-            });
-            let cells: String = cells.enumerate().map(|(number, cell)| format!("{number}{cell}")).collect();
-            format!("{which} accepted {size}\nbytes {}\n{cells}", joined.bytes)
-        }
+        Answer::Refused { number, cell } => format!("{which} refused {number} {cell}"),
+        Answer::Accepted { size } => format!("{which} accepted {size}, {} bytes", joined.bytes),
         other => panic!("{other:?}"),
     }
+}
+
+/// A join and its preview in the examples' lines.
+fn join_lines(project: &[u8], part: &[u8]) -> String {
+    let (mut lent, mut work) = (project.to_vec(), vec![0; WORK]);
+    lent.resize(PROJECT, 0);
+    let previewed = preview(&lent, project.len(), part, &mut work);
+    let joined = join(&mut lent, project.len(), part, &mut work);
+    let cells = lent[..joined.bytes.saturating_sub(8)].chunks(8).map(|cell| {
+        let field = |at: usize| u16::from_le_bytes([cell[at], cell[at + 1]]);
+        format!(" {} {} {} {} {}\n", cell[0], cell[1], field(2), field(4), field(6))
+    });
+    let cells: String = cells.enumerate().map(|(number, cell)| format!("{number}{cell}")).collect();
+    format!("preview: {}\njoin: {}\n{cells}", in_words(previewed), in_words(joined))
 }
 
 #[test]
@@ -133,8 +137,11 @@ fn both_examples_join_as_the_wrapper_does() {
     let pairs: Vec<[PathBuf; 2]> = books().into_iter().flat_map(both_ways).collect();
     for program in [in_c("join"), in_rust("join")] {
         let joined = printed(&program, &[&office, &site]);
-        assert_eq!(joined, "joint accepted 5\nbytes 48\n0 17 0 0 12 0\n1 24 1 0 0 0\n2 17 0 0 34 0\n3 24 2 2 0 0\n4 22 0 1 3 0\n");
-        assert_eq!(printed(&program, &[&office, &at("refusals/12")]), "part refused 12 2\n");
+        let cells = ["0 17 0 0 12 0", "1 24 1 0 0 0", "2 17 0 0 34 0", "3 24 2 2 0 0", "4 22 0 1 3 0"];
+        let answers = ["preview: joint accepted 5, 48 bytes", "join: joint accepted 5, 48 bytes"];
+        assert_eq!(joined.lines().collect::<Vec<_>>(), [&answers[..], &cells].concat());
+        let refused = printed(&program, &[&office, &at("refusals/12")]);
+        assert_eq!(refused, "preview: part refused 12 2\njoin: part refused 12 2\n");
         for [project, part] in &pairs {
             let expected = join_lines(&fs::read(project).expect("a book"), &fs::read(part).expect("a book"));
             assert!(printed(&program, &[project, part]) == expected, "{} {project:?} {part:?}", program.display());

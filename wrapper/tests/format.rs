@@ -1,18 +1,20 @@
 //! What docs/FORMAT.md and books/README.md say of books is what the engine answers and leaves. A block of FORMAT.md that is marked `book` has a
 //! line a cell, in hexadecimal, and then each answer with the bytes that it leaves; what follows a `;` is for people. One that is marked `join` has
-//! a project and a part, and then the answer with the joint.
+//! a project and a part, and then the answer with the joint; its preview is asked first.
 
 #![cfg(not(library_missing))]
 
 mod pages;
+mod previewing;
 
-use cerealbank::{check, join, run, Answer, Joined, Which, PROJECT, WORK};
+use cerealbank::{check, join, preview, run, Answer, Joined, Which, PROJECT, WORK};
 use evaluator::{Cell, Field, Row, Sort, Version, CELL, TABLE};
 use pages::{answer, asked, at, books_in, cut, number, padded, quoted, text, LIMIT};
+use previewing::join_as_previewed;
 use std::collections::BTreeSet;
 use std::fs;
 
-/// The refusals; the last is of a join alone.
+/// The refusals; the last is of a join and its preview.
 const REFUSALS: std::ops::RangeInclusive<u8> = 1..=16;
 const OF_A_BOOK: std::ops::RangeInclusive<u8> = 1..=15;
 /// The limit of the desk program.
@@ -204,7 +206,7 @@ fn the_sample_joins_of_the_definition_are_answered_as_they_say() {
         lent.resize(PROJECT, 0xAA);
         let mut after = if joined.bytes == 0 { lent.clone() } else { joint };
         after.resize(PROJECT, 0);
-        assert_eq!(asked(|work| join(&mut lent, project.len(), &part, work)), (joined, padded(&left)), "{line}");
+        assert_eq!(asked(|work| join_as_previewed(&mut lent, project.len(), &part, work)), (joined, padded(&left)), "{line}");
         assert!(lent == after, "{line}");
     }
 }
@@ -219,6 +221,9 @@ fn refusal_1_is_of_another_length_and_touches_nothing() {
         for book in [&book[..], &[]] {
             assert_eq!(check(book, &mut work), answers[0].0);
             assert_eq!(run(book, &mut work, LIMIT), answers[0].0);
+            let of_joint = Joined { which: Which::Joint, answer: answers[0].0, bytes: 0 };
+            assert_eq!(join(&mut [], 0, book, &mut work), of_joint);
+            assert_eq!(preview(&[], 0, book, &mut work), of_joint);
         }
         assert!(work.iter().all(|&byte| byte == 9));
     }
@@ -250,11 +255,12 @@ fn the_joins_are_answered_as_shown() {
         let (mut lent, mut work) = (project.to_vec(), vec![9; WORK]);
         lent.resize(PROJECT, 9);
         let before = lent.clone();
-        let joined = join(&mut lent, project.len(), part, &mut work);
+        let joined = join_as_previewed(&mut lent, project.len(), part, &mut work);
         assert_eq!(joined, Joined { which: Which::Joint, answer: *answer, bytes: joint.len() });
         match answer {
             Answer::Accepted { .. } => {
-                assert!(lent[..joint.len()] == joint[..] && lent[joint.len()..].iter().all(|&byte| byte == 0))
+                assert!(lent[..joint.len()] == joint[..] && lent[joint.len()..].iter().all(|&byte| byte == 0));
+                assert!(page.contains(&format!("joint's {} bytes for a byte count", joint.len())));
             }
             _ => assert!(lent == before),
         }

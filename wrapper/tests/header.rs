@@ -1,8 +1,8 @@
 //! The header, the wrapper's own declarations and the engine's exported functions say the same: names, parameters and results. The
 //! header and the wrapper have the same lengths, and the tags, the places and the numbers of a join's books of the definitions;
-//! docs/FORMAT.md has the tags. Nothing else compares them.
+//! docs/FORMAT.md has the functions and the tags. Nothing else compares them.
 
-use std::collections::BTreeMap;
+use std::collections::{BTreeMap, BTreeSet};
 use std::fs;
 use std::path::Path;
 
@@ -138,6 +138,28 @@ fn the_header_and_the_wrapper_have_the_same_lengths() {
     assert_eq!(constants()["WORK"], cerealbank::WORK);
     assert_eq!(constants()["PROJECT"], cerealbank::PROJECT);
     assert_eq!(constants()["STACK"], cerealbank::STACK);
+}
+
+/// "A preview takes what a join takes", with the project lent to be read.
+#[test]
+fn a_preview_takes_what_a_join_takes() {
+    let (mut parameters, result) = header()["cerealbank_join"].clone();
+    assert_eq!(parameters[0], "uint8_t *project");
+    parameters[0].insert_str(0, "const ");
+    assert_eq!(header()["cerealbank_preview"], (parameters, result));
+}
+
+#[test]
+fn the_format_names_the_functions_of_the_header() {
+    let format = read("../docs/FORMAT.md");
+    let (_, after) = format.split_once("`wrapper/cerealbank.h` declares ").expect("the functions");
+    let (names, _) = after.split_once('.').expect("the end of the sentence");
+    let names: BTreeSet<&str> = names.split('`').skip(1).step_by(2).collect();
+    assert_eq!(names, header().keys().map(String::as_str).collect());
+    let (_, table) = format.split_once("\n| answer | from |").expect("the table of answers");
+    let rows = table.lines().skip(2).map_while(|line| line.split(" | ").nth(1));
+    let from: BTreeSet<String> = rows.flat_map(|calls| calls.split(", ")).map(|call| format!("cerealbank_{call}")).collect();
+    assert_eq!(from, names.into_iter().chain(["cerealbank_all"]).map(str::to_string).collect());
 }
 
 /// The numbers that are no tags: lengths, and the books of a join.

@@ -1,9 +1,15 @@
 //! Joins through the wrapper, byte for byte: the answer, the book that it means, the byte count, every lent byte of the project and every byte
-//! of the work buffer.
+//! of the work buffer. Each is previewed first.
 
 #![cfg(not(library_missing))]
 
-use cerealbank::{check, join, Answer, Joined, Which, PROJECT, WORK};
+mod previewing;
+
+use cerealbank::{check, preview, Answer, Joined, Which, PROJECT, WORK};
+use previewing::{join_as_previewed, ReadOnly};
+use std::env;
+use std::ops::Range;
+use std::process::{Command, Stdio};
 
 /// What the lent bytes past the project, and the work buffer, hold before the call.
 const PAST: u8 = 0xAA;
@@ -69,18 +75,32 @@ fn lent(book: &[u8], length: usize) -> Vec<u8> {
     lent
 }
 
+/// The same lent bytes, and with others past the project: zeros, trailers, and all of them over again.
+fn refilled(lent: &[u8], told: usize) -> Vec<Vec<u8>> {
+    let (project, past) = lent.split_at(told.min(lent.len()));
+    let [zeros, trailers] = [0, 0xF0].map(|byte| vec![byte; past.len()]);
+    let copies = lent.iter().copied().cycle().take(past.len()).collect();
+    [past.to_vec(), zeros, trailers, copies].map(|past| [project, &past].concat()).to_vec()
+}
+
 fn refused(which: Which, number: u8, cell: u32) -> Joined {
     Joined { which, answer: Answer::Refused { number, cell }, bytes: 0 }
 }
 
 /// Joins, and sees that it is answered so: a refusal leaves every lent byte, and the work buffer as a check does.
 fn is_refused(project: &[u8], told: usize, part: &[u8], work: usize, which: Which, number: u8, cell: u32) {
-    let (mut after, mut left) = (project.to_vec(), vec![PAST; work]);
-    let joined = join(&mut after, told, part, &mut left);
-    assert_eq!(joined, refused(which, number, cell));
-    assert!(after == project, "a lent byte has changed: {joined:?}");
-    let kept = if number == 1 { PAST } else { 0 };
-    assert!(left.iter().all(|&byte| byte == kept), "the work buffer: {joined:?}");
+    for project in refilled(project, told) {
+        let (mut after, mut left) = (project.clone(), vec![PAST; work]);
+        let joined = join_as_previewed(&mut after, told, part, &mut left);
+        assert_eq!(joined, refused(which, number, cell));
+        assert!(after == project, "a lent byte has changed: {joined:?}");
+        let kept = if number == 1 { PAST } else { 0 };
+        assert!(left.iter().all(|&byte| byte == kept), "the work buffer: {joined:?}");
+    }
+}
+
+fn accepted(size: u32, bytes: usize) -> Joined {
+    Joined { which: Which::Joint, answer: Answer::Accepted { size }, bytes }
 }
 
 fn pair_is_refused(project: &[u8], part: &[u8], which: Which, number: u8, cell: u32) {
@@ -89,16 +109,18 @@ fn pair_is_refused(project: &[u8], part: &[u8], which: Which, number: u8, cell: 
 
 /// Joins two books to this one; the work buffer is left as a check of it leaves it, with the same answer.
 fn is_joined(project: &[u8], part: &[u8], size: u32, joint: &[u8]) {
-    let (mut after, mut left) = (lent(project, PROJECT), vec![PAST; WORK]);
-    let joined = join(&mut after, project.len(), part, &mut left);
-    assert_eq!(joined, Joined { which: Which::Joint, answer: Answer::Accepted { size }, bytes: joint.len() });
-    assert_eq!(&after[..joint.len()], joint);
-    assert!(after[joint.len()..].iter().all(|&byte| byte == 0), "the rest is not zero");
-    let mut checked = vec![1; WORK];
-    assert_eq!(check(joint, &mut checked), joined.answer);
-    assert!(left == checked, "the work buffer is not that of a check");
-    let trailer = left.chunks(8).find(|row| row[0] == 0xF0).expect("a type");
-    assert_eq!(trailer[1], joint[joint.len() - 7], "the version of the type");
+    for mut after in refilled(&lent(project, PROJECT), project.len()) {
+        let mut left = vec![PAST; WORK];
+        let joined = join_as_previewed(&mut after, project.len(), part, &mut left);
+        assert_eq!(joined, accepted(size, joint.len()));
+        assert_eq!(&after[..joint.len()], joint);
+        assert!(after[joint.len()..].iter().all(|&byte| byte == 0), "the rest is not zero");
+        let mut checked = vec![1; WORK];
+        assert_eq!(check(joint, &mut checked), joined.answer);
+        assert!(left == checked, "the work buffer is not that of a check");
+        let trailer = left.chunks(8).find(|row| row[0] == 0xF0).expect("a type");
+        assert_eq!(trailer[1], joint[joint.len() - 7], "the version of the type");
+    }
 }
 
 #[test]
@@ -189,7 +211,9 @@ fn lengths_that_are_no_projects() {
         }
     }
     let whole = lent(&record(1, 7), PROJECT);
-    for told in [0, 8, 17, 23, PROJECT + 1, PROJECT + 8, 1 << 16, 1 << 32, usize::MAX - 7, usize::MAX] {
+    // Of the long ones, some are the project's own length in their low bits.
+    for told in [0, 8, 17, 23, PROJECT + 1, PROJECT + 8, (1 << 16) + 24, (1 << 32) + 24, (1 << 63) + 24, usize::MAX - 7, usize::MAX]
+    {
         is_refused(&whole, told, &applied(), WORK, Which::Project, 2, 0);
     }
     is_refused(&vec![PAST; PROJECT], PROJECT, &one(), WORK, Which::Project, 3, 0);
@@ -243,7 +267,7 @@ fn parts_are_joined_one_after_another() {
     let (mut project, mut work) = (lent(&record(0, 0), PROJECT), vec![0; WORK]);
     let mut length = 24;
     for label in 1..=255 {
-        let joined = join(&mut project, length, &record(label, label), &mut work);
+        let joined = join_as_previewed(&mut project, length, &record(label, label), &mut work);
         assert_eq!(joined.answer, Answer::Accepted { size: 3 * u32::from(label) + 2 });
         assert_eq!(joined.bytes, length + 24);
         length = joined.bytes;
@@ -251,4 +275,45 @@ fn parts_are_joined_one_after_another() {
     let mut checked = vec![0; WORK];
     assert_eq!(check(&project[..length], &mut checked), Answer::Accepted { size: 767 });
     assert!(checked == work);
+}
+
+/// Previews with a part that is some of the project's lent bytes: as with a copy of it.
+fn overlaps(books: &[Vec<u8>], part: Range<usize>, said: Joined) {
+    let (whole, told) = (lent(&books.concat(), PROJECT), books[0].len());
+    let (mut work, mut left) = (vec![PAST; WORK], vec![1; WORK]);
+    assert_eq!(join_as_previewed(&mut whole.clone(), told, &whole[part.clone()], &mut work), said);
+    let whole = ReadOnly::of(&whole);
+    assert_eq!(preview(&whole, told, &whole[part], &mut left), said);
+    assert!(left == work, "the work buffer: {said:?}");
+}
+
+/// A preview reads both only, so a project may be its own part, and a part may stand past the project.
+#[test]
+fn a_previews_project_and_part_may_overlap() {
+    overlaps(&[record(1, 7)], 0..24, accepted(5, 48));
+    overlaps(&[book(2, &WIDE)], 0..24, accepted(5, 48));
+    overlaps(&[record(1, 7), one()], 24..40, accepted(4, 40));
+    overlaps(&[tops(2_047)], 0..16_384, accepted(3, PROJECT));
+    overlaps(&[tops(2_048)], 0..16_392, refused(Which::Joint, 16, 0));
+    overlaps(&[doubled(11)], 0..104, refused(Which::Joint, 10, 24));
+    overlaps(&[unequal()], 0..32, refused(Which::Project, 14, 2));
+    overlaps(&[record(1, 7)], 8..24, refused(Which::Part, 4, 0));
+    overlaps(&[record(1, 7)], 0..PROJECT, refused(Which::Part, 3, 0));
+    overlaps(&[record(1, 7)], 24..24, refused(Which::Part, 2, 0));
+}
+
+/// In a program of its own, for it ends there.
+#[test]
+fn a_write_ends_the_program_where_bytes_are_read_only() {
+    const WRITES: &str = "CEREALBANK_TEST_WRITES";
+    let bytes = ReadOnly::of(&one());
+    if env::var_os(WRITES).is_some() {
+        // SAFETY: none, for it is what the program ends at.
+        unsafe { bytes.as_ptr().cast_mut().write_volatile(bytes[0]) };
+        return;
+    }
+    let mut program = Command::new(env::current_exe().expect("this program"));
+    program.args(["--exact", "a_write_ends_the_program_where_bytes_are_read_only"]).env(WRITES, "");
+    let status = program.stdout(Stdio::null()).stderr(Stdio::null()).status().expect("a program");
+    assert_eq!(status.code(), None, "a signal ends it");
 }

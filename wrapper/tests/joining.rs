@@ -3,10 +3,12 @@
 #![cfg(not(library_missing))]
 
 mod pages;
+mod previewing;
 
-use cerealbank::{check, join, run, Answer, Joined, Which, PROJECT, WORK};
+use cerealbank::{check, run, Answer, Joined, Which, PROJECT, WORK};
 use evaluator::{decode, infer, Term, TermShape};
 use pages::{answer, asked, at, books_in, cut, number, padded, quoted, text, LIMIT};
+use previewing::join_as_previewed;
 use std::collections::BTreeSet;
 use std::fs;
 
@@ -96,11 +98,11 @@ fn all() -> Vec<Row> {
     of_files(&page).into_iter().chain(of_counts(&page)).collect()
 }
 
-/// The answer, the project's lent bytes and the work buffer after a join.
+/// The answer, the project's lent bytes and the work buffer after a join, which is previewed.
 fn after_join([project, part]: &[Vec<u8>; 2]) -> (Joined, Vec<u8>, Vec<u8>) {
     let (mut lent, mut work) = (project.clone(), vec![9; WORK]);
     lent.resize(PROJECT, PAST);
-    (join(&mut lent, project.len(), part, &mut work), lent, work)
+    (join_as_previewed(&mut lent, project.len(), part, &mut work), lent, work)
 }
 
 #[test]

@@ -1,8 +1,8 @@
-//! The deepest and the widest books, checked, run and joined, take no more stack than the wrapper and the header promise.
+//! The deepest and the widest books, checked, run, previewed and joined, take no more stack than the wrapper and the header promise.
 
 #![cfg(not(library_missing))]
 
-use cerealbank::{check, join, run, Answer, PROJECT, STACK, WORK};
+use cerealbank::{check, join, preview, run, Answer, Joined, PROJECT, STACK, WORK};
 use compare::deepest::{deepest, Deep};
 use compare::extremes::{extremes, times};
 use compare::stack::{in_stack, taken};
@@ -54,12 +54,12 @@ fn check_and_run(book: &[u8]) {
 const TOP_VALUE: [u8; 16] = [18, 0, 0, 0, 0, 0, 0, 0, 0xF0, 2, 1, 0, 0, 0, 0, 0];
 
 /// A book as the project, as the part, and as both.
-fn join_all_ways(book: &[u8]) {
+fn all_ways(book: &[u8], call: fn(&mut [u8], usize, &[u8], &mut [u8]) -> Joined) {
     let (mut project, mut work) = (vec![0; PROJECT], vec![0; WORK]);
     for (one, part) in [(book, &TOP_VALUE[..]), (&TOP_VALUE, book), (book, book)] {
         let held = one.len().min(PROJECT);
         project[..held].copy_from_slice(&one[..held]);
-        let joined = join(&mut project, one.len(), part, &mut work);
+        let joined = call(&mut project, one.len(), part, &mut work);
         assert!(matches!(joined.answer, Answer::Accepted { .. } | Answer::Refused { .. }), "{joined:?}");
     }
 }
@@ -90,5 +90,10 @@ fn every_book_runs_in_a_mebibyte_and_in_four_fifths_of_the_stack_promised() {
 
 #[test]
 fn every_book_is_joined_in_a_mebibyte_and_in_four_fifths_of_the_stack_promised() {
-    suffices(join_all_ways);
+    suffices(|book| all_ways(book, join));
+}
+
+#[test]
+fn every_book_is_previewed_in_a_mebibyte_and_in_four_fifths_of_the_stack_promised() {
+    suffices(|book| all_ways(book, |project, length, part, work| preview(project, length, part, work)));
 }
