@@ -4,7 +4,7 @@
 use crate::book::{Book, Part};
 use crate::kinds::Kind;
 pub use cerealbank::Which;
-use cerealbank::{Answer, PROJECT, WORK};
+use cerealbank::{Answer, Joined, PROJECT, WORK};
 use std::collections::HashMap;
 
 /// A refusal: its number and its cell.
@@ -59,13 +59,37 @@ pub struct Joint {
     pub found: Vec<u8>,
 }
 
+/// What is told of a joint: how many bytes it has, and its type as a book, of its version.
+pub struct Told {
+    pub bytes: usize,
+    pub found: Vec<u8>,
+}
+
 /// Joins a part to a project, or says which book is refused, and how.
 pub fn join(project: &[u8], part: &[u8]) -> Result<Joint, (Which, Refusal)> {
-    let (mut lent, mut work) = (project.to_vec(), vec![0; WORK]);
-    lent.resize(PROJECT, 0);
+    let (mut lent, mut work) = (lent(project), vec![0; WORK]);
     let joined = cerealbank::join(&mut lent, project.len(), part, &mut work);
+    let Told { bytes, found } = told(joined, &work)?;
+    Ok(Joint { bytes: lent[..bytes].to_vec(), found })
+}
+
+/// What a join would tell.
+pub fn preview(project: &[u8], part: &[u8]) -> Result<Told, (Which, Refusal)> {
+    let mut work = vec![0; WORK];
+    let joined = cerealbank::preview(&lent(project), project.len(), part, &mut work);
+    told(joined, &work)
+}
+
+/// A project in as many bytes as it is lent in; of one that is longer its length tells.
+fn lent(project: &[u8]) -> Vec<u8> {
+    let mut lent = project.to_vec();
+    lent.resize(PROJECT, 0);
+    lent
+}
+
+fn told(joined: Joined, work: &[u8]) -> Result<Told, (Which, Refusal)> {
     match joined.answer {
-        Answer::Accepted { .. } => Ok(Joint { bytes: lent[..joined.bytes].to_vec(), found: Book::left_in(&work).to_vec() }),
+        Answer::Accepted { .. } => Ok(Told { bytes: joined.bytes, found: Book::left_in(work).to_vec() }),
         other => Err((joined.which, refusal(other))),
     }
 }

@@ -1,13 +1,13 @@
 //! The commands, a row each: a later one is one more row, and a function.
 
-use crate::ask::{check, join, run, Ran, Refusal, Stop, NO_ANSWER};
+use crate::ask::{check, join, preview, run, Ran, Refusal, Stop, NO_ANSWER};
 use crate::assemble::assemble;
 use crate::book::Book;
 use crate::cells::{graph, table};
 use crate::explanation::{printed, with_carets};
 use crate::format::{headings, section, NUMBERS};
-use crate::input::{book, form_of, read, text, Form, Input};
-use crate::joining::{accepted, refused};
+use crate::input::{book, form_of, read, shown_name, text, Form, Input};
+use crate::joining::{accepted, refused, would_be_accepted, would_be_refused};
 use crate::layout::lay_out;
 use crate::options::{options, Options, FLAGS};
 use crate::print::{bare_type, laid};
@@ -84,8 +84,8 @@ static COMMANDS: [Command; 6] = [
     Command {
         name: "join",
         arguments: &["PROJECT", "PART"],
-        does: "joins a part to a project: the joint's type, or which book is refused and why",
-        flags: &["-o"],
+        does: "joins a part to a project, or previews it: the joint's type, or which book is refused and why",
+        flags: &["-o", "--preview"],
         run: join_books,
     },
     Command {
@@ -258,7 +258,7 @@ fn check_book(options: &Options, terminal: &mut Terminal) -> Ended {
     }
 }
 
-/// Joins the second book to the first; a part that is left out is standard input.
+/// Joins the second book to the first, or says what that would come to; a part that is left out is standard input.
 fn join_books(options: &Options, terminal: &mut Terminal) -> Ended {
     let (Some(project), part) = (options.first(), options.second()) else {
         return Err(Failure::Call("a project and a part are wanted".into()));
@@ -268,10 +268,17 @@ fn join_books(options: &Options, terminal: &mut Terminal) -> Ended {
     }
     let project = book(Some(project), None).map_err(Failure::File)?;
     let part = book(part, None).map_err(Failure::File)?;
+    match options.preview {
+        true => preview_join(options, &project, &part, terminal),
+        false => make_join(options, &project, &part, terminal),
+    }
+}
+
+fn make_join(options: &Options, project: &Input, part: &Input, terminal: &mut Terminal) -> Ended {
     let joint = match join(&project.bytes, &part.bytes) {
         Ok(joint) => joint,
         Err((which, refusal)) => {
-            terminal.print(&printed(refusal, &refused(&project, &part, which, refusal)));
+            terminal.print(&printed(refusal, &refused(project, part, which, refusal)));
             return Ok(Status::Refused);
         }
     };
@@ -280,9 +287,53 @@ fn join_books(options: &Options, terminal: &mut Terminal) -> Ended {
     }
     // Bytes on standard output stand alone there.
     if options.output.as_ref().is_none_or(|file| file != "-") {
-        terminal.print(&accepted(&joint, &project.labels.with(&part.labels)));
+        terminal.print(&accepted(joint, &project.labels.with(&part.labels)));
     }
     Ok(Status::Done)
+}
+
+/// No file is written, made or opened to be written.
+fn preview_join(options: &Options, project: &Input, part: &Input, terminal: &mut Terminal) -> Ended {
+    match preview(&project.bytes, &part.bytes) {
+        Ok(told) => {
+            let written = would_write(options.output.as_ref())?;
+            terminal.print(&would_be_accepted(project, part, &told, &written));
+            Ok(Status::Done)
+        }
+        Err((which, refusal)) => {
+            terminal.print(&printed(refusal, &would_be_refused(project, part, which, refusal)));
+            Ok(Status::Refused)
+        }
+    }
+}
+
+/// What a join that is accepted would write.
+fn would_write(output: Option<&OsString>) -> Result<String, Failure> {
+    let Some(file) = output else {
+        return Ok("The join would write nothing either: there is no -o FILE.".into());
+    };
+    if file == "-" {
+        return Ok("The join would write the joint to standard output.".into());
+    }
+    let shown = shown_name(file);
+    match is_there(file.as_ref()) {
+        Ok(true) => Ok(format!("The join would replace {shown} with the joint.")),
+        Ok(false) => Ok(format!("The join would write the joint to {shown}.")),
+        Err(error) => Err(Failure::File(format!("{shown}: {error}"))),
+    }
+}
+
+/// Whether a file is there to be replaced. A folder cannot be, and without its folder no file can be made.
+fn is_there(file: &Path) -> io::Result<bool> {
+    match fs::metadata(file) {
+        Ok(there) if there.is_dir() => Err(io::ErrorKind::IsADirectory.into()),
+        Ok(there) => Ok(there.is_file()),
+        Err(error) if error.kind() == io::ErrorKind::NotFound => {
+            let folder = file.parent().ok_or(error)?;
+            fs::metadata(Path::new(".").join(folder)).map(|_| false)
+        }
+        Err(error) => Err(error),
+    }
 }
 
 fn run_book(options: &Options, terminal: &mut Terminal) -> Ended {

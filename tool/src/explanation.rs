@@ -15,17 +15,23 @@ const SHORT: usize = 60;
 const CONTEXT: usize = 2;
 /// The columns that stand before a type or a term.
 const MARGIN: usize = 16;
+/// What stands before the answer that a join would give.
+pub const WOULD_BE: &str = "would be ";
+
+/// What is to be known, under a heading.
+pub type Fact = (&'static str, Vec<String>);
 
 /// A refusal in words, and everything that is shown with it.
 #[derive(Default)]
 pub struct Explanation {
     /// Which book it is of, where there are several.
     pub of: Option<&'static str>,
+    /// Whether it is of a join that would be made.
+    pub foreseen: bool,
     pub sentence: String,
     /// The part, marked.
     pub place: Vec<String>,
-    /// What is to be known, each under a heading.
-    pub facts: Vec<(&'static str, Vec<String>)>,
+    pub facts: Vec<Fact>,
     pub help: Vec<String>,
 }
 
@@ -117,25 +123,33 @@ fn wrapped(text: &str) -> Vec<String> {
     lines
 }
 
+/// Facts below each other, each behind its heading.
+pub fn listed(facts: &[Fact]) -> Vec<String> {
+    let width = facts.iter().map(|(heading, _)| heading.len()).max().unwrap_or(0) + 1;
+    let mut lines = Vec::new();
+    for (heading, fact) in facts {
+        let margins = std::iter::once(format!("{heading}:")).chain(std::iter::repeat(String::new()));
+        lines.extend(fact.iter().zip(margins).map(|(line, margin)| format!("  {margin:width$}  {line}")));
+    }
+    lines
+}
+
 /// The refusals that name a cell.
 const WITH_CELL: std::ops::RangeInclusive<u8> = 5..=15;
 
 /// The words that a refusal is printed in.
 pub fn printed(refusal: Refusal, explanation: &Explanation) -> String {
-    let Explanation { of, sentence, place, facts, help } = explanation;
+    let Explanation { of, foreseen, sentence, place, facts, help } = explanation;
+    let would_be = if *foreseen { WOULD_BE } else { "" };
     let cell = if WITH_CELL.contains(&refusal.number) { format!(", cell {}", refusal.cell) } else { String::new() };
     let of = of.map_or(String::new(), |book| format!(" of the {book}"));
-    let mut lines = wrapped(&format!("refused {}{cell}{of}: {sentence}.", refusal.number));
+    let mut lines = wrapped(&format!("{would_be}refused {}{cell}{of}: {sentence}.", refusal.number));
     lines.push(String::new());
     if !place.is_empty() {
         lines.extend(place.iter().map(|line| format!("  {line}")));
         lines.push(String::new());
     }
-    let width = facts.iter().map(|(heading, _)| heading.len()).max().unwrap_or(0) + 1;
-    for (heading, fact) in facts {
-        let margins = std::iter::once(format!("{heading}:")).chain(std::iter::repeat(String::new()));
-        lines.extend(fact.iter().zip(margins).map(|(line, margin)| format!("  {margin:width$}  {line}")));
-    }
+    lines.extend(listed(facts));
     if !facts.is_empty() {
         lines.push(String::new());
     }

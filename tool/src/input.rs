@@ -50,10 +50,15 @@ pub fn form_of(bytes: &[u8]) -> Form {
     }
 }
 
+/// A file's name as it is printed.
+pub fn shown_name(name: &OsStr) -> String {
+    name.to_string_lossy().chars().map(printable).collect()
+}
+
 /// A file as it is, and its name; standard input if there is no name, or the name is `-`.
 pub fn read(file: Option<&OsStr>) -> Result<(String, Vec<u8>), String> {
     let named = file.filter(|name| *name != "-");
-    let shown: String = named.map_or("standard input".into(), |name| name.to_string_lossy().chars().map(printable).collect());
+    let shown = named.map_or("standard input".into(), shown_name);
     let mut bytes = Vec::new();
     let read = match named {
         Some(name) => File::open(name).and_then(|file| file.take(MOST_BYTES).read_to_end(&mut bytes)),

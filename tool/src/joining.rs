@@ -1,9 +1,9 @@
-//! A join in words: what the joint is, or which book is refused and why. What is said of the project and of the part is what a check says of
-//! them.
+//! A join in words, made or only asked about: what the joint is, or which book is refused and why. What is said of the project and of the
+//! part is what a check says of them.
 
-use crate::ask::{asked, Joint, Refusal, Which};
-use crate::book::{Book, MOST_CELLS};
-use crate::explanation::Explanation;
+use crate::ask::{asked, Joint, Refusal, Told, Which};
+use crate::book::{Book, CELL, MOST_CELLS};
+use crate::explanation::{listed, Explanation, Fact, WOULD_BE};
 use crate::input::Input;
 use crate::labels::Labels;
 use crate::layout::lay_out;
@@ -21,12 +21,55 @@ const OF_JOINT: Halves = Halves {
     both: "books",
 };
 
+/// What is said below an answer of a preview.
+const NOTHING_WRITTEN: &str = "This is a preview: nothing is written.";
+const NOTHING_TO_WRITE: &str = "The join would write nothing either: the project would stay as it is.";
+
 /// The joint's type, its cells, its bytes and its version.
-pub fn accepted(joint: &Joint, labels: &Labels) -> String {
-    let found = Book::read(&joint.found).map_or(vec![], |book| lay_out(&bare_type(&book, labels), "accepted: ".len()).lines);
-    let (cells, version) = Book::read(&joint.bytes).map_or((0, 0), |book| (book.parts.len(), book.version));
-    let bytes = joint.bytes.len();
-    format!("accepted: {}\njoint: {cells} cells, {bytes} bytes, version {version}\n", found.join("\n  "))
+pub fn accepted(joint: Joint, labels: &Labels) -> String {
+    acceptance("accepted: ", &Told { bytes: joint.bytes.len(), found: joint.found }, labels)
+}
+
+/// The same of a joint that would be made, how the project would grow, and what would be written.
+pub fn would_be_accepted(project: &Input, part: &Input, told: &Told, written: &str) -> String {
+    let said = acceptance(&format!("{WOULD_BE}accepted: "), told, &project.labels.with(&part.labels));
+    let growth = match [project, part].map(|input| Book::read(&input.bytes)) {
+        [Some(project), Some(part)] => growth(&project, &part, cells_of(told.bytes)),
+        _ => vec![],
+    };
+    format!("{said}\n{}\n\n{NOTHING_WRITTEN}\n{written}\n", listed(&growth).join("\n"))
+}
+
+/// The version is that of the type, which has the joint's.
+fn acceptance(answer: &str, told: &Told, labels: &Labels) -> String {
+    let found = Book::read(&told.found);
+    let lines = found.as_ref().map_or(vec![], |found| lay_out(&bare_type(found, labels), answer.len()).lines);
+    let version = found.map_or(0, |found| found.version);
+    let (cells, bytes) = (cells_of(told.bytes), told.bytes);
+    format!("{answer}{}\njoint: {cells} cells, {bytes} bytes, version {version}\n", lines.join("\n  "))
+}
+
+/// The cells of a book of so many bytes.
+fn cells_of(bytes: usize) -> usize {
+    (bytes / CELL).saturating_sub(1)
+}
+
+/// How the project would grow in the two counts that a joint can exceed, and its version where that would change.
+fn growth(project: &Book, part: &Book, cells: usize) -> Vec<Fact> {
+    let grown = |now: u64, then: u64| {
+        let left = (MOST_CELLS as u64).saturating_sub(then);
+        vec![format!("{now} now, {then} with the part: {left} of {MOST_CELLS} left")]
+    };
+    let [now, more] = [project, part].map(|book| book.sizes()[book.root]);
+    let version = (part.version > project.version)
+        .then(|| ("version", vec![format!("{} now, {} with the part", project.version, part.version)]));
+    [
+        ("cells of the project", grown(project.parts.len() as u64, cells as u64)),
+        ("with nothing shared", grown(now, now.saturating_add(more).saturating_add(1))),
+    ]
+    .into_iter()
+    .chain(version)
+    .collect()
 }
 
 /// Why a join is refused, and of which book.
@@ -37,6 +80,12 @@ pub fn refused(project: &Input, part: &Input, which: Which, refusal: Refusal) ->
         Which::Joint => ("joint", of_joint([project, part], refusal)),
     };
     Explanation { of: Some(of), ..explanation }
+}
+
+/// The same of a join that would be made.
+pub fn would_be_refused(project: &Input, part: &Input, which: Which, refusal: Refusal) -> Explanation {
+    let explanation = refused(project, part, which, refusal).helps(NOTHING_WRITTEN).helps(NOTHING_TO_WRITE);
+    Explanation { foreseen: true, ..explanation }
 }
 
 /// Both books are accepted on their own, and so can be read.

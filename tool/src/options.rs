@@ -17,6 +17,7 @@ pub struct Options {
     pub dot: bool,
     pub exact: bool,
     pub trace: bool,
+    pub preview: bool,
     pub quiet: bool,
     pub help: bool,
     pub form: Option<Form>,
@@ -43,7 +44,7 @@ fn number<T: std::str::FromStr>(text: OsString) -> Option<T> {
 }
 
 /// All flags. A command has those that it names, and those of every command.
-pub const FLAGS: [Flag; 12] = [
+pub const FLAGS: [Flag; 13] = [
     Flag {
         name: "-o",
         help: "write the book to this file: what is made, the term that a run reached, or the joint",
@@ -73,6 +74,7 @@ pub const FLAGS: [Flag; 12] = [
     alone("--dot", "a graph for Graphviz", |to| to.dot = true),
     alone("--exact", "hold every cell: making it again gives the same bytes", |to| to.exact = true),
     alone("--trace", "every term on the way, what steps next marked", |to| to.trace = true),
+    alone("--preview", "what the join would come to, or why not; no file is written, not even that of -o", |to| to.preview = true),
     alone("--book", "the input is a book in bytes, whatever it looks like", |to| to.form = Some(Form::Bytes)),
     alone("--notation", "the input is in the notation, whatever it looks like", |to| to.form = Some(Form::Notation)),
     alone("--quiet", "print no text: the exit status tells", |to| to.quiet = true),

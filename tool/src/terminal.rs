@@ -1,5 +1,6 @@
 //! Where a command prints: colours and progress on a terminal, plain text anywhere else.
 
+use crate::explanation::WOULD_BE;
 use std::ffi::OsString;
 use std::io::{self, ErrorKind, IsTerminal, Write};
 
@@ -89,7 +90,7 @@ fn has_colours(is_terminal: bool, no_color: Option<OsString>) -> bool {
     is_terminal && no_color.is_none_or(|value| value.is_empty())
 }
 
-/// The word of an answer and the carets in colour.
+/// The words of an answer and the carets in colour.
 fn coloured(text: &str) -> String {
     text.split_inclusive('\n').map(coloured_line).collect()
 }
@@ -99,10 +100,14 @@ fn coloured_line(line: &str) -> String {
     if carets.starts_with('^') && carets.trim_end().bytes().all(|byte| byte == b'^') {
         return format!("{}{RED}{}{PLAIN}\n", &line[..line.len() - carets.len()], carets.trim_end());
     }
-    let word = |colour: &str, length: usize| format!("{colour}{}{PLAIN}{}", &line[..length], &line[length..]);
-    match line.split([':', ' ', ',']).next() {
-        Some(first @ "refused") => word(RED, first.len()),
-        Some(first @ ("accepted" | "value" | "stopped")) => word(GREEN, first.len()),
+    let before = if line.starts_with(WOULD_BE) { WOULD_BE.len() } else { 0 };
+    let words = |colour: &str, last: &str| {
+        let (words, rest) = line.split_at(before + last.len());
+        format!("{colour}{words}{PLAIN}{rest}")
+    };
+    match line[before..].split([':', ' ', ',']).next() {
+        Some(last @ "refused") => words(RED, last),
+        Some(last @ ("accepted" | "value" | "stopped")) => words(GREEN, last),
         _ => line.into(),
     }
 }
@@ -121,13 +126,16 @@ mod tests {
     #[test]
     fn colours_are_added() {
         let text =
-            "refused 14, cell 2: a.\n\n  1 ,, 2\n  ^^^^^^\n  1 | 1 ,, 2\n    | ^^^^\naccepted: Int\nvalue after 1 step\n1 ^\n";
+            "refused 14, cell 2: a.\n\n  1 ,, 2\n  ^^^^^^\n  1 | 1 ,, 2\n    | ^^^^\naccepted: Int\nvalue after 1 step\n1 ^\n\
+             would be accepted: Int\nwould be refused 2 of the part: a.\nwould be\nwould be late\n";
         let shown = coloured(text);
         for part in [RED, GREEN, PLAIN] {
             assert!(shown.contains(part));
         }
-        assert_eq!(shown.matches(PLAIN).count(), 5);
+        assert_eq!(shown.matches(PLAIN).count(), 7);
         assert!(shown.contains(&format!("    | {RED}^^^^{PLAIN}\n")) && shown.contains(&format!("{GREEN}accepted{PLAIN}: Int")));
+        assert!(shown.contains(&format!("{GREEN}would be accepted{PLAIN}: Int")));
+        assert!(shown.contains(&format!("{RED}would be refused{PLAIN} 2 of the part")));
         assert_eq!([RED, GREEN, PLAIN].iter().fold(shown, |shown, colour| shown.replace(colour, "")), text);
     }
 

@@ -15,7 +15,7 @@ fn status(arguments: &[&str], input: &[u8]) -> i32 {
 }
 
 /// Calls that do nothing.
-const WRONG: [&[&str]; 19] = [
+const WRONG: [&[&str]; 20] = [
     &[],
     &["nothing"],
     &["check", "no/such/file"],
@@ -27,6 +27,7 @@ const WRONG: [&[&str]; 19] = [
     &["run", "--limit=-1"],
     &["check", "a", "b"],
     &["check", "--quiet=1"],
+    &["check", "--preview", "books/first_number.book"],
     &["make", "--version", "3"],
     &["make", "books/first_number.book"],
     &["make", "-o", "no/such/folder/file", "books/first_number.txt"],
@@ -156,7 +157,7 @@ fn output_that_fails() {
 }
 
 /// All that a command can do with an input.
-const WAYS: [&[&str]; 11] = [
+const WAYS: [&[&str]; 13] = [
     &["make"],
     &["make", "--share", "--version", "2"],
     &["show"],
@@ -168,6 +169,8 @@ const WAYS: [&[&str]; 11] = [
     &["check", "--notation"],
     &["join", "books/joining/office.book"],
     &["join", "-", "books/joining/register.txt"],
+    &["join", "books/joining/office.book", "--preview"],
+    &["join", "-", "books/joining/register.txt", "--preview"],
 ];
 
 /// Every way ends with a status and without a panic.
@@ -315,13 +318,14 @@ fn help_and_flags() {
         assert!(manual.starts_with(&format!("cerealbank {command} ")), "{manual}");
         assert_eq!(manual.contains("\n  --limit N "), command == "run", "{manual}");
         assert_eq!(manual.contains("\n  --share "), command == "make", "{manual}");
+        assert_eq!(manual.contains("\n  --preview "), command == "join", "{manual}");
     }
     let own: [(&str, &[&str]); 6] = [
         ("make", &["-o", "--version", "--share"]),
         ("show", &["--exact", "--cells", "--dot", "--book", "--notation"]),
         ("check", &["--book", "--notation"]),
         ("run", &["--limit", "--trace", "-o", "--book", "--notation"]),
-        ("join", &["-o"]),
+        ("join", &["-o", "--preview"]),
         ("explain", &[]),
     ];
     for (command, flags) in own {

@@ -2,7 +2,7 @@
 
 mod common;
 
-use common::{answered, at, bytes, called, files, generated, text};
+use common::{answered, at, bytes, called, files, generated, name, scratch, text, tops};
 use std::fs;
 use std::path::PathBuf;
 use std::process::Command;
@@ -15,17 +15,6 @@ use tool::input::Input;
 use tool::joining::refused;
 use tool::kinds::Kind;
 
-/// A file in the folder that cargo keeps for tests.
-fn scratch(name: &str, bytes: &[u8]) -> PathBuf {
-    let file = PathBuf::from(env!("CARGO_TARGET_TMPDIR")).join(name);
-    fs::write(&file, bytes).expect("a file");
-    file
-}
-
-fn name(file: &std::path::Path) -> &str {
-    file.to_str().expect("a name")
-}
-
 fn sample(name: &str) -> String {
     format!("books/joining/{name}")
 }
@@ -34,15 +23,6 @@ fn sample(name: &str) -> String {
 fn said(project: &str, part: &str) -> (String, i32) {
     let file = scratch(&format!("{:?}.project", std::thread::current().id()), project.as_bytes());
     answered(&["join", name(&file), "-"], part.as_bytes())
-}
-
-/// So many top values, the last for a root.
-fn tops(count: usize) -> Vec<u8> {
-    let mut book = Book::new(1);
-    (0..count).for_each(|_| {
-        book.add(Kind::TopValue, &[]);
-    });
-    book.bytes()
 }
 
 /// Numbers from this one on, no two of them equal, and a record of the first for a root.
@@ -267,7 +247,8 @@ const WRONG: [&[&str]; 13] = [
 
 #[test]
 fn calls_that_go_wrong() {
-    for wrong in WRONG {
+    let previews = WRONG.map(|wrong| [&wrong[..1], &["--preview"], &wrong[1..]].concat());
+    for wrong in WRONG.into_iter().chain(previews.iter().map(Vec::as_slice)) {
         let output = called(wrong, b"1");
         assert_eq!((output.status.code(), output.stdout.len()), (Some(2), 0), "{wrong:?}");
         assert!(!output.stderr.is_empty(), "{wrong:?}");

@@ -61,7 +61,7 @@ fn the_tour_is_what_the_program_prints() {
 
 #[test]
 fn the_joins_are_what_the_program_prints() {
-    assert!(commands_print("docs/JOINING.md") >= 4);
+    assert!(commands_print("docs/JOINING.md") >= 7);
 }
 
 #[test]

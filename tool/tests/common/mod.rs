@@ -8,6 +8,8 @@ use std::fs;
 use std::io::Write;
 use std::path::{Path, PathBuf};
 use std::process::{Command, Output, Stdio};
+use tool::book::Book;
+use tool::kinds::Kind;
 
 pub fn at(path: &str) -> PathBuf {
     Path::new(env!("CARGO_MANIFEST_DIR")).join("..").join(path)
@@ -35,6 +37,26 @@ pub fn files(folder: &str, ending: &str) -> Vec<String> {
     }
     found.sort();
     found
+}
+
+/// A file in the folder that cargo keeps for tests.
+pub fn scratch(name: &str, bytes: &[u8]) -> PathBuf {
+    let file = PathBuf::from(env!("CARGO_TARGET_TMPDIR")).join(name);
+    fs::write(&file, bytes).expect("a file");
+    file
+}
+
+pub fn name(file: &Path) -> &str {
+    file.to_str().expect("a name")
+}
+
+/// So many top values, the last for a root.
+pub fn tops(count: usize) -> Vec<u8> {
+    let mut book = Book::new(1);
+    (0..count).for_each(|_| {
+        book.add(Kind::TopValue, &[]);
+    });
+    book.bytes()
 }
 
 /// Some books of every family of the comparison.
