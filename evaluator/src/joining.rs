@@ -145,12 +145,13 @@ fn tested(lent: &[u8], length: usize, part: &[u8]) -> Result<Accepted, Turned> {
     let most = match current() {
         Some(Fault::FullOneEarly) => CELLS - 1,
         Some(Fault::FullOneLate) => CELLS + 1,
+        Some(Fault::FullAccepted) => 2 * CELLS + 1,
         _ => CELLS,
     };
     if joint.len() / CELL - 1 > most {
         return turn_back(Which::Joint, 16);
     }
-    if planted(Fault::JointUnchecked) {
+    if current().is_some_and(|fault| misjoining::is_unchecked(fault, &one, &two)) {
         return misjoining::unchecked(joint, project, part);
     }
     let (inferred, version) = accepted(Which::Joint, &joint)?;
@@ -195,5 +196,8 @@ pub fn join(project: &mut [u8], length: usize, part: &[u8], work: &mut [u8]) -> 
 /// "A preview takes what a join takes. It gives the answer and byte count that the join would give on a copy, with the type's size if accepted,
 /// and leaves the work buffer alike, with not a lent byte of the project altered."
 pub fn preview(project: &[u8], length: usize, part: &[u8], work: &mut [u8]) -> Joined {
-    judged(project, length, part, work).0
+    match current() {
+        Some(fault) => misjoining::preview(fault, &mut project.to_vec(), length, part, work),
+        None => judged(project, length, part, work).0,
+    }
 }

@@ -31,6 +31,7 @@ pub use faults::{with_fault, Fault};
 pub use fields::value_parts;
 pub use joining::{join, joint, preview, Joined, Which, CELLS, PROJECT};
 pub use kinds::{kind, row, Field, Row, Sort, TABLE};
+pub use misjoining::preview as faulty_preview;
 pub use ordering::{regrouped, reorderings, swapped};
 pub use running::{casts, substitute, successors};
 pub use stack::on_large_stack;
