@@ -48,6 +48,8 @@ pub struct Comparison<'a> {
     pub pairs: Cell<usize>,
     /// How many reorderings have been compared with the value that they come from.
     pub orders: Cell<usize>,
+    /// How many previews have been compared.
+    pub previews: Cell<usize>,
     pub(crate) noise: Vec<u8>,
     buffers: RefCell<[Vec<u8>; 2]>,
 }
@@ -62,6 +64,7 @@ impl<'a> Comparison<'a> {
             calls: Cell::new(0),
             pairs: Cell::new(0),
             orders: Cell::new(0),
+            previews: Cell::new(0),
             noise,
             buffers: RefCell::new([Vec::new(), Vec::new()]),
         }

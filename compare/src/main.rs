@@ -1,16 +1,17 @@
-//! Compares the engine with the evaluator on many books, and on many pairs of books that are joined.
+//! Compares the engine with the evaluator on many books, and on many pairs of books that are previewed and then joined.
 //!
 //! `compare [--seed N] [--count N] [--family NAME] [--version N] [--self-test]`
 //!
 //! With `--version 2`, only the books whose trailer has version 2 are compared, and the pairs with such a book; with `--version 1`, only the others.
 //! Built with the feature `engine`, the engine of the static library is compared; without it, the evaluator with itself. With `--self-test`, the
-//! evaluator is compared with faulty copies of itself, and each fault must be found: those of joins in pairs, all others in books. The exit status
-//! is 0, and the last line starts with what passed - families, or faults found - only if nothing failed.
+//! evaluator is compared with faulty copies of itself, and each fault must be found: those of joins in pairs, planted in the joins and again in the
+//! previews, all others in books. The exit status is 0, and the last line starts with what passed - families, or faults found - only if nothing
+//! failed.
 
 use compare::comparing::{Comparison, Question};
-use compare::engines::{Engine, Evaluator};
+use compare::engines::{Engine, Evaluator, FaultyPreviews};
 use compare::families::{families, Family};
-use compare::joining::left;
+use compare::joining::{as_stated, Asked};
 use compare::pairs::{pair_families, stated, Pair, PairFamily, Pool};
 use compare::random::Random;
 use compare::reporting::{described, described_pair, Figures, PairFigures};
@@ -129,25 +130,25 @@ fn compare(options: &Options) -> bool {
         passed.fetch_add(1, Relaxed);
         books.fetch_add(figures.books, Relaxed);
     });
-    let pairs = compare_pairs(options, count, &passed, &failed);
+    let [pairs, previews] = compare_pairs(options, count, &passed, &failed);
     let (passed, books, failed) = (passed.into_inner(), books.into_inner(), failed.into_inner());
     match failed {
-        0 => println!("{passed} families of {books} books and {pairs} pairs compared, no difference"),
+        0 => println!("{passed} families of {books} books and {pairs} pairs compared, {previews} of them previewed, no difference"),
         _ => println!("FAILED: {failed} differences, after {books} books and {pairs} pairs without one"),
     }
     failed == 0
 }
 
-/// Compares the families of pairs. How many pairs.
-fn compare_pairs(options: &Options, count: usize, passed: &AtomicUsize, failed: &AtomicUsize) -> usize {
+/// Compares the families of pairs. How many pairs, and how many of them were previewed.
+fn compare_pairs(options: &Options, count: usize, passed: &AtomicUsize, failed: &AtomicUsize) -> [usize; 2] {
     let asked = |family: &PairFamily| options.family.as_ref().is_none_or(|name| name == family.name);
     let families: Vec<PairFamily> = pair_families().into_iter().filter(asked).collect();
     if families.is_empty() || failed.load(Relaxed) >= FAILURES {
-        return 0;
+        return [0, 0];
     }
     println!("{}", PairFigures::HEAD);
     let pool = on_large_stack(|| Pool::of(options.seed, EACH));
-    let pairs = AtomicUsize::new(0);
+    let (pairs, previews) = (AtomicUsize::new(0), AtomicUsize::new(0));
     side_by_side(families, |family| {
         if failed.load(Relaxed) >= FAILURES {
             return;
@@ -155,8 +156,9 @@ fn compare_pairs(options: &Options, count: usize, passed: &AtomicUsize, failed: 
         let figures = one_pair_family(&family, options, (&pool, count / FEWER), failed);
         passed.fetch_add(1, Relaxed);
         pairs.fetch_add(figures.pairs, Relaxed);
+        previews.fetch_add(figures.previews, Relaxed);
     });
-    pairs.into_inner()
+    [pairs.into_inner(), previews.into_inner()]
 }
 
 /// The book has this version, for 1 whatever is not version 2; or none is asked for.
@@ -226,9 +228,9 @@ fn one_pair_family(family: &PairFamily, options: &Options, (pool, count): (&Pool
                 figures.enter(&pair, joined);
                 joint_of(&comparison, &pair, random)
             }
-            Err(difference) => {
-                let text = described_pair(&pair, &difference, engine.as_ref());
-                Some(text + &smaller_pair(&comparison, pair))
+            Err((asked, difference)) => {
+                let text = described_pair(&pair, asked, &difference, engine.as_ref());
+                Some(text + &smaller_pair(&comparison, pair, asked))
             }
         };
         if let Some(text) = failure {
@@ -236,6 +238,7 @@ fn one_pair_family(family: &PairFamily, options: &Options, (pool, count): (&Pool
             println!("FAILED: {}, pair {place}\n{text}", family.name);
         }
     }
+    figures.previews = comparison.previews.get();
     println!("{}", figures.line(family.name, start.elapsed().as_secs_f64()));
     figures
 }
@@ -248,23 +251,20 @@ fn joint_of(comparison: &Comparison, pair: &Pair, random: &mut Random) -> Option
 }
 
 /// A smaller pair on which the sides still differ, described.
-fn smaller_pair(comparison: &Comparison, pair: Pair) -> String {
-    let pair = shrinking::shrink_pair(comparison, pair);
-    let Err(difference) = comparison.pair(&pair) else { return "not seen again".to_string() };
-    format!("made smaller:\n{}", described_pair(&pair, &difference, comparison.engine))
+fn smaller_pair(comparison: &Comparison, pair: Pair, asked: Asked) -> String {
+    let pair = shrinking::shrink_pair(comparison, pair, asked);
+    let Err((asked, difference)) = comparison.pair(&pair) else { return "not seen again".to_string() };
+    format!("made smaller:\n{}", described_pair(&pair, asked, &difference, comparison.engine))
 }
 
-/// Both sides on the joins of which the documents' words give the answer and the joint. How many failed.
+/// Both sides on the joins of which the documents' words give the answer and the joint, and on their previews. How many failed.
 fn stated_joins() -> usize {
     let mut failed = 0;
     for stated in stated() {
-        let noise = vec![0xAA; 2 * WORK];
         for side in [&Evaluator(None) as &dyn Engine, engine().as_ref()] {
-            let left = left(side, &stated.pair, &noise, &noise);
-            let same = left.lent == stated.lent(&noise) && left.work == stated.work(&noise);
-            if left.reply != Ok(stated.joined) || !same {
+            if let Err(words) = as_stated(side, &stated, &[0xAA; 2 * WORK]) {
                 failed += 1;
-                println!("FAILED: {}: {} says {:?}, or leaves other bytes", stated.name, side.name(), left.reply);
+                println!("FAILED: {}: {words}", stated.name);
             }
         }
     }
@@ -305,23 +305,39 @@ fn searched(seed: u64, count: usize) -> Vec<Searched> {
     all
 }
 
+/// A fault, and whether it is planted in the previews alone.
+type Planted = (Fault, bool);
+
+/// Every fault that is planted, those of joins twice: in the joins, and in the previews where they show there.
+fn planted() -> Vec<Planted> {
+    let anywhere = Fault::ALL.into_iter().filter(|fault| !fault.is_of_previews());
+    let in_previews = Fault::ALL.into_iter().filter(|fault| fault.shows_in_previews());
+    anywhere.map(|fault| (fault, false)).chain(in_previews.map(|fault| (fault, true))).collect()
+}
+
 /// Compares the evaluator with each faulty copy of itself. Yes if every fault was found.
 fn self_test(options: &Options) -> bool {
     let count = options.count.unwrap_or(SELF_TEST_COUNT);
     let (books, pairs) = on_large_stack(|| (searched(options.seed, count), searched_pairs(options.seed, count / FEWER)));
     let found = AtomicUsize::new(0);
-    let search = |fault: Fault| match fault.is_of_joins() {
-        true => found_in_pairs(fault, &pairs),
+    let search = |(fault, in_previews): Planted| match in_previews {
+        true => found_in_pairs(&FaultyPreviews(fault), Asked::Preview, &pairs),
+        false if fault.is_of_joins() => found_in_pairs(&Evaluator(Some(fault)), Asked::Join, &pairs),
         false => found_in(fault, options.seed, &books),
     };
-    side_by_side(Fault::ALL.to_vec(), |fault| match search(fault) {
-        Some(text) => {
-            found.fetch_add(1, Relaxed);
-            print!("{text}");
+    let planted = planted();
+    let all = planted.len();
+    side_by_side(planted, |planted| {
+        let name = format!("{:?}{}", planted.0, if planted.1 { " in previews" } else { "" });
+        match search(planted) {
+            Some(text) => {
+                found.fetch_add(1, Relaxed);
+                print!("{name}: {text}");
+            }
+            None => println!("FAILED: {name} was not found"),
         }
-        None => println!("FAILED: {fault:?} was not found"),
     });
-    let (found, all) = (found.into_inner(), Fault::ALL.len());
+    let found = found.into_inner();
     match all - found {
         0 => println!("{found} planted faults, each found"),
         missed => println!("FAILED: {missed} of {all} planted faults not found"),
@@ -353,7 +369,7 @@ fn found_in(fault: Fault, seed: u64, searched: &[Searched]) -> Option<String> {
     }
     let (book, question) = smallest?;
     let small = smaller(&comparison, book.clone(), question);
-    Some(format!("{fault:?}: found in {:.1} s by{finders}, {small}", start.elapsed().as_secs_f64()))
+    Some(format!("found in {:.1} s by{finders}, {small}", start.elapsed().as_secs_f64()))
 }
 
 /// The name of a family, and the pairs of it that a fault of joins is searched in.
@@ -369,18 +385,18 @@ fn searched_pairs(seed: u64, count: usize) -> Vec<SearchedPairs> {
     all
 }
 
-/// The same as `found_in` for a fault of joins.
-fn found_in_pairs(fault: Fault, searched: &[SearchedPairs]) -> Option<String> {
+/// The same as `found_in` for a fault of joins or previews, which is to be seen where this is asked.
+fn found_in_pairs(faulty: &dyn Engine, asked: Asked, searched: &[SearchedPairs]) -> Option<String> {
     let start = Instant::now();
-    let faulty = Evaluator(Some(fault));
-    let comparison = Comparison::new(&faulty, false);
+    let comparison = Comparison::new(faulty, false);
+    let differs = |pair: &Pair| comparison.pair(pair).is_err_and(|(other, _)| other == asked);
     let first = |(name, pairs): &'_ SearchedPairs| {
-        let place = pairs.iter().position(|pair| comparison.pair(pair).is_err())?;
+        let place = pairs.iter().position(differs)?;
         Some((*name, place, pairs[place].clone()))
     };
     let found: Vec<_> = searched.iter().filter_map(first).take(ENOUGH).collect();
     let finders: String = found.iter().map(|(name, place, _)| format!(" {name} ({place})")).collect();
     let (.., pair) = found.into_iter().min_by_key(|(.., pair)| pair.project.len() + pair.part.len())?;
-    let small = smaller_pair(&comparison, pair);
-    Some(format!("{fault:?}: found in {:.1} s by{finders}, {small}", start.elapsed().as_secs_f64()))
+    let small = smaller_pair(&comparison, pair, asked);
+    Some(format!("found in {:.1} s by{finders}, {small}", start.elapsed().as_secs_f64()))
 }

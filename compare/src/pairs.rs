@@ -1,4 +1,4 @@
-//! The pairs that are joined, in families. Document 02, (vi): "Two books become one."
+//! The pairs that are previewed and joined, in families. Document 02, (vi): "Two books become one."
 
 use crate::cells::{encode_in, zeroed, Cells, Sharing};
 use crate::families::{changed, families, loose_cell, merged, typed_any, Family};
@@ -11,7 +11,7 @@ use crate::versions::{another_number, cut, exchanged, flipped, wide_number, wide
 use evaluator::{check, encode_term, joint, kind, Answer, Cell, Joined, Term, Version, Which, CELL, CELLS, PROJECT, WORK};
 use Version::{One, Two};
 
-/// A project and a part, and how a join is lent and told them.
+/// A project and a part, and how a preview and a join are lent and told them.
 #[derive(Clone, PartialEq, Eq, Debug)]
 pub struct Pair {
     pub project: Vec<u8>,
@@ -22,19 +22,28 @@ pub struct Pair {
     pub told: usize,
     /// The length of the work buffer.
     pub work: usize,
+    /// The join is given what the preview leaves, and not a copy of what the preview is lent.
+    pub after: bool,
 }
 
 impl Pair {
     /// Lent and told as a join asks for.
     pub fn of(project: Vec<u8>, part: Vec<u8>) -> Pair {
-        Pair { told: project.len(), project, part, lent: PROJECT, work: WORK }
+        Pair { told: project.len(), project, part, lent: PROJECT, work: WORK, after: false }
     }
 
-    /// The lent bytes: the project, as far as they reach, and what is behind it.
-    pub fn lent_before(&self, behind: &[u8]) -> Vec<u8> {
+    /// What is lent: the project, as far as the lent bytes reach, and what is behind it; and the work buffer.
+    pub fn buffers(&self, behind: &[u8], worked: &[u8]) -> Buffers {
         let known = self.project.len().min(self.lent);
-        [&self.project[..known], &behind[known..self.lent]].concat()
+        Buffers { lent: [&self.project[..known], &behind[known..self.lent]].concat(), work: worked[..self.work].to_vec() }
     }
+}
+
+/// What a preview and a join are lent besides the part, and what they leave.
+#[derive(Clone, PartialEq, Eq)]
+pub struct Buffers {
+    pub lent: Vec<u8>,
+    pub work: Vec<u8>,
 }
 
 /// Books of every family in both versions, to take pairs from.
@@ -80,17 +89,21 @@ enum Make {
 }
 
 impl PairFamily {
-    /// The family's pairs; a random family gives as many as asked for.
-    pub fn pairs<'a>(&self, pool: &'a Pool, seed: u64, count: usize) -> Box<dyn Iterator<Item = Pair> + 'a> {
-        match self.make {
+    /// The family's pairs; a random family gives as many as asked for. Some of them are joined with what the preview leaves.
+    pub fn pairs<'a>(&self, pool: &'a Pool, seed: u64, count: usize) -> impl Iterator<Item = Pair> + 'a {
+        let pairs: Box<dyn Iterator<Item = Pair>> = match self.make {
             Make::Whole(make) => Box::new(make().into_iter()),
             Make::Random(make) => {
                 let name = self.name;
                 Box::new((0..count as u64).map(move |place| make(pool, &mut Random::of(seed, name, place))))
             }
-        }
+        };
+        (0..).zip(pairs).map(move |(place, pair)| Pair { after: Random::of(seed, "after", place).once_in(AFTER), ..pair })
     }
 }
+
+/// A join is given what the preview leaves once in so many times. Oftener, it would seldom be seen what a join leaves of a work buffer.
+const AFTER: usize = 4;
 
 pub fn pair_families() -> Vec<PairFamily> {
     let whole = |name, make| PairFamily { name, share: 0, make: Make::Whole(make) };
@@ -140,7 +153,7 @@ fn applied() -> Vec<u8> {
     book(&Term::application(Term::number(1), Term::number(1)), One)
 }
 
-/// A pair of which the documents' words give the answer, and the joint.
+/// A pair of which the documents' words give the answer of the join and of its preview, and the joint.
 pub struct Stated {
     pub name: &'static str,
     pub pair: Pair,
@@ -149,23 +162,28 @@ pub struct Stated {
 }
 
 impl Stated {
-    /// The lent bytes after the join: "the rest zero", or as they were.
-    pub fn lent(&self, behind: &[u8]) -> Vec<u8> {
-        match self.joint.len() {
-            0 => self.pair.lent_before(behind),
-            length => [&self.joint[..], &vec![0; PROJECT - length]].concat(),
-        }
-    }
-
-    /// The work buffer after it: "left as a check with the same answer leaves it".
+    /// The work buffer after a preview and after a join: "left as a check with the same answer leaves it".
     pub fn work(&self, before: &[u8]) -> Vec<u8> {
-        let mut work = before[..self.pair.work].to_vec();
+        let mut work = before.to_vec();
         match self.joined.answer {
             Answer::Refused { number: 1, .. } => {}
             Answer::Refused { .. } => work.fill(0),
             _ => drop(check(&self.joint, &mut work)),
         }
         work
+    }
+
+    /// What a preview leaves: "not a lent byte of the project altered".
+    pub fn after_preview(&self, before: &Buffers) -> Buffers {
+        Buffers { lent: before.lent.clone(), work: self.work(&before.work) }
+    }
+
+    /// What a join leaves: "the rest zero", or all the lent bytes as they were.
+    pub fn after_join(&self, before: &Buffers) -> Buffers {
+        let mut lent = self.joint.clone();
+        lent.resize(before.lent.len(), 0);
+        let lent = if self.joint.is_empty() { before.lent.clone() } else { lent };
+        Buffers { lent, work: self.work(&before.work) }
     }
 }
 

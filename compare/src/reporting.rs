@@ -2,7 +2,7 @@
 
 use crate::comparing::{Difference, Question, Seen};
 use crate::engines::{Call, Engine};
-use crate::joining;
+use crate::joining::{self, Asked};
 use crate::pairs::Pair;
 use crate::restamping::is_version_2;
 use evaluator::{Answer, Joined, Which, CELL, WORK};
@@ -57,6 +57,10 @@ impl Figures {
 #[derive(Default)]
 pub struct PairFigures {
     pub pairs: usize,
+    /// Of these, those that were previewed before they were joined.
+    pub previews: usize,
+    /// Of these, those that were joined on the preview's buffers, as it left them.
+    after: usize,
     /// Of these, those with books of both versions.
     mixed: usize,
     accepted: usize,
@@ -65,10 +69,12 @@ pub struct PairFigures {
 }
 
 impl PairFigures {
-    pub const HEAD: &'static str = "family                 pairs  of both versions  accepted seconds   refused, number:pairs";
+    pub const HEAD: &'static str =
+        "family                 pairs previewed  on its buffers  of both versions  accepted seconds   refused, number:pairs";
 
     pub fn enter(&mut self, pair: &Pair, joined: Joined) {
         self.pairs += 1;
+        self.after += usize::from(pair.after);
         self.mixed += usize::from(is_version_2(&pair.project) != is_version_2(&pair.part));
         let book = match joined.which {
             Which::Project => 0,
@@ -82,8 +88,8 @@ impl PairFigures {
     }
 
     pub fn line(&self, name: &str, seconds: f64) -> String {
-        let PairFigures { pairs, mixed, accepted, refused } = self;
-        let mut line = format!("{name:<20}{pairs:>8}{mixed:>18}{accepted:>10}{seconds:>8.1}  ");
+        let PairFigures { pairs, previews, after, mixed, accepted, refused } = self;
+        let mut line = format!("{name:<20}{pairs:>8}{previews:>10}{after:>16}{mixed:>18}{accepted:>10}{seconds:>8.1}  ");
         for (book, counts) in ["project", "part", "joint"].into_iter().zip(refused) {
             let _ = write!(line, " {book}");
             for (number, count) in counts.iter().enumerate().filter(|(_, &count)| count > 0) {
@@ -109,8 +115,8 @@ fn in_cells(book: &[u8]) -> String {
     shown.collect::<Vec<_>>().join(" ")
 }
 
-/// A difference about a pair in full: both books, how they are lent, and both outcomes.
-pub fn described_pair(pair: &Pair, difference: &joining::Difference, engine: &dyn Engine) -> String {
+/// A difference about a pair in full: both books, how they are lent, what was asked, and both outcomes.
+pub fn described_pair(pair: &Pair, asked: Asked, difference: &joining::Difference, engine: &dyn Engine) -> String {
     let mut text = String::new();
     for (name, book) in [("project", &pair.project), ("part", &pair.part)] {
         let _ = writeln!(text, "  {name} ({} bytes): {}", book.len(), in_cells(book));
@@ -118,7 +124,14 @@ pub fn described_pair(pair: &Pair, difference: &joining::Difference, engine: &dy
             let _ = writeln!(text, "  its root, version {}: {root}", version.byte());
         }
     }
-    let _ = writeln!(text, "  asked: join, {} bytes lent, {} told, a work buffer of {} bytes", pair.lent, pair.told, pair.work);
+    let asked = match asked {
+        Asked::Preview => "preview",
+        Asked::Join if pair.after => "join, with what the preview leaves",
+        Asked::Join => "join",
+        Asked::Agreement => "that preview and join agree",
+        Asked::Promise => "what is promised of the join",
+    };
+    let _ = writeln!(text, "  asked: {asked}, {} bytes lent, {} told, a work buffer of {} bytes", pair.lent, pair.told, pair.work);
     match difference {
         joining::Difference::Broken(words) => {
             let _ = writeln!(text, "  {words}");
@@ -127,8 +140,8 @@ pub fn described_pair(pair: &Pair, difference: &joining::Difference, engine: &dy
             let [one, other] = &**both;
             let _ = writeln!(text, "  evaluator: {:?}", one.reply);
             let _ = writeln!(text, "  {}: {:?}", engine.name(), other.reply);
-            text += &first_difference("lent", &one.lent, &other.lent);
-            text += &first_difference("work", &one.work, &other.work);
+            text += &first_difference("lent", &one.buffers.lent, &other.buffers.lent);
+            text += &first_difference("work", &one.buffers.work, &other.buffers.work);
         }
     }
     text

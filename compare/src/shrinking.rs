@@ -3,6 +3,7 @@
 use crate::cells::{is_labelled, sort_of, zeroed, Cells};
 use crate::comparing::{Comparison, Question};
 use crate::engines::Call;
+use crate::joining::Asked;
 use crate::pairs::Pair;
 use evaluator::{kind, Cell, Sort, Version, PROJECT, TABLE, WORK};
 
@@ -32,13 +33,13 @@ pub fn shrink(comparison: &Comparison, book: Vec<u8>, question: Question) -> (Ve
 /// Books of a pair are made smaller below so many bytes.
 const LARGE: usize = 8_192;
 
-/// The smallest pair found that still shows a difference.
-pub fn shrink_pair(comparison: &Comparison, pair: Pair) -> Pair {
+/// The smallest pair found that still shows a difference in what was asked: in the preview, if that differed.
+pub fn shrink_pair(comparison: &Comparison, pair: Pair, asked: Asked) -> Pair {
     let mut pair = pair;
     let mut tries = TRIES;
     let mut fails = |pair: &Pair| {
         tries = tries.saturating_sub(1);
-        tries > 0 && comparison.pair(pair).is_err()
+        tries > 0 && comparison.pair(pair).is_err_and(|(other, _)| other == asked)
     };
     while let Some(smaller) = smaller_pairs(&pair).into_iter().find(&mut fails) {
         pair = smaller;
@@ -48,15 +49,19 @@ pub fn shrink_pair(comparison: &Comparison, pair: Pair) -> Pair {
 
 /// Pairs that are lent and told as they should be, or with one smaller book. A told length that is the project's stays so.
 fn smaller_pairs(pair: &Pair) -> Vec<Pair> {
-    let Pair { project, part, lent, told, work } = pair;
-    let right =
-        [Pair { lent: PROJECT, ..pair.clone() }, Pair { told: project.len(), ..pair.clone() }, Pair { work: WORK, ..pair.clone() }];
-    let mut pairs: Vec<Pair> = right.into_iter().filter(|right| right != pair).collect();
+    let Pair { project, part, told, .. } = pair;
+    let mut pairs = vec![
+        Pair { lent: PROJECT, ..pair.clone() },
+        Pair { told: project.len(), ..pair.clone() },
+        Pair { work: WORK, ..pair.clone() },
+        Pair { after: false, ..pair.clone() },
+    ];
+    pairs.retain(|right| right != pair);
     if project.len() + part.len() < LARGE {
         pairs.extend(smaller(part).into_iter().map(|part| Pair { part, ..pair.clone() }));
         pairs.extend(smaller(project).into_iter().map(|less| {
             let told = if *told == project.len() { less.len() } else { *told };
-            Pair { project: less, part: part.clone(), lent: *lent, told, work: *work }
+            Pair { project: less, told, ..pair.clone() }
         }));
     }
     pairs

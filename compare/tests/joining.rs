@@ -1,13 +1,14 @@
-//! The families of pairs have enough of each, are answered as the documents say, keep what is promised of joins, and show every planted fault of
-//! joins, which no check and no run shows.
+//! The families of pairs have enough of each, are answered as the documents say, keep what is promised of joins and previews, and show every
+//! planted fault of joins, in the joins and in the previews, which no check and no run shows.
 
 use compare::cells::Cells;
 use compare::comparing::Comparison;
-use compare::engines::{Call, Engine, Evaluator};
+use compare::engines::{Call, Engine, Evaluator, FaultyPreviews};
 use compare::families::families;
-use compare::joining::{left, Difference};
+use compare::joining::{agree, as_stated, joined as join_of, previewed, Asked, Difference, Left};
 use compare::pairs::{pair_families, stated, Pair, Pool};
 use compare::random::Random;
+use compare::reporting::described_pair;
 use compare::shrinking::shrink_pair;
 use evaluator::{
     check, encode_term, joint, kind, on_large_stack, Answer, Fault, Joined, Term, Version, Which, CELL, CELLS, PROJECT, WORK,
@@ -46,11 +47,7 @@ fn joined(pair: &Pair) -> Joined {
 #[test]
 fn the_stated_answers_are_given() {
     for stated in stated() {
-        let bytes = vec![0xAA; 2 * WORK];
-        let left = left(&Evaluator(None), &stated.pair, &bytes, &bytes);
-        assert_eq!(left.reply, Ok(stated.joined), "{}", stated.name);
-        assert_eq!(left.lent, stated.lent(&bytes), "{}", stated.name);
-        assert_eq!(left.work, stated.work(&bytes), "{}", stated.name);
+        assert_eq!(as_stated(&Evaluator(None), &stated, &[0xAA; 2 * WORK]), Ok(()), "{}", stated.name);
         if let Answer::Accepted { .. } = stated.joined.answer {
             assert_eq!(check(&stated.joint, &mut vec![0; WORK]), stated.joined.answer, "{}", stated.name);
         }
@@ -182,17 +179,52 @@ fn of_joins() -> Vec<Fault> {
     Fault::ALL.into_iter().filter(|fault| fault.is_of_joins()).collect()
 }
 
-/// Each by a family beside the stated joins.
+fn in_previews() -> Vec<Fault> {
+    Fault::ALL.into_iter().filter(|fault| fault.shows_in_previews()).collect()
+}
+
+/// The faulty copies of the evaluator, and where each has to differ.
+fn faulty_copies() -> Vec<(Box<dyn Engine>, Asked)> {
+    let joins = of_joins().into_iter().map(|fault| (Box::new(Evaluator(Some(fault))) as Box<dyn Engine>, Asked::Join));
+    let previews = in_previews().into_iter().map(|fault| (Box::new(FaultyPreviews(fault)) as Box<dyn Engine>, Asked::Preview));
+    joins.chain(previews).collect()
+}
+
+/// Where the side differs from the evaluator, if it does.
+fn difference(side: &dyn Engine, pair: &Pair) -> Option<Asked> {
+    Comparison::new(side, false).pair(pair).err().map(|(asked, _)| asked)
+}
+
+/// Each by a family beside the stated joins, in the joins or in the previews alone.
 #[test]
-fn every_fault_of_joins_is_found() {
+fn every_fault_of_joins_and_previews_is_found() {
     on_large_stack(|| {
         let families = all_pairs(SEARCHED);
-        for fault in of_joins() {
-            let side = Evaluator(Some(fault));
-            let comparison = Comparison::new(&side, false);
-            let finds = |(_, pairs): &(&str, Vec<Pair>)| pairs.iter().any(|pair| comparison.pair(pair).is_err());
-            assert!(families.iter().any(finds), "{fault:?}");
+        for (side, asked) in faulty_copies() {
+            let comparison = Comparison::new(side.as_ref(), false);
+            // A difference in what is said or left, and no panic.
+            let differs = |pair: &Pair| match comparison.pair(pair) {
+                Err((asked, Difference::Outcomes(both))) if both[1].reply.is_ok() => Some(asked),
+                _ => None,
+            };
+            let found = families.iter().flat_map(|(_, pairs)| pairs).find_map(differs);
+            assert_eq!(found, Some(asked), "{}", side.name());
         }
+    });
+}
+
+/// All that a preview can be wrong in: each fault of joins, but the two in what is written alone, and four of its own.
+#[test]
+fn the_faults_of_joins_are_planted_in_previews_too() {
+    let (joins, previews) = (of_joins(), in_previews());
+    let unseen: Vec<&Fault> = joins.iter().filter(|fault| !previews.contains(fault)).collect();
+    assert_eq!(unseen, [&Fault::ReachedExtended, &Fault::RestNotZeroed]);
+    let own: Vec<Fault> = previews.into_iter().filter(|fault| !joins.contains(fault)).collect();
+    assert!(own.len() == 4 && own.iter().all(|fault| fault.is_of_previews()));
+    on_large_stack(|| {
+        let pairs = some_pairs();
+        let unseen = |fault: &Fault| pairs.iter().all(|pair| difference(&FaultyPreviews(*fault), pair).is_none());
+        assert!([Fault::ReachedExtended, Fault::RestNotZeroed].iter().all(unseen));
     });
 }
 
@@ -207,17 +239,16 @@ fn some_pairs() -> Vec<Pair> {
 fn faults_are_right_where_their_rule_is_not_met() {
     on_large_stack(|| {
         let pairs = some_pairs();
-        let right = |fault: Fault| {
-            let side = Evaluator(Some(fault));
-            let comparison = Comparison::new(&side, false);
+        let right = |side: &dyn Engine| {
+            let comparison = Comparison::new(side, false);
             pairs.iter().filter(|pair| comparison.pair(pair).is_ok()).count()
         };
-        for fault in of_joins() {
-            let right = right(fault);
-            assert!(right * 5 >= pairs.len(), "{fault:?}, {right} of {}", pairs.len());
+        for (side, _) in faulty_copies() {
+            let right = right(side.as_ref());
+            assert!(right * 5 >= pairs.len(), "{}, {right} of {}", side.name(), pairs.len());
         }
         for fault in [Fault::RoomOneEarly, Fault::SpentBeforeValue, Fault::SumWraps] {
-            assert_eq!(right(fault), pairs.len(), "{fault:?}");
+            assert_eq!(right(&Evaluator(Some(fault))), pairs.len(), "{fault:?}");
         }
     });
 }
@@ -236,41 +267,78 @@ fn no_fault_of_joins_is_seen_in_a_call_about_one_book() {
         };
         for book in &books {
             let right = calls(&Evaluator(None), book);
-            assert!(of_joins().iter().all(|&fault| calls(&Evaluator(Some(fault)), book) == right));
+            assert!(faulty_copies().iter().all(|(side, _)| calls(side.as_ref(), book) == right));
         }
     });
 }
 
-/// What is planted in a check is planted in the checks of a join.
+/// Two fields of these labels and numbers.
+fn fields(labels: [u8; 2], numbers: [i64; 2]) -> Pair {
+    let field = |at: usize| encode_term(&Term::record(labels[at], Term::number(numbers[at])), Version::One);
+    Pair::of(field(0), field(1))
+}
+
+/// What is planted in a check is planted in the checks of a preview and of a join.
 #[test]
-fn a_join_checks_as_a_check_does() {
-    let pair = |one: Term, other: Term| Pair::of(encode_term(&one, Version::One), encode_term(&other, Version::One));
-    let field = |label: u8| Term::record(label, Term::number(1));
-    let clash = pair(Term::number(1), Term::number(2));
-    let small = pair(field(1), field(2));
-    let differs = |fault: Fault, pair: &Pair| Comparison::new(&Evaluator(Some(fault)), false).pair(pair).is_err();
-    assert!(differs(Fault::HalfNamed, &clash) && !differs(Fault::HalfNamed, &small));
-    assert!(differs(Fault::WrongLengthZeroed, &Pair { work: 5, ..small.clone() }));
+fn a_preview_and_a_join_check_as_a_check_does() {
+    let [clash, small] = [fields([1, 1], [1, 2]), fields([1, 2], [1, 1])];
+    let differs = |fault: Fault, pair: &Pair| {
+        let before = pair.buffers(&[0xAA; 2 * WORK], &[0xAA; 2 * WORK]);
+        let sides = [Evaluator(None), Evaluator(Some(fault))];
+        let [one, other] = sides.each_ref().map(|side| previewed(side, pair, before.clone()));
+        let [first, second] = sides.each_ref().map(|side| join_of(side, pair, before.clone()));
+        [one != other, first != second]
+    };
+    assert_eq!(differs(Fault::HalfNamed, &clash), [true; 2]);
+    assert_eq!(differs(Fault::HalfNamed, &small), [false; 2]);
+    assert_eq!(differs(Fault::WrongLengthZeroed, &Pair { work: 5, ..small }), [true; 2]);
+}
+
+/// A pair of this family on which the side differs, made smaller; and what is printed of it.
+fn made_smaller(side: &dyn Engine, asked: Asked, family: &str) -> (Pair, String) {
+    let comparison = Comparison::new(side, false);
+    let found = pairs(family, SEARCHED).into_iter().find(|pair| comparison.pair(pair).is_err());
+    let small = shrink_pair(&comparison, found.expect("a pair"), asked);
+    let Err((seen, difference)) = comparison.pair(&small) else { panic!("{small:?}") };
+    assert_eq!(seen, asked);
+    let text = described_pair(&small, seen, &difference, side);
+    (small, text)
 }
 
 #[test]
 fn pairs_are_made_smaller() {
     on_large_stack(|| {
-        let side = Evaluator(Some(Fault::ExtendedWithZeros));
-        let comparison = Comparison::new(&side, false);
-        let found = pairs("cells not reached", SEARCHED).into_iter().find(|pair| comparison.pair(pair).is_err());
-        let small = shrink_pair(&comparison, found.expect("a pair"));
-        assert!(comparison.pair(&small).is_err());
-        // A negative number and something beside it.
-        assert!(small.project.len() + small.part.len() <= 6 * CELL, "{small:?}");
+        let fault = Fault::ExtendedWithZeros;
+        let sides: [(&dyn Engine, Asked, &str); 2] = [
+            (&Evaluator(Some(fault)), Asked::Join, "asked: join, 32768 bytes lent"),
+            (&FaultyPreviews(fault), Asked::Preview, "asked: preview, 32768 bytes lent"),
+        ];
+        for (side, asked, words) in sides {
+            let family = if asked == Asked::Join { "cells not reached" } else { "pairs of values" };
+            let (small, text) = made_smaller(side, asked, family);
+            // A negative number and something beside it.
+            assert!(small.project.len() + small.part.len() <= 6 * CELL && !small.after, "{small:?}");
+            assert!(text.contains(words) && text.contains(&side.name()), "{text}");
+        }
+        let (_, text) = made_smaller(&FaultyPreviews(Fault::PreviewAltersLast), Asked::Preview, "two families");
+        assert!(text.contains("first differing lent byte 32767"), "{text}");
     });
 }
 
 /// A change to the lent bytes, to the work buffer, or to the answer.
 type Change = fn(&mut [u8], &mut [u8], &mut Joined);
 
-/// A side that differs in that alone.
-struct Other(Change);
+/// A side that differs in that alone, in the preview or in the join.
+struct Other(Asked, Change);
+
+impl Other {
+    fn changed(&self, asked: Asked, lent: &mut [u8], work: &mut [u8], mut joined: Joined) -> Joined {
+        if asked == self.0 {
+            (self.1)(lent, work, &mut joined);
+        }
+        joined
+    }
+}
 
 impl Engine for Other {
     fn name(&self) -> String {
@@ -282,31 +350,82 @@ impl Engine for Other {
     }
 
     fn join(&self, lent: &mut [u8], length: usize, part: &[u8], work: &mut [u8]) -> Result<Joined, String> {
-        let mut joined = Evaluator(None).join(lent, length, part, work)?;
-        (self.0)(lent, work, &mut joined);
-        Ok(joined)
+        let joined = Evaluator(None).join(lent, length, part, work)?;
+        Ok(self.changed(Asked::Join, lent, work, joined))
+    }
+
+    fn preview(&self, lent: &mut [u8], length: usize, part: &[u8], work: &mut [u8]) -> Result<Joined, String> {
+        let joined = Evaluator(None).preview(lent, length, part, work)?;
+        Ok(self.changed(Asked::Preview, lent, work, joined))
     }
 }
 
+const CHANGES: [Change; 6] = [
+    |lent, _, _| lent[PROJECT - 1] ^= 1,
+    |lent, _, _| lent[0] ^= 1,
+    |_, work, _| work[WORK - 1] ^= 1,
+    |_, _, joined| joined.bytes ^= 1,
+    |_, _, joined| joined.which = Which::Part,
+    |_, _, joined| joined.answer = Answer::Accepted { size: 9 },
+];
+
+/// An accepted pair and one that clashes.
+fn accepted_and_refused() -> [Pair; 2] {
+    let [accepted, refused] = [fields([1, 2], [0, 0]), fields([1, 1], [0, 9])];
+    assert!(joint(&refused.project, &refused.part).is_some() && joined(&refused).bytes == 0 && joined(&accepted).bytes > 0);
+    [accepted, refused]
+}
+
+/// Of the preview, of the join on a copy, and of the join with what the preview leaves.
 #[test]
 fn every_byte_and_the_whole_answer_are_compared() {
-    let others: [Change; 5] = [
-        |lent, _, _| lent[PROJECT - 1] ^= 1,
-        |lent, _, _| lent[0] ^= 1,
-        |_, work, _| work[WORK - 1] ^= 1,
-        |_, _, joined| joined.bytes ^= 1,
-        |_, _, joined| joined.which = Which::Part,
-    ];
-    let [accepted, refused] = [[1, 2], [1, 1]].map(|labels| {
-        let [one, other] = labels.map(|label| Term::record(label, Term::number(0)));
-        let other = if labels[0] == labels[1] { Term::record(1, Term::number(9)) } else { other };
-        Pair::of(encode_term(&one, Version::One), encode_term(&other, Version::One))
-    });
-    assert!(joint(&refused.project, &refused.part).is_some() && joined(&refused).bytes == 0 && joined(&accepted).bytes > 0);
-    for other in others {
-        for pair in [&accepted, &refused] {
-            let side = Other(other);
-            assert!(matches!(Comparison::new(&side, false).pair(pair), Err(Difference::Outcomes(_))));
+    for pair in accepted_and_refused() {
+        for (asked, change) in [Asked::Preview, Asked::Join].into_iter().flat_map(|asked| CHANGES.map(|change| (asked, change))) {
+            for after in [false, true] {
+                let side = Other(asked, change);
+                let failed = Comparison::new(&side, false).pair(&Pair { after, ..pair.clone() });
+                assert!(matches!(failed, Err((seen, Difference::Outcomes(_))) if seen == asked));
+            }
         }
     }
+}
+
+/// What a side says and leaves of a preview is held against what it says and leaves of the join, whatever the evaluator says.
+#[test]
+fn a_preview_that_does_not_agree_is_seen() {
+    for pair in accepted_and_refused() {
+        let before = pair.buffers(&[0xAA; 2 * WORK], &[0xAA; 2 * WORK]);
+        let left =
+            |side: &dyn Engine| -> [Left; 2] { [previewed(side, &pair, before.clone()), join_of(side, &pair, before.clone())] };
+        let [preview, join] = left(&Evaluator(None));
+        assert_eq!(agree(&before.lent, &preview, &join), Ok(()));
+        for change in CHANGES {
+            let [preview, join] = left(&Other(Asked::Preview, change));
+            assert!(agree(&before.lent, &preview, &join).is_err());
+        }
+    }
+}
+
+/// The join is asked on a copy for every answer, and with what the preview leaves in every family, for most answers and for all of a joint.
+#[test]
+fn every_pair_is_previewed_and_some_are_joined_after_it() {
+    on_large_stack(|| {
+        let comparison = Comparison::new(&Evaluator(None), false);
+        let mut answers = [BTreeSet::new(), BTreeSet::new()];
+        for (name, pairs) in all_pairs(SEARCHED) {
+            let after = pairs.iter().filter(|pair| pair.after).count();
+            assert!(after * 8 >= pairs.len() && after * 2 <= pairs.len(), "{name}, {after} of {}", pairs.len());
+            let before = comparison.previews.get();
+            for pair in &pairs {
+                let Ok(Joined { which, answer, .. }) = comparison.pair(pair) else { panic!("{name}") };
+                let number = if let Answer::Refused { number, .. } = answer { number } else { 0 };
+                answers[usize::from(pair.after)].insert((format!("{which:?}"), number));
+            }
+            assert_eq!(comparison.previews.get() - before, pairs.len());
+        }
+        let [on_copy, after] = answers;
+        // 2 to 15 of either book; of the joint 1, 10, 14, 16 and an acceptance.
+        assert!(on_copy.len() == 2 * 14 + 5 && after.len() >= 25, "{on_copy:?}, {after:?}");
+        assert_eq!(after.iter().filter(|(which, _)| which == "Joint").count(), 5);
+    });
 }

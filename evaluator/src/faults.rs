@@ -410,10 +410,50 @@ pub enum Fault {
     JointInWork,
     /// The joint's type laid down in the project's version.
     TypeOfProjectVersion,
+    /// A joint of more than 4,095 cells accepted; of what is written of it, only so much as is lent.
+    FullAccepted,
+    /// 10, naming the merge, in place of 16.
+    FullAsLarge,
+    /// The joint not checked where the labels of both roots differ.
+    RootLabelsEnough,
+    /// The joint not checked where no label is in both books.
+    OtherLabelsEnough,
+    /// What the joint is refused by names cell 0.
+    JointCellZero,
+    /// An acceptance named under the part.
+    AcceptanceUnderPart,
+    /// The project's type left in the work buffer where the part or the joint is refused.
+    ProjectTypeLeft,
+    /// The project checked before the length of the work buffer.
+    ProjectBeforeWork,
+    /// A refused join leaves the work buffer as it was.
+    RefusalLeavesWork,
+    /// An accepted join gives 0 bytes.
+    CountNothing,
+    /// An accepted join gives the project's bytes.
+    CountOfProjectKept,
+    /// The size of the joint's root in place of its type's.
+    SizeOfJoint,
+    /// The size of the project's type in place of the joint's.
+    SizeOfProjectType,
+    /// An accepted join zeroes the work buffer.
+    AcceptanceZeroesWork,
+    /// An accepted join leaves the work buffer as it was.
+    AcceptanceLeavesWork,
+    /// The work buffer past the joint's type left as it was.
+    PastTypeLeft,
+    /// A preview writes the joint that it foresees.
+    PreviewWrites,
+    /// A preview leaves the joint's bytes behind the project.
+    PreviewLeavesCells,
+    /// An accepted preview zeroes the lent bytes past the project.
+    PreviewZeroesRest,
+    /// An accepted preview alters the last lent byte.
+    PreviewAltersLast,
 }
 
 impl Fault {
-    pub const ALL: [Fault; 203] = [
+    pub const ALL: [Fault; 223] = [
         Fault::CovariantInputs,
         Fault::ArgumentUncast,
         Fault::RoomOneEarly,
@@ -617,11 +657,42 @@ impl Fault {
         Fault::RestNotZeroed,
         Fault::JointInWork,
         Fault::TypeOfProjectVersion,
+        Fault::FullAccepted,
+        Fault::FullAsLarge,
+        Fault::RootLabelsEnough,
+        Fault::OtherLabelsEnough,
+        Fault::JointCellZero,
+        Fault::AcceptanceUnderPart,
+        Fault::ProjectTypeLeft,
+        Fault::ProjectBeforeWork,
+        Fault::RefusalLeavesWork,
+        Fault::CountNothing,
+        Fault::CountOfProjectKept,
+        Fault::SizeOfJoint,
+        Fault::SizeOfProjectType,
+        Fault::AcceptanceZeroesWork,
+        Fault::AcceptanceLeavesWork,
+        Fault::PastTypeLeft,
+        Fault::PreviewWrites,
+        Fault::PreviewLeavesCells,
+        Fault::PreviewZeroesRest,
+        Fault::PreviewAltersLast,
     ];
 
-    /// A fault of joins alone: a check and a run are as ever.
+    /// A fault of joins, or of previews if it is planted in them: a check and a run are as ever.
     pub fn is_of_joins(self) -> bool {
-        self as usize >= Fault::SkipsRaised as usize
+        self as usize >= Fault::SkipsRaised as usize && !self.is_of_previews()
+    }
+
+    /// A fault that no join can have: it alters what only a preview leaves as it was.
+    pub fn is_of_previews(self) -> bool {
+        self as usize >= Fault::PreviewWrites as usize
+    }
+
+    /// Planted in previews, the fault can be seen: that of a join that is wrong in the bytes alone that it writes cannot.
+    pub fn shows_in_previews(self) -> bool {
+        let written = matches!(self, Fault::ReachedExtended | Fault::RestNotZeroed);
+        self.is_of_previews() || self.is_of_joins() && !written
     }
 }
 

@@ -1,5 +1,6 @@
 //! Joining a part to the project. Document 02, (vi): "Two books become one: cells of the project, cells of the part with references raised, then
-//! a merge of both roots, then a trailer with the higher version and numbers extended as in (iv)."
+//! a merge of both roots, then a trailer with the higher version and numbers extended as in (iv)." And its (vii), a preview: "It gives the answer
+//! and byte count that the join would give on a copy."
 
 use crate::answers::{accept, answer, Answer};
 use crate::book::{decode, encode_type, Cell, Refusal, CELL};
@@ -22,7 +23,7 @@ pub enum Which {
     Joint,
 }
 
-/// What a join says. An acceptance names the joint and gives the size of its type.
+/// What a join says, and a preview of it. An acceptance names the joint and gives the size of its type.
 #[derive(Clone, Copy, PartialEq, Eq, Debug)]
 pub struct Joined {
     pub which: Which,
@@ -139,27 +140,28 @@ fn tested(lent: &[u8], length: usize, part: &[u8]) -> Result<Accepted, Turned> {
         misjoining::before_part(fault, project, part)?;
     }
     let two = version(Which::Part, part)?;
-    let joint = laid_down(&Rows::of(Which::Project, project, one), &Rows::of(Which::Part, part, two));
+    let [one, two] = [Rows::of(Which::Project, project, one), Rows::of(Which::Part, part, two)];
+    let joint = laid_down(&one, &two);
     let most = match current() {
         Some(Fault::FullOneEarly) => CELLS - 1,
         Some(Fault::FullOneLate) => CELLS + 1,
+        Some(Fault::FullAccepted) => 2 * CELLS + 1,
         _ => CELLS,
     };
     if joint.len() / CELL - 1 > most {
         return turn_back(Which::Joint, 16);
     }
-    if planted(Fault::JointUnchecked) {
+    if current().is_some_and(|fault| misjoining::is_unchecked(fault, &one, &two)) {
         return misjoining::unchecked(joint, project, part);
     }
     let (inferred, version) = accepted(Which::Joint, &joint)?;
     Ok((joint, inferred, version))
 }
 
-/// The join, with what it leaves: "the work buffer is left as a check with the same answer leaves it"; "any refusal leaves all the project's
-/// lent bytes, those past the project too".
-pub(crate) fn answered(project: &mut [u8], length: usize, part: &[u8], work: &mut [u8]) -> Joined {
+/// What a join and a preview say, and the joint, of no bytes if it is refused: "the work buffer is left as a check with the same answer leaves
+/// it".
+fn judged(lent: &[u8], length: usize, part: &[u8], work: &mut [u8]) -> (Joined, Vec<u8>) {
     let (mut which, mut joint) = (Which::Joint, Vec::new());
-    let lent = &*project;
     let answer = answer(work, || match tested(lent, length, part) {
         Ok((bytes, inferred, version)) => {
             joint = bytes;
@@ -170,12 +172,17 @@ pub(crate) fn answered(project: &mut [u8], length: usize, part: &[u8], work: &mu
             Err(refusal)
         }
     });
-    let bytes = joint.len();
-    if bytes > 0 {
+    (Joined { which, answer, bytes: joint.len() }, joint)
+}
+
+/// The join, with what it leaves: "any refusal leaves all the project's lent bytes, those past the project too".
+pub(crate) fn answered(project: &mut [u8], length: usize, part: &[u8], work: &mut [u8]) -> Joined {
+    let (joined, mut joint) = judged(project, length, part, work);
+    if joined.bytes > 0 {
         joint.resize(project.len(), 0);
         project.copy_from_slice(&joint);
     }
-    Joined { which, answer, bytes }
+    joined
 }
 
 /// "Two books become one": the first `length` lent bytes of the project and the part. "Refusal 1 comes first, under joint."
@@ -183,5 +190,14 @@ pub fn join(project: &mut [u8], length: usize, part: &[u8], work: &mut [u8]) -> 
     match current() {
         Some(fault) => misjoining::join(fault, project, length, part, work),
         None => answered(project, length, part, work),
+    }
+}
+
+/// "A preview takes what a join takes. It gives the answer and byte count that the join would give on a copy, with the type's size if accepted,
+/// and leaves the work buffer alike, with not a lent byte of the project altered."
+pub fn preview(project: &[u8], length: usize, part: &[u8], work: &mut [u8]) -> Joined {
+    match current() {
+        Some(fault) => misjoining::preview(fault, &mut project.to_vec(), length, part, work),
+        None => judged(project, length, part, work).0,
     }
 }

@@ -1,12 +1,14 @@
-//! What planted faults make of a join.
+//! What planted faults make of a join and of a preview.
 
 use crate::answers::{check, Answer, WORK};
 use crate::book::{decode, Cell, Refusal, CELL, TRAILER};
 use crate::faults::Fault;
 use crate::joining::{accepted, answered, joint, Joined, Rows, Which, CELLS, PROJECT};
 use crate::kinds::{kind, row, Sort};
+use crate::stack::on_large_stack;
 use crate::terms::Type;
 use crate::versions::Version;
+use std::collections::BTreeSet;
 
 /// The joint's version.
 pub fn version(fault: Fault, [project, part]: [Version; 2]) -> Version {
@@ -143,6 +145,24 @@ pub fn before_part(fault: Fault, project: &[u8], part: &[u8]) -> Result<(), (Whi
     Ok(())
 }
 
+/// The labels that a book's cells have.
+fn labels(rows: &Rows) -> BTreeSet<u8> {
+    let labelled = |cell: &&Cell| row(cell.kind).is_some_and(|row| row.labelled);
+    rows.cells.iter().filter(labelled).map(|cell| cell.label).collect()
+}
+
+/// Whether the joint of these is not checked on its own.
+pub fn is_unchecked(fault: Fault, project: &Rows, part: &Rows) -> bool {
+    let root_label = |rows: &Rows| rows.cells[usize::from(rows.root)].label;
+    match fault {
+        Fault::JointUnchecked => true,
+        Fault::FullAccepted => project.cells.len() + part.cells.len() + 1 > CELLS,
+        Fault::RootLabelsEnough => root_label(project) != root_label(part),
+        Fault::OtherLabelsEnough => labels(project).is_disjoint(&labels(part)),
+        _ => false,
+    }
+}
+
 /// The joint with the intersection of both types, not tested on its own.
 pub fn unchecked(joint: Vec<u8>, project: &[u8], part: &[u8]) -> Result<(Vec<u8>, Type, Version), (Which, Refusal)> {
     let (one, first) = accepted(Which::Project, project)?;
@@ -173,6 +193,16 @@ impl Before<'_> {
     fn other_length(&self) -> bool {
         self.project.len() != PROJECT
     }
+
+    /// The project, if it is lent and told as it must be.
+    fn told(&self) -> Option<&[u8]> {
+        self.project.get(..self.length).filter(|_| !self.other_length())
+    }
+
+    /// What a check says of the project.
+    fn of_project(&self) -> Answer {
+        self.told().map_or(Answer::Refused { number: 2, cell: 0 }, |project| check(project, &mut vec![0; WORK]))
+    }
 }
 
 pub fn join(fault: Fault, project: &mut [u8], length: usize, part: &[u8], work: &mut [u8]) -> Joined {
@@ -187,6 +217,21 @@ pub fn join(fault: Fault, project: &mut [u8], length: usize, part: &[u8], work: 
     }
 }
 
+/// A preview is what a join says and leaves on a copy: with a fault, what the join with that fault does. What this join alters though it
+/// refuses, the preview alters.
+pub fn preview(fault: Fault, project: &mut [u8], length: usize, part: &[u8], work: &mut [u8]) -> Joined {
+    let mut copy = project.to_vec();
+    let joined = join(fault, &mut copy, length, part, work);
+    match (fault, joined.answer) {
+        (_, Answer::Refused { .. }) | (Fault::PreviewWrites, _) => project.copy_from_slice(&copy),
+        (Fault::PreviewLeavesCells, _) => project[length..].copy_from_slice(&copy[length..]),
+        (Fault::PreviewZeroesRest, _) => project[length..].fill(0),
+        (Fault::PreviewAltersLast, _) => project[PROJECT - 1] ^= 1,
+        _ => {}
+    }
+    joined
+}
+
 /// After refusal 1.
 fn wrong_work(fault: Fault, before: &Before, joined: Joined, lent: &mut Lent) -> Joined {
     match fault {
@@ -195,6 +240,11 @@ fn wrong_work(fault: Fault, before: &Before, joined: Joined, lent: &mut Lent) ->
         Fault::WrongWorkZeroesLent => lent.project.fill(0),
         Fault::LentBeforeWork if before.other_length() => {
             return Joined { which: Which::Project, answer: Answer::Refused { number: 2, cell: 0 }, ..joined };
+        }
+        Fault::ProjectBeforeWork => {
+            if let answer @ Answer::Refused { .. } = before.of_project() {
+                return Joined { which: Which::Project, answer, ..joined };
+            }
         }
         _ => {}
     }
@@ -207,11 +257,13 @@ fn refused(fault: Fault, number: u8, before: &Before, joined: Joined, lent: &mut
         Fault::RefusalZeroesLent => lent.project.fill(0),
         Fault::RefusalZeroesRest => lent.project.iter_mut().skip(before.length).for_each(|byte| *byte = 0),
         Fault::CountOfProject => return Joined { bytes: before.length, ..joined },
+        Fault::RefusalLeavesWork => lent.work.copy_from_slice(&before.work),
+        Fault::ProjectTypeLeft if joined.which != Which::Project => drop(before.told().map(|project| check(project, lent.work))),
         Fault::LentUnderJoint if before.other_length() => return Joined { which: Which::Joint, ..joined },
         Fault::LentLeavesWork if before.other_length() => lent.work.copy_from_slice(&before.work),
         Fault::PartCellRaised if joined.which == Which::Part && number > 4 => return raised_refusal(before, joined),
         _ if number == 16 => return full_joint(fault, before, joined, lent),
-        _ if joined.which == Which::Joint => return refused_joint(fault, before, joined, lent),
+        _ if joined.which == Which::Joint => return refused_joint(fault, number, before, joined, lent),
         _ => {}
     }
     joined
@@ -228,6 +280,10 @@ fn full_joint(fault: Fault, before: &Before, joined: Joined, lent: &mut Lent) ->
     match fault {
         Fault::FullUnderPart => return Joined { which: Which::Part, ..joined },
         Fault::FullNamesMerge => return Joined { answer: Answer::Refused { number: 16, cell: CELLS }, ..joined },
+        Fault::FullAsLarge => {
+            let cell = (before.length + before.part.len()) / CELL - 2;
+            return Joined { answer: Answer::Refused { number: 10, cell }, ..joined };
+        }
         Fault::FullLeavesWork => lent.work.copy_from_slice(&before.work),
         Fault::PartTypeLeft => drop(check(before.part, lent.work)),
         _ => {}
@@ -236,10 +292,11 @@ fn full_joint(fault: Fault, before: &Before, joined: Joined, lent: &mut Lent) ->
 }
 
 /// After a refusal that the joint meets itself.
-fn refused_joint(fault: Fault, before: &Before, joined: Joined, lent: &mut Lent) -> Joined {
+fn refused_joint(fault: Fault, number: u8, before: &Before, joined: Joined, lent: &mut Lent) -> Joined {
     match fault {
         Fault::JointUnderPart => return Joined { which: Which::Part, ..joined },
         Fault::CountOfRefused => return Joined { bytes: before.joint().len(), ..joined },
+        Fault::JointCellZero => return Joined { answer: Answer::Refused { number, cell: 0 }, ..joined },
         Fault::PartTypeLeft => drop(check(before.part, lent.work)),
         Fault::RefusedJointLeft => {
             let mut joint = before.joint();
@@ -255,15 +312,34 @@ fn refused_joint(fault: Fault, before: &Before, joined: Joined, lent: &mut Lent)
 fn wrong_acceptance(fault: Fault, before: &Before, joined: Joined, lent: &mut Lent) -> Joined {
     let Joined { answer: Answer::Accepted { size }, bytes, .. } = joined else { return joined };
     match fault {
-        Fault::AcceptanceUnderProject => return Joined { which: Which::Project, ..joined },
-        Fault::CountWithoutTrailer => return Joined { bytes: bytes - CELL, ..joined },
         Fault::RestNotZeroed => lent.project[bytes..].copy_from_slice(&before.project[bytes..]),
         Fault::JointInWork => {
             lent.work.fill(0);
             lent.work[..bytes.min(WORK)].copy_from_slice(&lent.project[..bytes]);
         }
         Fault::TypeOfProjectVersion => lent.work[size * CELL + 1] = before.project[before.length - CELL + 1],
+        Fault::AcceptanceZeroesWork => lent.work.fill(0),
+        Fault::AcceptanceLeavesWork => lent.work.copy_from_slice(&before.work),
+        Fault::PastTypeLeft => {
+            let past = (size + 1) * CELL;
+            lent.work[past..].copy_from_slice(&before.work[past..]);
+        }
         _ => {}
     }
-    joined
+    misreported(fault, before, joined, lent.project)
+}
+
+/// What is said of an acceptance.
+fn misreported(fault: Fault, before: &Before, joined: Joined, project: &[u8]) -> Joined {
+    let size_of_root = || on_large_stack(|| decode(&project[..joined.bytes]).map_or(0, |(root, _)| root.size() as usize));
+    match fault {
+        Fault::AcceptanceUnderProject => Joined { which: Which::Project, ..joined },
+        Fault::AcceptanceUnderPart => Joined { which: Which::Part, ..joined },
+        Fault::CountWithoutTrailer => Joined { bytes: joined.bytes - CELL, ..joined },
+        Fault::CountNothing => Joined { bytes: 0, ..joined },
+        Fault::CountOfProjectKept => Joined { bytes: before.length, ..joined },
+        Fault::SizeOfJoint => Joined { answer: Answer::Accepted { size: size_of_root() }, ..joined },
+        Fault::SizeOfProjectType => Joined { answer: before.of_project(), ..joined },
+        _ => joined,
+    }
 }

@@ -1,9 +1,9 @@
 //! Document 02, (vi): "Two books become one." Stated joins byte for byte, the order of the tests, what is left, and what is promised of a joint
-//! on every two of many books.
+//! on every two of many books. Its (vii): each of these joins is previewed.
 
 use evaluator::{
-    check, decode, encode_term, join, joint, kind, on_large_stack, run, Answer, Cell, Joined, Term, TermShape, Type, Version,
-    Which, CELLS, PROJECT, WORK,
+    check, decode, encode_term, join, joint, kind, on_large_stack, preview, run, Answer, Cell, Joined, Term, TermShape, Type,
+    Version, Which, CELLS, PROJECT, WORK,
 };
 use Version::{One, Two};
 use Which::{Joint, Part, Project};
@@ -23,19 +23,39 @@ fn book(version: u8, cells: &[Line], root: u16) -> Vec<u8> {
     cells.iter().map(cell).chain([trailer]).flat_map(Cell::bytes).collect()
 }
 
-/// What a join answers and leaves.
+/// What a join or a preview answers and leaves.
+#[derive(PartialEq, Eq)]
 struct Left {
     joined: Joined,
     lent: Vec<u8>,
     work: Vec<u8>,
 }
 
-/// The project in so many lent bytes, of which so many are told.
-fn asked(project: &[u8], lent: usize, told: usize, part: &[u8], work: usize) -> Left {
-    let mut lent = [project, &vec![LENT; lent.saturating_sub(project.len())]].concat()[..lent].to_vec();
-    let mut work = vec![WORKED; work];
+/// The project in so many lent bytes.
+fn lent(project: &[u8], length: usize) -> Vec<u8> {
+    [project, &vec![LENT; length.saturating_sub(project.len())]].concat()[..length].to_vec()
+}
+
+fn join_left(mut lent: Vec<u8>, told: usize, part: &[u8], mut work: Vec<u8>) -> Left {
     let joined = join(&mut lent, told, part, &mut work);
     Left { joined, lent, work }
+}
+
+fn preview_left(lent: Vec<u8>, told: usize, part: &[u8], mut work: Vec<u8>) -> Left {
+    let joined = preview(&lent, told, part, &mut work);
+    Left { joined, lent, work }
+}
+
+/// The project in so many lent bytes, of which so many are told. "Preview and join on a copy agree": on a copy of what the preview is lent, and
+/// on what it leaves.
+fn asked(project: &[u8], length: usize, told: usize, part: &[u8], work: usize) -> Left {
+    let (lent, work) = (lent(project, length), vec![WORKED; work]);
+    let foreseen = preview_left(lent.clone(), told, part, work.clone());
+    let left = join_left(lent.clone(), told, part, work);
+    assert!(foreseen.joined == left.joined && foreseen.work == left.work, "{:?}, {:?}", foreseen.joined, left.joined);
+    assert!(foreseen.lent == lent);
+    assert!(join_left(foreseen.lent, told, part, foreseen.work) == left);
+    left
 }
 
 fn joined(project: &[u8], part: &[u8]) -> Left {
@@ -383,4 +403,75 @@ fn only_books_have_a_joint() {
     assert_eq!(joint(&seven(), &[]), None);
     assert_eq!(joint(&book(1, &[[1, 0, 0, 0, 0]], 0), &seven()), None);
     assert!(joint(&one_and_two(), &applied()).is_some());
+}
+
+/// "It gives the answer and byte count that the join would give on a copy, with the type's size if accepted."
+#[test]
+fn previews_of_stated_joins() {
+    let accepted = |size, bytes| (Joint, Answer::Accepted { size }, bytes);
+    let refused = |which, number, cell| (which, Answer::Refused { number, cell }, 0);
+    let [one, two] = [number(1), field(1, 2)].map(|term| encode_term(&term, One));
+    let (narrow, wide) = (encode_term(&number(-5), One), encode_term(&field(2, 1 << 40), Two));
+    let stated = [
+        (seven(), one.clone(), accepted(4, 40)),
+        (seven(), seven(), accepted(5, 48)),
+        (narrow.clone(), wide.clone(), accepted(4, 40)),
+        (wide, narrow, accepted(4, 40)),
+        (tops(4_000), tops(94), accepted(3, PROJECT)),
+        (tops(4_000), tops(95), refused(Joint, 16, 0)),
+        (tops(CELLS), one_and_two(), refused(Part, 14, 2)),
+        (seven(), two, refused(Joint, 14, 4)),
+        (one_and_two(), applied(), refused(Project, 14, 2)),
+        (seven(), applied(), refused(Part, 12, 2)),
+    ];
+    for (project, part, (which, answer, bytes)) in stated {
+        let left = preview_left(lent(&project, PROJECT), project.len(), &part, vec![WORKED; WORK]);
+        assert_eq!(left.joined, Joined { which, answer, bytes });
+        assert!(left.lent == lent(&project, PROJECT));
+        let book = joint(&project, &part).filter(|_| bytes > 0).unwrap_or_default();
+        assert_eq!((book.len(), left.work), (bytes, checked(&book).1));
+    }
+}
+
+#[test]
+fn previews_lent_and_told_wrongly() {
+    let project = seven();
+    let asked = |length, told, work| preview_left(lent(&project, length), told, &project, vec![WORKED; work]);
+    let refused = |which, number| Joined { which, answer: Answer::Refused { number, cell: 0 }, bytes: 0 };
+    for (length, told) in [(PROJECT, 24), (100, 24), (PROJECT, PROJECT + 8)] {
+        let left = asked(length, told, 5);
+        assert_eq!(left.joined, refused(Joint, 1));
+        assert_eq!(left.work, [WORKED; 5]);
+    }
+    for (length, told) in [(100, 24), (PROJECT + 8, 24), (PROJECT, 0), (PROJECT, 17), (PROJECT, PROJECT + 8), (PROJECT, usize::MAX)]
+    {
+        let left = asked(length, told, WORK);
+        assert_eq!(left.joined, refused(Project, 2));
+        assert!(left.work.iter().all(|&byte| byte == 0));
+    }
+    assert_eq!(asked(PROJECT, PROJECT, WORK).joined, refused(Project, 3));
+}
+
+/// Previews of several parts, one after the other in one work buffer, and then the join of one of them: the joint that was foreseen.
+#[test]
+fn the_joint_that_was_foreseen() {
+    let project = seven();
+    let parts = [field(1, 2), field(2, 3), number(1), field(1, 7), Term::application(number(1), number(1))];
+    let parts = parts.map(|term| encode_term(&term, Two));
+    for chosen in &parts {
+        let mut work = vec![WORKED; WORK];
+        let mut kept = lent(&project, PROJECT);
+        let foreseen = preview(&kept, project.len(), chosen, &mut work);
+        let shown = work.clone();
+        for other in &parts {
+            let said = preview(&kept, project.len(), other, &mut work);
+            assert!(kept == lent(&project, PROJECT) && (said == foreseen || other != chosen));
+        }
+        assert_eq!(join(&mut kept, project.len(), chosen, &mut work), foreseen);
+        assert!(work == shown);
+        if foreseen.bytes > 0 {
+            assert_eq!(Some(&kept[..foreseen.bytes]), joint(&project, chosen).as_deref());
+            assert_eq!(checked(&kept[..foreseen.bytes]), (foreseen.answer, shown));
+        }
+    }
 }
