@@ -329,6 +329,9 @@ fn is_there(file: &Path) -> io::Result<bool> {
         Ok(there) if there.is_dir() => Err(io::ErrorKind::IsADirectory.into()),
         Ok(there) => Ok(there.is_file()),
         Err(error) if error.kind() == io::ErrorKind::NotFound => {
+            if file.as_os_str().as_encoded_bytes().ends_with(b"/") {
+                return Err(io::ErrorKind::IsADirectory.into());
+            }
             let folder = file.parent().ok_or(error)?;
             fs::metadata(Path::new(".").join(folder)).map(|_| false)
         }

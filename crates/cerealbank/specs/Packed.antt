@@ -5,7 +5,7 @@ use mathlib.Core.List.{List}
 use Rattle.answers.specs.Answer.{Result}
 use Rattle.answers.specs.Exported.{tagOf, valueOf, secondOf, tagPlace, secondPlace, packed}
 use Rattle.joining.specs.declared.Joined.{Joined}
-use Rattle.joining.specs.Join.{JoinResult, joinAnswer}
+use Rattle.joining.specs.Join.{JoinResult, joinAnswer, joined}
 use Rattle.joining.specs.Exported.{whichNumber, whichPlace, bytesPlace, packedJoin}
 
 -- The number r and the bytes v are those of the result x.
@@ -44,7 +44,11 @@ pub record PacksJoin (k v : List ℕ) (r : ℕ) (x : JoinResult) : Type 0 where
   pub lent : k ≡ x .lent
   pub left : v ≡ x .left
 
--- The same of a preview: the number and the bytes v are a join's of a copy, and the project's lent bytes l, which are k afterwards, are not altered.
+-- The same of a preview, x being the result of a join of a copy, whose lent bytes the preview does not touch: the project's own, l, are k afterwards.
 pub record PacksPreview (l k v : List ℕ) (r : ℕ) (x : JoinResult) : Type 0 where
   pub foresees : PacksJoin (x .lent) v r x
   pub unaltered : k ≡ l
+
+-- "preview and join on a copy agree": so do the exported calls, of the project as the preview left it.
+abbrev pub ExportedAgree : Type 0
+ExportedAgree = (l k k' : List ℕ) (n : ℕ) (q w v v' : List ℕ) (r r' : ℕ) → PacksPreview l k v r (joined l n q w) → PacksJoin k' v' r' (joined k n q w) → (r ≡ r') × (v ≡ v')

@@ -41,7 +41,7 @@ pub extern "C" fn cerealbank_run(book: &[u8], work: &mut [u8], limit: u32) -> u6
     pack(run(book, work, limit))
 }
 
-// The same of a join: the book that is meant in bits 40 to 47, the byte count in bits 48 to 63.
+// The same of a join and a preview: the book that is meant in bits 40 to 47, the byte count in bits 48 to 63.
 fn pack_join(j: Joined) -> u64
     requires { ⌜ JoinFits j ⌝ }
     ensures { λ n. ⌜ PackedJoin j n ⌝ }

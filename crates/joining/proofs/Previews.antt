@@ -9,7 +9,7 @@ use mathlib.Core.List.{List, []}
 use lib.ListN.{length, take, replicate, length-append, length-replicate}
 use Rattle.calculus.specs.Syntax.{Ty, Term, merge, size-type}
 use Rattle.calculus.specs.Typing.{Typed}
-use Rattle.calculus.proofs.Typing.{typed-size}
+use Rattle.calculus.proofs.Typing.{typed-unique, typed-size}
 use Rattle.format.specs.Cell.{IsBytes}
 use Rattle.format.specs.Book.{rootTerm, versionOf, typeBook}
 use Rattle.format.specs.Terms.{fromType}
@@ -19,15 +19,15 @@ use Rattle.format.proofs.Trees.{type-cells}
 use Rattle.format.proofs.Tests.{rootTerm-small}
 use Rattle.answers.specs.Answer.{Answer, refused, accepted, stopped, Result}
 use Rattle.answers.specs.Engine.{workLength, IsWork, zeros, padded}
-use Rattle.answers.specs.Definition.{check, shown}
-use Rattle.answers.proofs.AllSamples.{in-work}
+use Rattle.answers.specs.Definition.{check}
 use Rattle.answers.proofs.Demands.{work-at-hand}
 use Rattle.joining.specs.declared.Joined.{Joined}
 use Rattle.joining.specs.Join.{JoinResult, joinAnswer, lentLength, afterBooks, afterProject, afterLengths, joined}
 use Rattle.joining.specs.Joins.{Owed, Joins}
 use Rattle.joining.specs.Stages.{Judged}
-use Rattle.joining.specs.Previews.{Previews, Foreseen, PreviewAgrees, JoinFollows}
+use Rattle.joining.specs.Previews.{Previews, Foreseen, PreviewAgrees, JoinFollows, AnyWorkAgrees}
 use Rattle.joining.proofs.Stages.{not-lent, is-lent}
+use Rattle.joining.proofs.Judging.{check-alike}
 use Rattle.joining.proofs.Meaning.{joins}
 use Rattle.joining.proofs.Cases.{never-stopped, same-joined}
 
@@ -47,7 +47,7 @@ type-shown {w = w} c m e =
 pub previews : (l : List ℕ) (n : ℕ) (q w : List ℕ) {v d k : List ℕ} {r : Joined} → Judged l d v r (joined l n q w) → IsBytes l → IsBytes q → k ≡ l → Previews l k n q w v r
 previews l n q w j yl yq e =
     let c = joins l n q w j yl yq refl in
-    record { which = j .which; answer = j .answer; bytes = j .bytes; sized = type-shown c; left = j .left; unaltered = e; foresees = c }
+    record { which = j .which; answer = j .answer; bytes = j .bytes; size-shown = type-shown c; left = j .left; unaltered = e; foresees = c }
 
 -- ---- on a copy
 
@@ -68,14 +68,10 @@ preview-agrees l k k' n q w v v' r r' p j = foreseen refl p j
 -- ---- on the buffers that the preview leaves
 
 -- no work buffer of 65,536 bytes makes a difference
-check-alike : (b w v : List ℕ) → IsWork w → IsWork v → check b w ≡ check b v
-unfolding check
-check-alike b w v k h = in-work b w (shown (versionOf b)) k ∙ sym (in-work b v (shown (versionOf b)) h)
-
 module _ (l : List ℕ) (n : ℕ) (q w v : List ℕ) (k : IsWork w) (h : IsWork v) where
-  books-alike : (p : List ℕ) → afterLengths p q l w ≡ afterLengths p q l v
+  lengths-alike : (p : List ℕ) → afterLengths p q l w ≡ afterLengths p q l v
   unfolding afterLengths afterProject afterBooks
-  books-alike p = cc (check-alike p w v k h, check-alike q w v k h, check-alike (joint p q) w v k h)
+  lengths-alike p = cc (check-alike p w v k h, check-alike q w v k h, check-alike (joint p q) w v k h)
 
   joined-alike : joined l n q w ≡ joined l n q v
   joined-alike =
@@ -85,7 +81,7 @@ module _ (l : List ℕ) (n : ℕ) (q w v : List ℕ) (k : IsWork w) (h : IsWork 
           | no u ↦ not-lent l n q w k (inr (omega arith)) ∙ sym (not-lent l n q v h (inr (omega arith)))
           | yes o ↦
               is-lent l n q w (record { work = k; long = e; within = o })
-              ∙ books-alike (take n l)
+              ∙ lengths-alike (take n l)
               ∙ sym (is-lent l n q v (record { work = h; long = e; within = o }))
         ]
       ]
@@ -127,5 +123,23 @@ module _ {l k : List ℕ} {n : ℕ} {q w v : List ℕ} {r : Joined} (p : Preview
         | no u ↦ ap (joined l n q) (sym (p .foresees .kept 0 (p .foresees .first u .answer)))
       ]
 
+-- the project is as it was lent
+of-lent : {l k k' : List ℕ} {n : ℕ} {q w w' v v' : List ℕ} {r r' : Joined} → Previews l k n q w v r → Joins k k' n q w' v' r' → Joins l k' n q w' v' r'
+of-lent {k' = k'} {n} {q} {w' = w'} {v' = v'} {r' = r'} p j = subst (λ (x : List ℕ). Joins x k' n q w' v' r') (p .unaltered) j
+
 pub join-follows : JoinFollows
-join-follows l k k' n q w v v' r r' p j = foreseen (after p) p (subst (λ (x : List ℕ). Joins x k' n q v v' r') (p .unaltered) j)
+join-follows l k k' n q w v v' r r' p j = foreseen (after p) p (of-lent p j)
+
+pub any-work-agrees : AnyWorkAgrees
+any-work-agrees l k k' n q w w' v v' r r' o u p j = foreseen (joined-alike l n q w w' o u) p (of-lent p j)
+
+-- ---- what follows
+
+-- a preview that is asked for again, on the buffers that it left, says and leaves the same
+pub previews-again : {l k k' : List ℕ} {n : ℕ} {q w v v' : List ℕ} {r r' : Joined} → Previews l k n q w v r → Previews k k' n q v v' r' → Foreseen v v' r r'
+previews-again p o = join-follows _ _ _ _ _ _ _ _ _ _ p (o .foresees)
+
+-- the size is that of every type that the calculus derives for the merge
+pub size-of-type : {l k : List ℕ} {n : ℕ} {q w v : List ℕ} {r : Joined} → Previews l k n q w v r → (m : ℕ) → joinAnswer (r .answer) ≡ accepted m →
+    (A : Ty) → Typed [] (merge (rootTerm (take n l)) (rootTerm q)) A → m ≡ size-type A
+size-of-type p m e A t = let x = p .size-shown m e in x .2 ∙ ap size-type (typed-unique (x .1) t)

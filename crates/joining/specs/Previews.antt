@@ -8,6 +8,7 @@ use Rattle.calculus.specs.Syntax.{Ty, merge, size-type}
 use Rattle.calculus.specs.Typing.{Typed}
 use Rattle.format.specs.Book.{rootTerm}
 use Rattle.answers.specs.Answer.{accepted}
+use Rattle.answers.specs.Engine.{IsWork}
 use Rattle.joining.specs.declared.Joined.{Joined}
 use Rattle.joining.specs.Join.{joinAnswer, joined}
 use Rattle.joining.specs.Joins.{Joins}
@@ -21,12 +22,12 @@ pub record Previews (l k : List ℕ) (n : ℕ) (q w v : List ℕ) (r : Joined) :
   -- and byte count that the join would give on a copy,
   pub bytes : r .bytes ≡ joined l n q w .bytes
   -- with the type's size if accepted,
-  pub sized : (m : ℕ) → joinAnswer (r .answer) ≡ accepted m → (A : Ty) × Typed [] (merge (rootTerm (take n l)) (rootTerm q)) A × (m ≡ size-type A)
+  pub size-shown : (m : ℕ) → joinAnswer (r .answer) ≡ accepted m → (A : Ty) × Typed [] (merge (rootTerm (take n l)) (rootTerm q)) A × (m ≡ size-type A)
   -- and leaves the work buffer alike,
   pub left : v ≡ joined l n q w .left
   -- with not a lent byte of the project altered."
   pub unaltered : k ≡ l
-  -- Every sentence about a join holds of this answer and work buffer, with a copy as the join would leave it.
+  -- Every sentence about a join holds of this answer and work buffer, with the copy's lent bytes as the join would leave them.
   pub foresees : Joins l (joined l n q w .lent) n q w v r
 
 -- What a join answers, r', and leaves in the work buffer, v', is what a preview answered, r, and left, v.
@@ -41,6 +42,10 @@ pub record Foreseen (v v' : List ℕ) (r r' : Joined) : Type 0 where
 abbrev pub PreviewAgrees : Type 0
 PreviewAgrees = (l k k' : List ℕ) (n : ℕ) (q w v v' : List ℕ) (r r' : Joined) → Previews l k n q w v r → Joins l k' n q w v' r' → Foreseen v v' r r'
 
--- So do a preview and the join that follows it, of the project as it is then, with the work buffer that the preview left.
+-- A preview also agrees with the join that follows it, on the project's lent bytes k and the work buffer v as the preview left them;
 abbrev pub JoinFollows : Type 0
 JoinFollows = (l k k' : List ℕ) (n : ℕ) (q w v v' : List ℕ) (r r' : Joined) → Previews l k n q w v r → Joins k k' n q v v' r' → Foreseen v v' r r'
+
+-- and with a join that has another work buffer of 65,536 bytes: what a work buffer held before makes no difference.
+abbrev pub AnyWorkAgrees : Type 0
+AnyWorkAgrees = (l k k' : List ℕ) (n : ℕ) (q w w' v v' : List ℕ) (r r' : Joined) → IsWork w → IsWork w' → Previews l k n q w v r → Joins k k' n q w' v' r' → Foreseen v v' r r'

@@ -32,7 +32,7 @@ pub enum Which {
     Joint,
 }
 
-// What a join answers of the book that it means.
+// What a join, or a preview, answers of the book that it means.
 pub enum JoinAnswer {
     // the size of the joint's type
     Accepted(usize),
@@ -45,7 +45,7 @@ pub enum JoinAnswer {
 pub struct Joined {
     pub which: Which,
     pub answer: JoinAnswer,
-    // how many of the project's lent bytes hold the joint
+    // how many of the project's lent bytes hold the joint; of a preview, how many bytes would
     pub bytes: usize,
 }
 
