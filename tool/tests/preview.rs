@@ -201,7 +201,7 @@ fn where_the_joint_would_go() {
 /// Where a join that is accepted could write no file, a preview fails as it does; a refused join would not come to that.
 #[test]
 fn a_file_that_could_not_be_written() {
-    for output in ["books", "no/such/folder/file", "README.md/file", ""] {
+    for output in ["books", "absent/", "no/such/folder/file", "README.md/file", ""] {
         let fails = previewed("joining/office.book", "joining/site.book", &["-o", output]);
         assert!(fails.1 == 2 && fails.0.starts_with(&format!("{output}: ")) && fails.0.lines().count() == 1, "{fails:?}");
         assert_eq!(answered(&["join", "books/joining/office.book", "books/joining/site.book", "-o", output], b"").1, 2);
