@@ -1,16 +1,16 @@
 -- What is packed is read back. Assumes nothing.
-use Prim.Native.Nat.{ℕ, _+_, _*_, _<_}
+use Prim.Native.Nat.{ℕ, _<_}
 use mathlib.Core.Path.{_≡_, sym, ap, subst, _∙_}
 use mathlib.Core.List.{List}
 use native.Mathlib.Omega.{arith}
 use Rattle.answers.specs.Answer.{Answer, Result}
 use Rattle.answers.specs.Exported.{tagOf, valueOf, tagPlace, packed}
 use Rattle.joining.specs.declared.Joined.{Joined}
-use Rattle.joining.specs.Join.{JoinResult, joinAnswer, joined}
+use Rattle.joining.specs.Join.{JoinResult, joined}
 use Rattle.joining.specs.declared.Which.{Which}
 use Rattle.joining.specs.Joins.{Joins}
 use Rattle.joining.specs.Previews.{Previews}
-use Rattle.joining.specs.Exported.{whichNumber, whichPlace, bytesPlace, packedJoin}
+use Rattle.joining.specs.Exported.{whichNumber, packedJoin}
 use Rattle.joining.proofs.Previews.{preview-agrees}
 use Rattle.cerealbank.specs.Packed.{Packs, JoinFits, PackedJoin, PacksJoin, PacksPreview, ExportedAgree}
 
@@ -57,7 +57,6 @@ exported-agree l k k' n q w v v' r r' p j =
 
 -- and by what the calls behind them do: answers that agree are packed alike
 pub packed-agree : {l k k' : List ℕ} {n : ℕ} {q w v v' : List ℕ} {i j : Joined} {r r' : ℕ} → Previews l k n q w v i → Joins l k' n q w v' j → PackedJoin i r → PackedJoin j r' → (r ≡ r') × (v ≡ v')
-packed-agree p c x y =
+packed-agree {r' = r'} p c x y =
     let f = preview-agrees _ _ _ _ _ _ _ _ _ _ p c in
-    let s : Joined → ℕ = λ z. z .bytes * bytesPlace + whichNumber (z .which) * whichPlace + tagOf (joinAnswer (z .answer)) * tagPlace + valueOf (joinAnswer (z .answer)) in
-    (x .is ∙ ap s (f .answer) ∙ sym (y .is), f .left)
+    (x .is ∙ sym (subst (λ (z : Joined). PackedJoin z r') (sym (f .answer)) y .is), f .left)

@@ -7,7 +7,7 @@ use mathlib.Core.Logic.{_≢_, _⊎_}
 use mathlib.Core.Option.{none}
 use mathlib.Core.List.{List, _++_}
 use lib.Dec.{lit<}
-use lib.ListN.{length, take, drop, replicate, length-replicate}
+use lib.ListN.{length, take, drop, replicate, length-append, length-replicate}
 use lib.Seq.{sets, sets-eq, length-sets, take-at}
 use Rattle.format.specs.Cell.{IsBytes}
 use Rattle.format.specs.Book.{WellFormed, sizeLimit, versionOf}
@@ -118,6 +118,11 @@ drop-replicate : (k n : ℕ) → drop k (replicate {A = ℕ} n 0) ≡ replicate 
 drop-replicate zero n = let e : n ≡ n - 0 = omega arith in ap (λ (i : ℕ). replicate i 0) e
 drop-replicate (suc k) zero = let e : 0 ≡ 0 - suc k = omega arith in ap (λ (i : ℕ). replicate i 0) e
 drop-replicate (suc k) (suc n) = let e : n - k ≡ suc n - suc k = omega arith in drop-replicate k n ∙ ap (λ (i : ℕ). replicate i 0) e
+
+-- bytes with zeros behind them, up to any length
+pub filled-long : (n : ℕ) (b : List ℕ) → length b ≤ n → length (b ++ zeros (n - length b)) ≡ n
+unfolding zeros
+filled-long n b h = length-append b (replicate {A = ℕ} (n - length b) 0) ∙ omega (arith, h, length-replicate {A = ℕ} (n - length b) 0)
 
 -- bytes over zeros, the rest zero
 over-zeros : (n : ℕ) (b : List ℕ) → length b ≤ n → sets (replicate {A = ℕ} n 0) 0 b ≡ b ++ replicate (n - length b) 0

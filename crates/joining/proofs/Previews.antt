@@ -1,12 +1,13 @@
--- What a preview answers and leaves means what document 02 says, and agrees with a join: on a copy, and on the buffers that the preview leaves. The last two
--- are proved from the two contracts alone. Assumes nothing.
-use Prim.Native.Nat.{ℕ, _-_, _≤_}
-use native.Mathlib.Decide.{decLe, ℕ-discrete}
+-- What a preview answers and leaves means what document 02 says. It agrees with a join on a copy, on the buffers that the preview leaves, and with any work
+-- buffer: from the two contracts alone. Assumes nothing.
+use Prim.Native.Nat.{ℕ, _≤_}
+use native.Mathlib.Decide.{ℕ-discrete}
 use native.Mathlib.Omega.{arith}
 use mathlib.Core.Path.{_≡_, refl, sym, ap, subst, _∙_}
-use mathlib.Core.Logic.{inl, inr}
+use mathlib.Core.Bool.{true, false, not, _&&_}
 use mathlib.Core.List.{List, []}
-use lib.ListN.{length, take, replicate, length-append, length-replicate}
+use lib.Dec.{eqb, ltb}
+use lib.ListN.{length, take}
 use Rattle.calculus.specs.Syntax.{Ty, Term, merge, size-type}
 use Rattle.calculus.specs.Typing.{Typed}
 use Rattle.calculus.proofs.Typing.{typed-unique, typed-size}
@@ -18,16 +19,17 @@ use Rattle.format.proofs.RoundTrip.{book-length}
 use Rattle.format.proofs.Trees.{type-cells}
 use Rattle.format.proofs.Tests.{rootTerm-small}
 use Rattle.answers.specs.Answer.{Answer, refused, accepted, stopped, Result}
-use Rattle.answers.specs.Engine.{workLength, IsWork, zeros, padded}
-use Rattle.answers.specs.Definition.{check}
+use Rattle.answers.specs.Engine.{workLength, IsWork, padded}
+use Rattle.answers.specs.Definition.{check, refusalResult}
 use Rattle.answers.proofs.Demands.{work-at-hand}
+use Rattle.joining.specs.declared.Which.the-variants.{Project}
 use Rattle.joining.specs.declared.Joined.{Joined}
-use Rattle.joining.specs.Join.{JoinResult, joinAnswer, lentLength, afterBooks, afterProject, afterLengths, joined}
+use Rattle.joining.specs.Join.{JoinResult, joinAnswer, lentLength, refusal, afterBooks, afterProject, afterLengths, joined}
 use Rattle.joining.specs.Joins.{Owed, Joins}
 use Rattle.joining.specs.Stages.{Judged}
 use Rattle.joining.specs.Previews.{Previews, Foreseen, PreviewAgrees, JoinFollows, AnyWorkAgrees}
-use Rattle.joining.proofs.Stages.{not-lent, is-lent}
-use Rattle.joining.proofs.Judging.{check-alike}
+use Rattle.joining.proofs.Stages.{tested}
+use Rattle.joining.proofs.Judging.{check-alike, filled-long}
 use Rattle.joining.proofs.Meaning.{joins}
 use Rattle.joining.proofs.Cases.{never-stopped, same-joined}
 
@@ -75,30 +77,21 @@ module _ (l : List ℕ) (n : ℕ) (q w v : List ℕ) (k : IsWork w) (h : IsWork 
 
   joined-alike : joined l n q w ≡ joined l n q v
   joined-alike =
-      elim (ℕ-discrete (length l) lentLength) [
-        | no u ↦ not-lent l n q w k (inl u) ∙ sym (not-lent l n q v h (inl u))
-        | yes e ↦ elim (decLe n lentLength) [
-          | no u ↦ not-lent l n q w k (inr (omega arith)) ∙ sym (not-lent l n q v h (inr (omega arith)))
-          | yes o ↦
-              is-lent l n q w (record { work = k; long = e; within = o })
-              ∙ lengths-alike (take n l)
-              ∙ sym (is-lent l n q v (record { work = h; long = e; within = o }))
-        ]
-      ]
+      let b = eqb (length l) lentLength && not (ltb lentLength n) in
+      tested l n q w k b refl
+      ∙ ap (λ (x : JoinResult). elim b [ false ↦ refusal Project l (refusalResult 2 0) | true ↦ x ]) (lengths-alike (take n l))
+      ∙ sym (tested l n q v h b refl)
 
 -- what an accepted book's check leaves fills the work buffer
-padded-whole : (b : List ℕ) → length b ≤ workLength → IsWork (padded b)
-unfolding padded zeros
-padded-whole b h = length-append b (replicate {A = ℕ} (workLength - length b) 0) ∙ omega (arith, h, length-replicate {A = ℕ} (workLength - length b) 0)
-
 left-whole : (b w : List ℕ) → IsWork w → Owed b → IsWork (check b w .left)
+unfolding padded
 left-whole b w k o =
     let t = o .demand2 .accepts .0 (o .accepts) in
     let A = t .1 .0 in
     let s = o .demand2 .shows A (t .0) (t .1 .1) w k in
     let n : length (typeBook (versionOf b) A) ≤ workLength =
     omega (arith, book-length (versionOf b) (fromType A), type-cells A, typed-size (t .1 .1), rootTerm-small b (o .bytes) (t .0)) in
-    ap (λ (y : Result). length (y .left)) s ∙ padded-whole (typeBook (versionOf b) A) n
+    ap (λ (y : Result). length (y .left)) s ∙ filled-long workLength (typeBook (versionOf b) A) n
 
 module _ {l k : List ℕ} {n : ℕ} {q w v : List ℕ} {r : Joined} (p : Previews l k n q w v r) where
   -- a work buffer is left as one

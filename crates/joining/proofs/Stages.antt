@@ -100,7 +100,8 @@ module _ (l : List ℕ) (n : ℕ) (q w : List ℕ) where
   unfolding joined
   no-work h = rw (ne-eqb (length w) workLength h, joined) refl
 
-  tested : IsWork w → (b : Bool) → (eqb (length l) lentLength && not (ltb lentLength n)) ≡ b →
+  -- the tests of lengths, as b has them
+  pub tested : IsWork w → (b : Bool) → (eqb (length l) lentLength && not (ltb lentLength n)) ≡ b →
       joined l n q w ≡ elim b [ false ↦ refusal Project l (refusalResult 2 0) | true ↦ afterLengths (take n l) q l w ]
   unfolding joined
   tested k b e = rw (eq-eqb (length w) workLength k, e, joined) refl

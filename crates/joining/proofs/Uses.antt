@@ -5,7 +5,7 @@ use native.Mathlib.Omega.{arith}
 use mathlib.Core.Path.{_≡_, sym, ap, ap₂, subst, _∙_}
 use mathlib.Core.Logic.{_⊎_, inl, inr}
 use mathlib.Core.List.{List, _++_}
-use lib.ListN.{length, take, replicate, length-append, length-replicate, take-append-drop}
+use lib.ListN.{length, take, take-append-drop}
 use Rattle.calculus.specs.Syntax.{Term, merge}
 use Rattle.calculus.specs.Step.{Reaches, Ends}
 use Rattle.format.specs.Version.{halfOf}
@@ -20,6 +20,7 @@ use Rattle.joining.specs.declared.Which.the-variants.{Project, Part, Joi
 use Rattle.joining.specs.declared.Joined.{Joined}
 use Rattle.joining.specs.Join.{joinAnswer, lentLength, written}
 use Rattle.joining.specs.Joins.{Lent, BothAccepted, Joins}
+use Rattle.joining.proofs.Judging.{filled-long}
 use Rattle.joining.proofs.EitherWay.{joinable-either-way}
 use Rattle.joining.proofs.Cases.{never-stopped, same-joined}
 use Rattle.joining.proofs.Stages.{verdict, turned, passed}
@@ -49,12 +50,8 @@ module _ {l k : List ℕ} {n : ℕ} {q w v : List ℕ} {r : Joined} (c : Joins l
       sym (take-append-drop (r .bytes) k) ∙ ap₂ (λ (a b : List ℕ). a ++ b) (x .joint) (x .rest ∙ ap (λ (i : ℕ). zeros (lentLength - i)) (x .bytes))
 
   lent-long : length k ≡ lentLength
-  unfolding written zeros
-  lent-long =
-      let j = c .writes m e .2 in
-      ap length lent-whole
-      ∙ length-append (joint (take n l) q) (replicate {A = ℕ} (lentLength - length (joint (take n l) q)) 0)
-      ∙ omega (arith, length-replicate {A = ℕ} (lentLength - length (joint (take n l) q)) 0, j .well-formed .short)
+  unfolding written
+  lent-long = ap length lent-whole ∙ filled-long lentLength (joint (take n l) q) (c .writes m e .2 .well-formed .short)
 
   -- The joint may be the project of the next join.
   pub next-lent : {u : List ℕ} → IsWork u → Lent k (r .bytes) u
