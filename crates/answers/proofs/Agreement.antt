@@ -12,12 +12,19 @@ use Rattle.format.specs.Version.{halfOf}
 use Rattle.format.specs.Book.{sizeLimit, termBook}
 use Rattle.answers.specs.Answer.{Stop, value, spent, room, Result, result, stopped}
 use Rattle.answers.specs.Engine.{padded}
-use Rattle.answers.specs.Demands.{StopsBy, TakesSteps}
+use Rattle.answers.specs.Demands.{StopsBy, GreatestSize, TakesSteps}
 use Rattle.answers.proofs.Reaching.{onward}
 
-pub end-result-alike : (v : Version) {s t : Stop} {n m : ℕ} {f g : Term} → s ≡ t → n ≡ m → f ≡ g →
-    result (stopped s n) (padded (termBook v f)) ≡ result (stopped t m) (padded (termBook v g))
-end-result-alike v p q o = rw (p, q, o)
+pub end-result-alike : (v : Version) {s t : Stop} {n m i j : ℕ} {f g : Term} → s ≡ t → n ≡ m → i ≡ j → f ≡ g →
+    result (stopped s n i) (padded (termBook v f)) ≡ result (stopped t m j) (padded (termBook v g))
+end-result-alike v p q k o = rw (p, q, k, o)
+
+-- the greatest of some sizes is one
+pub greatest-unique : {h n : ℕ} {e : Term} {i j : ℕ} → GreatestSize h n e i → GreatestSize h n e j → i ≡ j
+greatest-unique x y =
+    let (k, f, a, r, p) = x .attained in
+    let (m, g, b, q, s) = y .attained in
+    omega (arith, y .bounds k f a r, x .bounds m g b q)
 
 module _
     (v : Version)
@@ -69,6 +76,10 @@ module _
             | no u ↦ omega (arith, no-later, x .taken)
           ]
 
+      -- after the same steps the marks are the same
+      pub same-mark : x .steps ≡ y .steps → x .mark ≡ y .mark
+      same-mark n = greatest-unique (subst (λ (j : ℕ). GreatestSize (halfOf v) j e (x .mark)) n (x .greatest)) (y .greatest)
+
       pub same-result : x .stop ≢ spent → r ≡ q
       same-result d =
           let n : x .steps ≡ y .steps =
@@ -77,4 +88,4 @@ module _
           only (y .steps) (x .term) (y .term) (subst (λ (j : ℕ). Reaches (halfOf v) j e (x .term)) n (x .reached)) (y .reached) in
           let w : StopsBy (halfOf v) (y .stop) k (x .steps) (x .term) = subst₂ (λ (j : ℕ) (g : Term). StopsBy (halfOf v) (y .stop) k j g) (sym n) (sym f) (y .why) in
           let s : x .stop ≡ y .stop = same-stop (x .stop) (y .stop) (x .steps) (x .term) i (x .why) w d in
-          x .says ∙ end-result-alike v s n f ∙ sym (y .says)
+          x .says ∙ end-result-alike v s n (same-mark n) f ∙ sym (y .says)

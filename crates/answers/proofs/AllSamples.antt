@@ -1,6 +1,5 @@
 -- All samples marked M hold of the definitions, by one computation, and so do the books of the field reads, of sums and choices, of bodies, of numbers of
--- 48 bits, of values in two orders and of the refusals; closed facts beside them.
--- Assumes nothing.
+-- 48 bits, of values in two orders, of terms that grow and shrink and of the refusals; closed facts beside them. Assumes nothing.
 use Prim.Native.Nat.{ℕ}
 use mathlib.Core.Path.{_≡_, refl, _∙_}
 use mathlib.Core.Bool.{decide}
@@ -24,7 +23,7 @@ use Rattle.format.specs.Book.{firstBad, rowFault, cellFault, cellsFinding, root
 use Rattle.format.specs.Widths.{mappedCells, restamp}
 use Rattle.answers.specs.Answer.{spent, room, refused, Result, result}
 use Rattle.answers.specs.Engine.{IsWork, zeros, padded}
-use Rattle.answers.specs.Definition.{definition, refusalResult, afterTyping, afterForm, shown, full?, firstStop, ended, evaluate, endResult, reported}
+use Rattle.answers.specs.Definition.{definition, refusalResult, afterTyping, afterForm, shown, full?, firstStop, ended, evaluate, runFrom, endResult, reported}
 use Rattle.answers.specs.Definition.{judge, check, run}
 use Rattle.answers.specs.Samples as Samples
 use Rattle.answers.specs.Samples.{Call, Sample, called, expected, Meets, samples}
@@ -34,6 +33,7 @@ use Rattle.answers.specs.Samples.{mergedField, missingField, twoFields, 
 use Rattle.answers.specs.Samples.{onePlusTwo, pastUpperEnd, pastLowerEnd, atUpperEnd, atLowerEnd, bothEnds, sumOfSums, mergedSide, mergedRightSide, topPlusVariable, onePlusTop, choiceByZero, choiceByOne, choiceByMinusOne, choiceByHigh, waitingLoop, annotatedBranch, choiceByTop, topForZero, topForOther, freeInOther, sumMerged, equalBodies, exchangedBodies, equalChoices, exchangedChoices, otherThirdPart, choiceInBody, sumInBody, triangle, sumNamesC, labelledSum, labelledChoice, choiceOfItself, choiceOfType, unknownKind, sumsAndChoices}
 use Rattle.answers.specs.Samples.{sameBody, otherBody, openedBodies, unevenSharing, otherLabel, otherHighHalf, otherLowHalf, otherTypeInBody, otherLastField, otherInput, disjointBodies, unreachedChains, bodies}
 use Rattle.answers.specs.Samples.{wideNumber, wideMinusOne, pastWideUpperEnd, pastWideLowerEnd, above32, below32, lowestInOne, lowestInTwo, labelledNumber, unequalInTwo, unequalAbove32, equalAbove32, otherAbove32, choiceAbove32, choiceAbove16, choiceLow, choiceNone, versionThree, versionZero, identityInTwo, restampedHiddenField, minusFive, restampedMinusFive, wideNumbers}
+use Rattle.answers.specs.Samples.{choosingLoop, threeCopies, unreachedCells, marks}
 use Rattle.answers.specs.Samples.{numberFirst, recordFirst, numberFirstRead, recordFirstRead, numberFirstTurned, recordFirstTurned, groupedLeft, groupedRight, groupedLeftRead, groupedRightRead, partTwice, partTwiceSwapped, conflictingEnds, conflictingEndsRegrouped, notYetValue, notYetValueRegrouped, openValue, openValueRegrouped, reorderedBodies, orders}
 
 -- to name it on a line is to unfold every definition that a computation of an answer meets, but for the zero tail
@@ -109,6 +109,13 @@ orders-computed = refl
 pub orders-hold : All (Meets definition) orders
 orders-hold = each orders orders-computed
 
+marks-computed : map answered marks ≡ map expected marks
+unfolding computing answered marks choosingLoop threeCopies unreachedCells
+marks-computed = refl
+
+pub marks-hold : All (Meets definition) marks
+marks-hold = each marks marks-computed
+
 refusals-computed : map answered refusals ≡ map expected refusals
 unfolding computing answered refusals unequalNumbers appliedNumber doubled
 refusals-computed = refl
@@ -129,22 +136,22 @@ abbrev growing : Term
 growing = fix (var 0) int
 
 -- limit 0: spent, 0
-growing-0 : evaluate (halfOf One) 5 0 0 growing ≡ ended spent 0 growing
+growing-0 : runFrom (halfOf One) 5 0 growing ≡ ended spent 0 3 growing
 unfolding computing
 growing-0 = refl
 
 -- limit 1: spent after 1, "else no room": the third term is not asked for
-growing-1 : evaluate (halfOf One) 5 1 0 growing ≡ ended spent 1 (anno growing int)
+growing-1 : runFrom (halfOf One) 5 1 growing ≡ ended spent 1 5 (anno growing int)
 unfolding computing
 growing-1 = refl
 
--- limit 2: no room, 1 step
-growing-2 : evaluate (halfOf One) 5 2 0 growing ≡ ended room 1 (anno growing int)
+-- limit 2: no room, 1 step; "a successor that found no room is not counted", and it has 7 cells
+growing-2 : runFrom (halfOf One) 5 2 growing ≡ ended room 1 5 (anno growing int)
 unfolding computing
 growing-2 = refl
 
 -- A choice's other branch counts until it goes: with room for 7 the tested part, of 3 cells, cannot become one of 5.
-waiting-branch-counts : evaluate (halfOf One) 7 1 0 (choice growing (lit (pos 1)) (lit (pos 2))) ≡ ended room 0 (choice growing (lit (pos 1)) (lit (pos 2)))
+waiting-branch-counts : runFrom (halfOf One) 7 1 (choice growing (lit (pos 1)) (lit (pos 2))) ≡ ended room 0 6 (choice growing (lit (pos 1)) (lit (pos 2)))
 unfolding computing
 waiting-branch-counts = refl
 

@@ -30,8 +30,8 @@ use Rattle.answers.specs.Definition.{definition, check, run, judge, afte
 use Rattle.answers.specs.Demands.{Accepts, TakesSteps, Agree, Demand2, Demand3For, Demand3}
 use Rattle.answers.proofs.AllSamples.{in-work}
 use Rattle.answers.proofs.Fits.{reaches-fits, half-positive}
-use Rattle.answers.proofs.Running.{Ran, ran}
-use Rattle.answers.proofs.Agreement.{end-result-alike, lesser-steps, same-result}
+use Rattle.answers.proofs.Running.{Ran, greatest-first, ran}
+use Rattle.answers.proofs.Agreement.{end-result-alike, lesser-steps, same-mark, same-result}
 
 -- Two runs of a typed term, by whatever engines, agree.
 only-one : {h : ℕ} {e : Term} {A : Ty} → Typed [] e A → (n : ℕ) (f g : Term) → Reaches h n e f → Reaches h n e g → f ≡ g
@@ -45,7 +45,7 @@ runs-agree {v} {e} {l = l} t p q =
     record {
       lesser = λ i. steps-of p ∙ lesser-steps v (only-one t) final p q i ∙ ap (min l) (sym (steps-of q));
       same = λ i u. same-result v (only-one t) final p q i
-          (λ s. u (p .steps) (ap (λ (r : Result). r .answer) (p .says) ∙ ap (λ (s : Stop). stopped s (p .steps)) s));
+          (λ s. u (p .steps) (p .mark) (ap (λ (r : Result). r .answer) (p .says) ∙ ap (λ (s : Stop). stopped s (p .steps) (p .mark)) s));
     }
   where
     steps-of : {n : ℕ} {r : Result} (z : TakesSteps v e n r) → stepsOf (r .answer) ≡ z .steps
@@ -67,7 +67,7 @@ runs-unique {v} {e} {l = l} t x y =
       | no n ↦ same-result v (only-one t) final x y (le-refl l) n
       | yes p ↦ elim (spent? (y .stop)) [
         | no n ↦ sym (same-result v (only-one t) final y x (le-refl l) n)
-        | yes k ↦ x .says ∙ end-result-alike v (p ∙ sym k) steps term ∙ sym (y .says)
+        | yes k ↦ x .says ∙ end-result-alike v (p ∙ sym k) steps (same-mark v (only-one t) final x y (le-refl l) steps) term ∙ sym (y .says)
       ]
     ]
   where
@@ -102,7 +102,7 @@ module _ (E : Engine) (d : Demand2 E) (b : List ℕ) (bytes : IsBytes b) (a : Ac
         ends = λ n f r. sound (well-typed .1 .1) n f r .ends;
         typed = λ n f r. let p = sound (well-typed .1 .1) n f r .typed in (well-typed .1 .0, p .0, well-typed .1 .1, p .1, p .2);
         book = book-accepted;
-        encodes = λ w l k h. let x = runs-of w l k h in (x .stop, x .steps, x .term, x .reached, x .says);
+        encodes = λ w l k h. let x = runs-of w l k h in (x .stop, x .steps, x .mark, x .term, x .reached, x .says);
         agree = λ w v l m j k h i. runs-agree (well-typed .1 .1) (runs-of w l j h) (runs-of v m k i);
       }
 
@@ -166,7 +166,8 @@ first-small b bytes t n f h (r-suc q s) = absurd (omega arith)
 -- the executable run from the root
 pub root-ran : (b : List ℕ) (l : ℕ) {A : Ty} → IsBytes b → WellFormed b → Typed [] (rootTerm b) A → Ran (halfOf (versionOf b)) (rootTerm b) l (ending b l)
 root-ran b l bytes f t =
-    subst (λ (n : ℕ). Ran (halfOf (versionOf b)) (rootTerm b) n (ending b l)) (zero-add l) (ran (halfOf (versionOf b)) t l 0 (rootTerm b) r-zero (first-small b bytes f))
+    subst (λ (n : ℕ). Ran (halfOf (versionOf b)) (rootTerm b) n (ending b l)) (zero-add l) (ran (halfOf (versionOf b)) t l 0 (size (rootTerm b)) (rootTerm b)
+    (record { reached = r-zero; small = first-small b bytes f; greatest = greatest-first (halfOf (versionOf b)) t }))
 
 pub definition-runs : (b w : List ℕ) (l : ℕ) → IsBytes b → IsWork w → Accepts definition b → TakesSteps (versionOf b) (rootTerm b) l (run b w l)
 unfolding run endResult
@@ -176,11 +177,13 @@ definition-runs b w l bytes k a =
     record {
       stop = _;
       steps = _;
+      mark = _;
       term = _;
       says = outcome b w (reported b l) (t .1 .0) k (t .0) (t .1 .1);
       taken = r .taken;
       reached = r .reached;
       small = r .small;
+      greatest = r .greatest;
       why = r .why;
     }
 

@@ -9,7 +9,7 @@ use native.Mathlib.Decide.{decLe}
 use native.Mathlib.Omega.{arith}
 use lib.Dec.{T, ltb, ltb→lt, lit<}
 use lib.ListN.{getD}
-use Rattle.calculus.specs.Syntax.{Ty, int, inter, size-type, Term, IsValue, v-lit}
+use Rattle.calculus.specs.Syntax.{Ty, int, inter, size-type, Term, size, IsValue, v-lit}
 use Rattle.calculus.specs.Typing.{Typed}
 use Rattle.calculus.specs.Step.{Step, Reaches, r-zero}
 use Rattle.calculus.specs.Infer.{conflict, found, infer}
@@ -24,9 +24,10 @@ use Rattle.format.specs.Book.{sizeLimit, formFinding, WellFormed, versionOf, ro
 use Rattle.format.proofs.Tests.{formFinding-says}
 use Rattle.answers.specs.Answer.{Stop, value, spent, accepted, stopped, stepsOf, Result, result}
 use Rattle.answers.specs.Engine.{Engine, workLength, IsWork, IsLimit, zeros, padded}
+use Rattle.answers.specs.Exported.{secondOf}
 use Rattle.answers.specs.Definition.{definition, run, refusalResult, endResult, Ended, ending}
 use Rattle.answers.specs.Demands.{Accepts, Demand2, Demand3For, Demand3}
-use Rattle.answers.specs.Impostors.{posing, atMostOne, hurried, early, figured, inventedSteps, repeating, repeatsFirst, returnsBook, fixedReply}
+use Rattle.answers.specs.Impostors.{posing, atMostOne, hurried, early, figured, inventedSteps, marked, inventedMark, repeating, repeatsFirst, returnsBook, fixedReply}
 use Rattle.answers.specs.Impostors.{RefusesAll, oneRefusal, Impostors}
 use Rattle.answers.specs.Samples.{line, equalNumbers, unequalNumbers, twiceRead}
 use Rattle.answers.proofs.Reaching.{onward}
@@ -147,27 +148,27 @@ module _ (g : List ℕ → ℕ → Result) {b : List ℕ} {A : Ty} (a : Accepted
 
   -- demand 3: g encodes the term reached after the steps that it reports;
   posing-3 : Demand3 (posing g) → (l : ℕ) → IsLimit l →
-      (s : Stop) × (n : ℕ) × (f : Term) × Reaches (halfOf (versionOf b)) n (rootTerm b) f × (g b l ≡ result (stopped s n) (padded (termBook (versionOf b) f)))
+      (s : Stop) × (n : ℕ) × (m : ℕ) × (f : Term) × Reaches (halfOf (versionOf b)) n (rootTerm b) f × (g b l ≡ result (stopped s n m) (padded (termBook (versionOf b) f)))
   posing-3 d l h =
       let w = zeros workLength in
       let x = d b (a .bytes) posing-accepts .encodes w l work-at-hand h in
-      (x .0, x .1, x .2, x .3, sym (posing-runs w l work-at-hand) ∙ x .4)
+      (x .0, x .1, x .2, x .3, x .4, sym (posing-runs w l work-at-hand) ∙ x .5)
 
   -- which is the last term of the true run of as many
   posing-encodes : Demand3 (posing g) → (l m : ℕ) → IsLimit l → stepsOf (g b l .answer) ≡ ending b m .steps →
       g b l .left ≡ padded (termBook (versionOf b) (ending b m .term))
   posing-encodes d l m h q =
       let x = posing-3 d l h in
-      let n : x .1 ≡ ending b m .steps = sym (ap (λ (r : Result). stepsOf (r .answer)) (x .4)) ∙ q in
-      let r : Reaches (halfOf (versionOf b)) (ending b m .steps) (rootTerm b) (x .2) = rw n at (x .3) in
-      ap (λ (r : Result). r .left) (x .4) ∙ ap (λ (f : Term). padded (termBook (versionOf b) f)) (true-term a m r)
+      let n : x .1 ≡ ending b m .steps = sym (ap (λ (r : Result). stepsOf (r .answer)) (x .5)) ∙ q in
+      let r : Reaches (halfOf (versionOf b)) (ending b m .steps) (rootTerm b) (x .3) = rw n at (x .4) in
+      ap (λ (r : Result). r .left) (x .5) ∙ ap (λ (f : Term). padded (termBook (versionOf b) f)) (true-term a m r)
 
 -- ---- `room` or `spent` early
 
 -- 1 annotated with Int is a value after one step: neither room nor steps were wanting
 early-breaks-2 : (s : Stop) → s ≢ value → ¬ Demand2 (early s)
 unfolding early atMostOne hurried computing annotated
-early-breaks-2 s n d = let p : stopped s 1 ≡ stopped value 1 = posing-2 _ annotated-accepted d 1 (lit< tt) in n (cc p)
+early-breaks-2 s n d = let p : stopped s 1 3 ≡ stopped value 1 3 = posing-2 _ annotated-accepted d 1 (lit< tt) in n (cc p)
 
 module _ (s : Stop) {b : List ℕ} {A : Ty} (a : Accepted b A) where
   -- the true run behind it
@@ -184,14 +185,16 @@ module _ (s : Stop) {b : List ℕ} {A : Ty} (a : Accepted b A) where
   early-lesser (suc l) zero h = absurd (omega arith)
   early-lesser (suc l) (suc m) h = omega (arith, true-ran a 1 .taken)
 
-  early-same : (l m : ℕ) → l ≤ m → ((n : ℕ) → endResult (versionOf b) (hurried s (behind l)) .answer ≢ stopped spent n) →
+  early-same : (l m : ℕ) → l ≤ m → ((n k : ℕ) → endResult (versionOf b) (hurried s (behind l)) .answer ≢ stopped spent n k) →
       endResult (versionOf b) (hurried s (behind l)) ≡ endResult (versionOf b) (hurried s (behind m))
   unfolding atMostOne endResult hurried
   early-same zero m h n = go (value? (rootTerm b)) refl
     where
       go : (v : Bool) → value? (rootTerm b) ≡ v → endResult (versionOf b) (hurried s (behind 0)) ≡ endResult (versionOf b) (hurried s (behind m))
-      go true p = rw (evaluate-value (halfOf (versionOf b)) sizeLimit 0 0 (rootTerm b) p, evaluate-value (halfOf (versionOf b)) sizeLimit (atMostOne m) 0 (rootTerm b) p)
-      go false p = absurd (n 0 (rw (evaluate-spent (halfOf (versionOf b)) sizeLimit 0 (rootTerm b) p)))
+      go true p =
+          let k = size (rootTerm b) in
+          rw (evaluate-value (halfOf (versionOf b)) sizeLimit 0 0 k (rootTerm b) p, evaluate-value (halfOf (versionOf b)) sizeLimit (atMostOne m) 0 k (rootTerm b) p)
+      go false p = let k = size (rootTerm b) in absurd (n 0 k (rw (evaluate-spent (halfOf (versionOf b)) sizeLimit 0 k (rootTerm b) p)))
   early-same (suc l) zero h n = absurd (omega arith)
   early-same (suc l) (suc m) h n = refl
 
@@ -208,12 +211,12 @@ early-obeys-3 s b bytes x =
       ends = d .ends;
       typed = d .typed;
       book = d .book;
-      encodes = λ w l k h. (_, _, _, true-ran a (atMostOne l) .reached, early-runs s a w l k);
+      encodes = λ w l k h. (_, _, _, _, true-ran a (atMostOne l) .reached, early-runs s a w l k);
       agree = λ w v l m j k h i.
           let p = early-runs s a w l j in
           record {
             lesser = λ q. rw (p, early-runs s a v m k) (early-lesser s a l m q);
-            same = λ q u. p ∙ early-same s a l m q (λ n e. u n (ap (λ (r : Result). r .answer) p ∙ e)) ∙ sym (early-runs s a v m k);
+            same = λ q u. p ∙ early-same s a l m q (λ n k e. u n k (ap (λ (r : Result). r .answer) p ∙ e)) ∙ sym (early-runs s a v m k);
           };
     }
 
@@ -222,24 +225,34 @@ early-obeys-3 s b bytes x =
 -- 1 annotated with Int takes one step: any other figure breaks demand 2
 invented-steps-break-2 : (k : ℕ → ℕ → ℕ) → k 1 1 ≢ 1 → ¬ Demand2 (inventedSteps k)
 unfolding inventedSteps figured computing annotated
-invented-steps-break-2 k n d = let p : stopped value (k 1 1) ≡ stopped value 1 = posing-2 _ annotated-accepted d 1 (lit< tt) in n (cc p)
+invented-steps-break-2 k n d = let p : stopped value (k 1 1) 3 ≡ stopped value 1 3 = posing-2 _ annotated-accepted d 1 (lit< tt) in n (cc p)
 
 -- and demand 3: after no steps another term is reached, and after more than one none
 invented-steps-break-3 : (k : ℕ → ℕ → ℕ) → k 1 1 ≢ 1 → ¬ Demand3 (inventedSteps k)
 unfolding inventedSteps figured computing annotated
 invented-steps-break-3 k n d =
     let x = posing-3 _ annotated-accepted d 1 (lit< tt) in
-    let m : k 1 1 ≡ x .1 = ap (λ (r : Result). stepsOf (r .answer)) (x .4) in
-    let h : x .1 ≤ 1 = no-further annotated-accepted 1 (int, v-lit) (x .3) in
+    let m : k 1 1 ≡ x .1 = ap (λ (r : Result). stepsOf (r .answer)) (x .5) in
+    let h : x .1 ≤ 1 = no-further annotated-accepted 1 (int, v-lit) (x .4) in
     let p : _≡_ {A = ℕ} 240 1 = ap (λ (s : List ℕ). getD s 8 0) (posing-encodes _ annotated-accepted d 1 0 (lit< tt) (omega arith)) in
     absurd (omega arith)
+
+-- ---- another mark
+
+-- demand 2 leaves no other, of any accepted book
+another-mark-breaks-2 : (k : List ℕ → ℕ → ℕ) (b : List ℕ) (l : ℕ) → IsBytes b → Accepts definition b → IsLimit l → k b l ≢ ending b l .mark → ¬ Demand2 (inventedMark k)
+unfolding inventedMark marked endResult
+another-mark-breaks-2 k b l bytes x h n d =
+    let t = demand2 b bytes .accepts .0 x in
+    let a : Accepted b (t .1 .0) = record { bytes = bytes; formed = t .0; typed = t .1 .1 } in
+    n (ap secondOf (posing-2 _ a d l h))
 
 -- ---- the first step, and then that term again
 
 -- "1 under Int and Int, then Int" is a value after two steps, not spent
 repeats-first-breaks-2 : ¬ Demand2 repeatsFirst
 unfolding repeatsFirst repeating atMostOne computing twiceRead
-repeats-first-breaks-2 d = let p : stopped spent 2 ≡ stopped value 2 = posing-2 _ twice-read-accepted d 2 (lit< tt) in clash (cc p)
+repeats-first-breaks-2 d = let p : stopped spent 2 7 ≡ stopped value 2 7 = posing-2 _ twice-read-accepted d 2 (lit< tt) in clash (cc p)
 
 -- and after two steps the term is 1, whose book has its trailer where the repeated one has a cell
 repeats-first-breaks-3 : ¬ Demand3 repeatsFirst
@@ -253,7 +266,7 @@ repeats-first-breaks-3 d =
 -- 1 annotated with Int takes a step
 returns-book-breaks-2 : ¬ Demand2 returnsBook
 unfolding returnsBook computing annotated
-returns-book-breaks-2 d = let p : stopped value 0 ≡ stopped value 1 = posing-2 _ annotated-accepted d 1 (lit< tt) in clash (cc p)
+returns-book-breaks-2 d = let p : stopped value 0 3 ≡ stopped value 1 3 = posing-2 _ annotated-accepted d 1 (lit< tt) in clash (cc p)
 
 -- a book with a cell that the root does not reach is not the root encoded
 returns-book-breaks-3 : ¬ Demand3 returnsBook
@@ -309,6 +322,7 @@ impostors =
       early-3 = early-obeys-3;
       invented-2 = invented-steps-break-2;
       invented-3 = invented-steps-break-3;
+      mark-2 = another-mark-breaks-2;
       repeats-2 = repeats-first-breaks-2;
       repeats-3 = repeats-first-breaks-3;
       returns-book-2 = returns-book-breaks-2;

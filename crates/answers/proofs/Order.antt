@@ -26,7 +26,7 @@ use Rattle.format.proofs.RoundTrip.{book-length, term-round-trip}
 use Rattle.answers.specs.Answer.{Stop, value, spent, room, accepted, stopped, stepsOf, Result, result}
 use Rattle.answers.specs.Engine.{Engine, IsWork, IsLimit, padded}
 use Rattle.answers.specs.Definition.{run, reported}
-use Rattle.answers.specs.Demands.{Accepts, StopsBy, TakesSteps, Demand2}
+use Rattle.answers.specs.Demands.{Accepts, StopsBy, GreatestSize, TakesSteps, Demand2}
 use Rattle.answers.specs.Order.{Values, UnderOneType, under-one-type, Books, SameReading, IgnoresOrder, StepNeeded}
 use Rattle.answers.specs.Samples.{numberFirstRead, recordFirstRead, groupedLeft, groupedRight}
 use Rattle.answers.proofs.AllSamples.{computing}
@@ -128,20 +128,34 @@ module _ {u v : Version} {e f : Term} {l : ℕ} {x y : Result} (p : UnderOneType
       let o = beside (halfOf u) (annotated-sym p) (annotated-typed p t) q in
       omega (arith, abreast-size (annotated-sym p) (o .abreast), one .small n (o .other) i (o .reached))
 
-  other-run : TakesSteps v f l (result (stopped (one .stop) (one .steps)) (padded (termBook v (behind .other))))
+  -- and of one size, term by term
+  other-greatest : GreatestSize (halfOf v) (one .steps) f (one .mark)
+  other-greatest =
+      let (k, g, i, r, z) = one .greatest .attained in
+      let o = beside (halfOf v) p t r in
+      record { bounds = bound; attained = (k, o .other, i, o .reached, omega (arith, abreast-size p (o .abreast), z)) }
+    where
+      bound : (k : ℕ) (d : Term) → k ≤ one .steps → Reaches (halfOf v) k f d → size d ≤ one .mark
+      bound k d i q =
+          let o = beside (halfOf u) (annotated-sym p) (annotated-typed p t) q in
+          omega (arith, abreast-size (annotated-sym p) (o .abreast), one .greatest .bounds k (o .other) i (o .reached))
+
+  other-run : TakesSteps v f l (result (stopped (one .stop) (one .steps) (one .mark)) (padded (termBook v (behind .other))))
   other-run =
       record {
         stop = one .stop;
         steps = one .steps;
+        mark = one .mark;
         term = behind .other;
         says = refl;
         taken = one .taken;
         reached = behind .reached;
         small = other-small;
+        greatest = other-greatest;
         why = other-why (halfOf u) (halfOf v) p t (one .stop) l (behind .abreast) (one .why);
       }
 
-  other : y ≡ result (stopped (one .stop) (one .steps)) (padded (termBook v (behind .other)))
+  other : y ≡ result (stopped (one .stop) (one .steps) (one .mark)) (padded (termBook v (behind .other)))
   other = runs-unique (annotated-typed p t .1) two other-run
 
   steps : stepsOf (x .answer) ≡ one .steps

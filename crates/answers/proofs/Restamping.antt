@@ -37,17 +37,20 @@ same-why h k room l n f m w = (w .0, w .1, (w .2 .0, step-without m (w .2 .1) .0
 
 -- so that a run in one version is one in the other, but for its bytes
 pub same-steps : {v : Version} {e : Term} {l : ℕ} {r : Result} (u : Version) → NoSum e → (x : TakesSteps v e l r) →
-    TakesSteps u e l (result (stopped (x .stop) (x .steps)) (padded (termBook u (x .term))))
+    TakesSteps u e l (result (stopped (x .stop) (x .steps) (x .mark)) (padded (termBook u (x .term))))
 same-steps {v} {l = l} u m x =
     let r = reaches-without m (x .reached) in
+    let (n, f, i, q, z) = x .greatest .attained in
     record {
       stop = x .stop;
       steps = x .steps;
+      mark = x .mark;
       term = x .term;
       says = refl;
       taken = x .taken;
       reached = r .0;
       small = λ n f i q. x .small n f i (reaches-without m q .0);
+      greatest = record { bounds = λ n f i q. x .greatest .bounds n f i (reaches-without m q .0); attained = (n, f, i, reaches-without m q .0, z) };
       why = same-why (halfOf v) (halfOf u) (x .stop) l (x .steps) (x .term) (r .1) (x .why);
     }
 
@@ -78,6 +81,7 @@ module _ (E : Engine) (d : Demand2 E) (b : List ℕ) (bytes : IsBytes b) (a : Ac
       record {
         stop = y .stop;
         steps = y .steps;
+        mark = y .mark;
         term = y .term;
         reached = reaches-without m (y .reached) .0;
         first = runs-unique (well-typed .1 .1) x (same-steps One m y);

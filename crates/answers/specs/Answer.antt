@@ -34,14 +34,14 @@ pub data Answer : Type 0 where
   refused : ℕ → ℕ → Answer
   -- "A check lays down the type and gives its size"
   accepted : ℕ → Answer
-  -- "Each carries the steps taken"
-  stopped : Stop → ℕ → Answer
+  -- "Each carries the steps taken"; document 02, (viii): and the mark, "the greatest size of any term so far"
+  stopped : Stop → ℕ → ℕ → Answer
 
 -- The steps that a run reports; 0 where it reports none.
 abbrev pub stepsOf : Answer → ℕ
 stepsOf (refused n i) = 0
 stepsOf (accepted n) = 0
-stepsOf (stopped s n) = n
+stepsOf (stopped s n m) = n
 
 -- An answer, and every byte left in the work buffer.
 pub record Result : Type 0 where

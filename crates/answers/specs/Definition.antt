@@ -1,6 +1,6 @@
 -- check and run as executable definitions: from the book's bytes, the work buffer's bytes and the limit to the whole answer and every
 -- byte left. Assumes nothing.
-use Prim.Native.Nat.{ℕ, zero, suc}
+use Prim.Native.Nat.{ℕ, zero, suc, max}
 use mathlib.Core.Bool.{Bool, true, false}
 use mathlib.Core.Option.{Option, none, some}
 use mathlib.Core.List.{List, []}
@@ -39,15 +39,16 @@ judge b w g = elim (eqb (length w) workLength) [ true ↦ afterForm b g (formFin
 unfoldable pub shown : Version → Ty → Result
 shown v A = result (accepted (size-type A)) (padded (typeBook v A))
 
--- How a run ended: why, after how many steps, at which term.
+-- How a run ended: why, after how many steps, with which mark, at which term.
 pub record Ended : Type 0 where
   pub stop : Stop
   pub steps : ℕ
+  pub mark : ℕ
   pub term : Term
 
--- Stopped for s after n steps, at the term e.
-abbrev pub ended : Stop → ℕ → Term → Ended
-ended s n e = record { stop = s; steps = n; term = e }
+-- Stopped for s after n steps, with the mark k, at the term e.
+abbrev pub ended : Stop → ℕ → ℕ → Term → Ended
+ended s n k e = record { stop = s; steps = n; mark = k; term = e }
 
 -- "no room when the successor's size exceeds" the limit l
 unfoldable pub full? : ℕ → Option Term → Bool
@@ -58,22 +59,27 @@ full? l (some f) = ltb l (size f)
 unfoldable pub firstStop : Bool → Bool → Bool → Option Stop
 firstStop v s f = elim v [ true ↦ some value | false ↦ elim s [ true ↦ some spent | false ↦ elim f [ true ↦ some room | false ↦ none ] ] ]
 
--- e after n steps, with m steps left and room for l cells, sums held to -h .. h - 1. (A term with no stop has a successor: no typed term is stuck.)
-unfoldable pub evaluate : ℕ → ℕ → ℕ → ℕ → Term → Ended
-evaluate h l zero n e = elim (firstStop (value? e) true (full? l (next h e))) [ none ↦ ended spent n e | some s ↦ ended s n e ]
-evaluate h l (suc m) n e =
+-- e after n steps and with the mark k, with m steps left and room for l cells, sums held to -h .. h - 1. "The state of a run carries the greatest size of
+-- any term so far". (A term with no stop has a successor: no typed term is stuck.)
+unfoldable pub evaluate : ℕ → ℕ → ℕ → ℕ → ℕ → Term → Ended
+evaluate h l zero n k e = elim (firstStop (value? e) true (full? l (next h e))) [ none ↦ ended spent n k e | some s ↦ ended s n k e ]
+evaluate h l (suc m) n k e =
     elim (firstStop (value? e) false (full? l (next h e))) [
-      | none ↦ elim (next h e) [ none ↦ ended spent n e | some f ↦ evaluate h l m (suc n) f ]
-      | some s ↦ ended s n e
+      | none ↦ elim (next h e) [ none ↦ ended spent n k e | some f ↦ evaluate h l m (suc n) (max k (size f)) f ]
+      | some s ↦ ended s n k e
     ]
 
--- "Each carries the steps taken and lays down the term reached", in the version that it came from.
+-- The run of e with the limit m: "so far, the first included".
+abbrev pub runFrom : ℕ → ℕ → ℕ → Term → Ended
+runFrom h l m e = evaluate h l m 0 (size e) e
+
+-- "Each carries the steps taken and lays down the term reached", in the version that it came from; "each run answer reports" the mark.
 unfoldable pub endResult : Version → Ended → Result
-endResult v r = result (stopped (r .stop) (r .steps)) (padded (termBook v (r .term)))
+endResult v r = result (stopped (r .stop) (r .steps) (r .mark)) (padded (termBook v (r .term)))
 
 -- How the run of a book with the limit l ends: "Sums in version 2 are held to the ends of 48 bits, in version 1 to those of 32."
 abbrev pub ending : List ℕ → ℕ → Ended
-ending b l = evaluate (halfOf (versionOf b)) sizeLimit l 0 (rootTerm b)
+ending b l = runFrom (halfOf (versionOf b)) sizeLimit l (rootTerm b)
 
 -- A run answers the same whatever type is found.
 abbrev pub reported : List ℕ → ℕ → Ty → Result

@@ -29,16 +29,27 @@ StopsBy h value limit n f = IsValue f
 StopsBy h spent limit n f = (¬ IsValue f) × (n ≡ limit)
 StopsBy h room limit n f = (¬ IsValue f) × (n < limit) × ((g : Term) × Step h f g × (sizeLimit < size g))
 
--- What a run of e answers, in a version and at its range: it takes the calculus's steps, one by one, through terms of at most 4,095 cells, and encodes
--- the last.
+-- Document 02, (viii): "The mark equals the maximum over the terms that the run reaches in the calculus". Of the terms that e reaches within n steps, the
+-- first and the last included,
+pub record GreatestSize (h n : ℕ) (e : Term) (mark : ℕ) : Type 0 where
+  -- none is larger,
+  pub bounds : (k : ℕ) (f : Term) → k ≤ n → Reaches h k e f → size f ≤ mark
+  -- and one has that size.
+  pub attained : (k : ℕ) × (f : Term) × (k ≤ n) × Reaches h k e f × (size f ≡ mark)
+
+-- What a run of e answers, in a version and at its range: it takes the calculus's steps, one by one, through terms of at most 4,095 cells, reports the
+-- greatest size, and encodes the last.
 pub record TakesSteps (v : Version) (e : Term) (limit : ℕ) (r : Result) : Type 0 where
   pub stop : Stop
   pub steps : ℕ
+  pub mark : ℕ
   pub term : Term
-  pub says : r ≡ result (stopped stop steps) (padded (termBook v term))
+  pub says : r ≡ result (stopped stop steps mark) (padded (termBook v term))
   pub taken : steps ≤ limit
   pub reached : Reaches (halfOf v) steps e term
   pub small : (n : ℕ) (f : Term) → n ≤ steps → Reaches (halfOf v) n e f → size f ≤ sizeLimit
+  -- "each run answer reports it"; "a successor that found no room is not counted"
+  pub greatest : GreatestSize (halfOf v) steps e mark
   pub why : StopsBy (halfOf v) stop limit steps term
 
 -- Demand 2, of one book: "A well-formed book of at most 4,095 cells, sharing opened,
@@ -62,7 +73,7 @@ pub record Agree (limit other : ℕ) (x y : Result) : Type 0 where
   -- "one whose limit is no higher than the other's reports as its steps the lesser of its limit and the other's steps;
   pub lesser : limit ≤ other → stepsOf (x .answer) ≡ min limit (stepsOf (y .answer))
   -- and unless that one was stopped for steps, both give the same answer and the same bytes."
-  pub same : limit ≤ other → ((n : ℕ) → x .answer ≢ stopped spent n) → x ≡ y
+  pub same : limit ≤ other → ((n m : ℕ) → x .answer ≢ stopped spent n m) → x ≡ y
 
 -- Demand 3, of one accepted book, whole: "whichever half each merge on the way is read from,
 pub record Demand3For (E : Engine) (b : List ℕ) : Type 0 where
@@ -77,7 +88,8 @@ pub record Demand3For (E : Engine) (b : List ℕ) : Type 0 where
       (m : ℕ) × (E .check (termBook (versionOf b) f) w .answer ≡ accepted m)
   -- "And for every two step limits, two laptops running that book agree: each lays down the term reached after the steps it reports;
   pub encodes : (w : List ℕ) (limit : ℕ) → IsWork w → IsLimit limit →
-      (s : Stop) × (n : ℕ) × (f : Term) × Reaches (halfOf (versionOf b)) n (rootTerm b) f × (E .run b w limit ≡ result (stopped s n) (padded (termBook (versionOf b) f)))
+      (s : Stop) × (n : ℕ) × (m : ℕ) × (f : Term) × Reaches (halfOf (versionOf b)) n (rootTerm b) f
+      × (E .run b w limit ≡ result (stopped s n m) (padded (termBook (versionOf b) f)))
   -- one whose limit is no higher .., and unless that one was stopped for steps, both give the same answer and the same bytes."
   pub agree : (w v : List ℕ) (limit other : ℕ) → IsWork w → IsWork v → IsLimit limit → IsLimit other →
       Agree limit other (E .run b w limit) (E .run b v other)

@@ -12,17 +12,19 @@ stopTag room = 35
 abbrev pub tagOf : Answer → ℕ
 tagOf (refused n i) = n
 tagOf (accepted n) = 32
-tagOf (stopped s n) = stopTag s
+tagOf (stopped s n m) = stopTag s
 
 -- the refusal's cell, the type's size, the steps
 abbrev pub valueOf : Answer → ℕ
 valueOf (refused n i) = i
 valueOf (accepted n) = n
-valueOf (stopped s n) = n
+valueOf (stopped s n m) = n
 
--- a second figure: no answer has one
+-- the second figure: of a run that is not refused its mark
 abbrev pub secondOf : Answer → ℕ
-secondOf a = 0
+secondOf (refused n i) = 0
+secondOf (accepted n) = 0
+secondOf (stopped s n m) = m
 
 -- 2 to the 32nd: the tag stands above a value of 32 bits,
 abbrev pub tagPlace : ℕ

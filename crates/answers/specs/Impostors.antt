@@ -1,12 +1,14 @@
--- Document 01, "To the testers": the impostors, as engines, and which of demands 2 and 3 stops each. Assumes nothing.
+-- Document 01, "To the testers": the impostors, as engines, and which of demands 2 and 3 stops each; and one of document 02. Assumes nothing.
 use Prim.Native.Nat.{ℕ, zero, suc}
 use mathlib.Core.Path.{_≡_}
 use mathlib.Core.Logic.{_≢_}
 use mathlib.Core.List.{List}
-use Rattle.format.specs.Book.{versionOf}
+use Rattle.calculus.specs.Syntax.{size}
+use Rattle.format.specs.Cell.{IsBytes}
+use Rattle.format.specs.Book.{versionOf, rootTerm}
 use Rattle.answers.specs.Answer.{Stop, value, spent, room, accepted, stopped, Result, result}
-use Rattle.answers.specs.Engine.{Engine, padded}
-use Rattle.answers.specs.Definition.{check, judge, refusalResult, endResult, Ended, ending}
+use Rattle.answers.specs.Engine.{Engine, IsLimit, padded}
+use Rattle.answers.specs.Definition.{definition, check, judge, refusalResult, endResult, Ended, ending}
 use Rattle.answers.specs.Demands.{Accepts, Demand2, Demand3}
 
 -- The engine that checks and refuses truly, and answers g to the run of an accepted book: the most convincing impostors are such.
@@ -20,7 +22,7 @@ atMostOne (suc n) = 1
 
 -- Where a step has been taken, s is the reason to stop.
 unfoldable pub hurried : Stop → Ended → Ended
-hurried s r = record { stop = elim (r .steps) [ zero ↦ r .stop | suc n ↦ s ]; steps = r .steps; term = r .term }
+hurried s r = record { stop = elim (r .steps) [ zero ↦ r .stop | suc n ↦ s ]; steps = r .steps; mark = r .mark; term = r .term }
 
 -- "An engine that reports `room` or `spent` early, at one step wherever the book has one with room and the limit allows it"
 unfoldable pub early : Stop → Engine
@@ -28,7 +30,7 @@ early s = posing (λ b l. endResult (versionOf b) (hurried s (ending b (atMostOn
 
 -- The true run, but for its step figure: k makes one from the limit and the steps taken.
 unfoldable pub figured : (ℕ → ℕ → ℕ) → ℕ → Ended → Ended
-figured k l r = record { stop = r .stop; steps = k l (r .steps); term = r .term }
+figured k l r = record { stop = r .stop; steps = k l (r .steps); mark = r .mark; term = r .term }
 
 -- "one whose step figure is invented"
 unfoldable pub inventedSteps : (ℕ → ℕ → ℕ) → Engine
@@ -36,7 +38,7 @@ inventedSteps k = posing (λ b l. endResult (versionOf b) (figured k l (ending b
 
 -- Where the limit of one step is spent, the figure counts on to the whole limit l.
 unfoldable pub repeating : ℕ → Ended → Ended
-repeating l r = record { stop = r .stop; steps = elim (r .stop) [ value ↦ r .steps | spent ↦ l | room ↦ r .steps ]; term = r .term }
+repeating l r = record { stop = r .stop; steps = elim (r .stop) [ value ↦ r .steps | spent ↦ l | room ↦ r .steps ]; mark = r .mark; term = r .term }
 
 -- one "that takes the first step truly and then repeats that term"
 unfoldable pub repeatsFirst : Engine
@@ -44,7 +46,15 @@ repeatsFirst = posing (λ b l. endResult (versionOf b) (repeating l (ending b (a
 
 -- "one that hands the book back untouched"
 unfoldable pub returnsBook : Engine
-returnsBook = posing (λ b l. result (stopped value 0) (padded b))
+returnsBook = posing (λ b l. result (stopped value 0 (size (rootTerm b))) (padded b))
+
+-- The true run, but for its mark: k makes one from the book and the limit.
+unfoldable pub marked : ℕ → Ended → Ended
+marked m r = record { stop = r .stop; steps = r .steps; mark = m; term = r .term }
+
+-- one whose mark is another
+unfoldable pub inventedMark : (List ℕ → ℕ → ℕ) → Engine
+inventedMark k = posing (λ b l. endResult (versionOf b) (marked (k b l) (ending b l)))
 
 -- "one with a fixed reply": c to every check and r to every run
 unfoldable pub fixedReply : Result → Result → Engine
@@ -68,6 +78,8 @@ pub record Impostors : Type 0 where
   pub invented-3 : (k : ℕ → ℕ → ℕ) → k 1 1 ≢ 1 → ¬ Demand3 (inventedSteps k)
   pub repeats-2 : ¬ Demand2 repeatsFirst
   pub repeats-3 : ¬ Demand3 repeatsFirst
+  -- Document 02, (viii): demand 2 stops one whose mark is another, for any accepted book and limit.
+  pub mark-2 : (k : List ℕ → ℕ → ℕ) (b : List ℕ) (l : ℕ) → IsBytes b → Accepts definition b → IsLimit l → k b l ≢ ending b l .mark → ¬ Demand2 (inventedMark k)
   -- "Demand 2 also shuts out one that hands the book back untouched, one with a fixed reply and one that turns every book away."
   pub returns-book-2 : ¬ Demand2 returnsBook
   pub fixed-2 : (c r : Result) → ¬ Demand2 (fixedReply c r)

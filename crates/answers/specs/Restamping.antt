@@ -17,14 +17,16 @@ use Rattle.answers.specs.Answer.{Stop, accepted, stopped, result}
 use Rattle.answers.specs.Engine.{Engine, IsWork, IsLimit, padded}
 use Rattle.answers.specs.Demands.{Accepts}
 
--- A run of both books with one limit, in any work buffers: the same stop after the same steps, at the same term, which each encodes in its version.
+-- A run of both books with one limit, in any work buffers: the same stop after the same steps, with the same mark, at the same term, which each encodes in its
+-- version.
 pub record SameRun (E : Engine) (b w v : List ℕ) (limit : ℕ) : Type 0 where
   pub stop : Stop
   pub steps : ℕ
+  pub mark : ℕ
   pub term : Term
   pub reached : Reaches (halfOf One) steps (rootTerm b) term
-  pub first : E .run b w limit ≡ result (stopped stop steps) (padded (termBook One term))
-  pub second : E .run (restamp b) v limit ≡ result (stopped stop steps) (padded (termBook Two term))
+  pub first : E .run b w limit ≡ result (stopped stop steps mark) (padded (termBook One term))
+  pub second : E .run (restamp b) v limit ≡ result (stopped stop steps mark) (padded (termBook Two term))
 
 -- What is promised of a book b.
 pub record RestampedFor (E : Engine) (b : List ℕ) : Type 0 where

@@ -2,8 +2,8 @@
 // specs/Exported.antt the numbers that leave the library.
 ghost use mathlib.Core.Path.{_≡_};
 ghost use Prim.Native.Nat.{_<_};
-ghost use Rattle.answers.specs.Cases.{answerOf, refusalAnswer};
-ghost use Rattle.answers.specs.Exported.{tagOf, valueOf};
+ghost use Rattle.answers.specs.Cases.{refusalAnswer, checkAnswer, runAnswer};
+ghost use Rattle.answers.specs.Exported.{tagOf, valueOf, secondOf};
 
 // Why a book is refused: rows 1 to 15, each with the cell that it names where it names one.
 pub enum Refusal {
@@ -31,11 +31,18 @@ pub enum Stop {
     Room(u32),
 }
 
-pub enum Outcome {
+// What a check answers.
+pub enum CheckOutcome {
     Refused(Refusal),
     // the size of the type
     Accepted(usize),
-    Stopped(Stop),
+}
+
+// What a run answers.
+pub enum RunOutcome {
+    Refused(Refusal),
+    // and the greatest size of any term
+    Stopped(Stop, usize),
 }
 
 // A refusal's row of document 01's table.
@@ -84,14 +91,32 @@ pub fn cell(r: Refusal) -> usize
     }
 }
 
-pub fn tag(o: Outcome) -> usize
-    ensures { λ n. ⌜ n ≡ tagOf (answerOf o) ⌝ }
+pub fn check_tag(o: CheckOutcome) -> usize
+    ensures { λ n. ⌜ n ≡ tagOf (checkAnswer o) ⌝ }
     ensures { λ n. ⌜ n < 256 ⌝ }
 {
     match o {
-        Outcome::Refused(r) => row(r),
-        Outcome::Accepted(_) => 32,
-        Outcome::Stopped(s) => match s {
+        CheckOutcome::Refused(r) => row(r),
+        CheckOutcome::Accepted(_) => 32,
+    }
+}
+
+pub fn check_value(o: CheckOutcome) -> usize
+    ensures { λ n. ⌜ n ≡ valueOf (checkAnswer o) ⌝ }
+{
+    match o {
+        CheckOutcome::Refused(r) => cell(r),
+        CheckOutcome::Accepted(n) => n,
+    }
+}
+
+pub fn run_tag(o: RunOutcome) -> usize
+    ensures { λ n. ⌜ n ≡ tagOf (runAnswer o) ⌝ }
+    ensures { λ n. ⌜ n < 256 ⌝ }
+{
+    match o {
+        RunOutcome::Refused(r) => row(r),
+        RunOutcome::Stopped(s, _) => match s {
             Stop::Value(_) => 33,
             Stop::Spent(_) => 34,
             Stop::Room(_) => 35,
@@ -99,16 +124,25 @@ pub fn tag(o: Outcome) -> usize
     }
 }
 
-pub fn value(o: Outcome) -> usize
-    ensures { λ n. ⌜ n ≡ valueOf (answerOf o) ⌝ }
+pub fn run_value(o: RunOutcome) -> usize
+    ensures { λ n. ⌜ n ≡ valueOf (runAnswer o) ⌝ }
 {
     match o {
-        Outcome::Refused(r) => cell(r),
-        Outcome::Accepted(n) => n,
-        Outcome::Stopped(s) => match s {
+        RunOutcome::Refused(r) => cell(r),
+        RunOutcome::Stopped(s, _) => match s {
             Stop::Value(n) => n as usize,
             Stop::Spent(n) => n as usize,
             Stop::Room(n) => n as usize,
         },
+    }
+}
+
+// The mark; of a refusal 0.
+pub fn run_mark(o: RunOutcome) -> usize
+    ensures { λ n. ⌜ n ≡ secondOf (runAnswer o) ⌝ }
+{
+    match o {
+        RunOutcome::Refused(_) => 0,
+        RunOutcome::Stopped(_, mark) => mark,
     }
 }

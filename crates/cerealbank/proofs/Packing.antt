@@ -1,10 +1,14 @@
 -- What is packed is read back. Assumes nothing.
-use Prim.Native.Nat.{ℕ, _<_}
-use mathlib.Core.Path.{_≡_, sym, ap, subst, _∙_}
+use Prim.Native.Nat.{ℕ, _+_, _*_, _<_}
+use mathlib.Core.Path.{_≡_, refl, sym, ap, subst, _∙_}
 use mathlib.Core.List.{List}
 use native.Mathlib.Omega.{arith}
 use Rattle.answers.specs.Answer.{Answer, Result}
-use Rattle.answers.specs.Exported.{tagOf, valueOf, tagPlace, packed}
+use Rattle.answers.specs.Exported.{tagOf, valueOf, secondOf, tagPlace}
+use Rattle.answers.specs.Cases.{checkAnswer}
+use Rattle.answers.specs.declared.CheckOutcome.{CheckOutcome}
+use Rattle.answers.specs.declared.CheckOutcome.the-variants.{Refused, Accepted}
+use Rattle.answers.proofs.Cases.{refusal-number}
 use Rattle.joining.specs.declared.Joined.{Joined}
 use Rattle.joining.specs.Join.{JoinResult, joined}
 use Rattle.joining.specs.declared.Which.{Which}
@@ -12,14 +16,23 @@ use Rattle.joining.specs.Joins.{Joins}
 use Rattle.joining.specs.Previews.{Previews}
 use Rattle.joining.specs.Exported.{whichNumber, packedJoin}
 use Rattle.joining.proofs.Previews.{preview-agrees}
-use Rattle.cerealbank.specs.Packed.{Packs, JoinFits, PackedJoin, PacksJoin, PacksPreview, ExportedAgree}
+use Rattle.cerealbank.specs.Packed.{AnswerFits, PackedAnswer, Packs, JoinFits, PackedJoin, PacksJoin, PacksPreview, ExportedAgree}
 
-pub packs : {v : List ℕ} {r : ℕ} {a : Answer} (x : Result) → valueOf (x .answer) < tagPlace → a ≡ x .answer → v ≡ x .left
-    → (r ≡ packed a) × (tagOf a < 256) → Packs v r x
-packs x f e l p =
-    let q = p .0 ∙ ap packed e in
-    let t = subst (λ (a : Answer). tagOf a < 256) e (p .1) in
-    record { answer = q; value = omega arith; tag = omega arith; second = omega arith; left = l }
+pub packs : {v : List ℕ} {r : ℕ} {a : Answer} (x : Result) → AnswerFits (x .answer) → a ≡ x .answer → v ≡ x .left → PackedAnswer a r → Packs v r x
+packs {r = r} x f e l p =
+    let q : PackedAnswer (x .answer) r = rw e at p in
+    let n = q .is in
+    let t = q .tag in
+    let g = f .value in
+    record { answer = n; value = omega arith; tag = omega arith; second = omega arith; left = l }
+
+-- no check has a second figure
+pub check-second : (o : CheckOutcome) → secondOf (checkAnswer o) ≡ 0
+check-second (Refused q) = ap secondOf (refusal-number q .2)
+check-second (Accepted n) = refl
+
+pub packed-check : (o : CheckOutcome) {t n : ℕ} → t ≡ tagOf (checkAnswer o) → t < 256 → n ≡ valueOf (checkAnswer o) → PackedAnswer (checkAnswer o) (t * 4294967296 + n)
+packed-check o e l v = let z = check-second o in record { is = omega arith; tag = omega arith }
 
 -- what the definition of a join answers fits
 pub record ResultFits (x : JoinResult) : Type 0 where

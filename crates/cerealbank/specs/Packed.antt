@@ -2,11 +2,21 @@
 use Prim.Native.Nat.{ℕ, _+_, _*_, _/_, _%_, _<_}
 use mathlib.Core.Path.{_≡_}
 use mathlib.Core.List.{List}
-use Rattle.answers.specs.Answer.{Result}
+use Rattle.answers.specs.Answer.{Answer, Result}
 use Rattle.answers.specs.Exported.{tagOf, valueOf, secondOf, tagPlace, secondPlace, packed}
 use Rattle.joining.specs.declared.Joined.{Joined}
 use Rattle.joining.specs.Join.{JoinResult, joinAnswer, joined}
 use Rattle.joining.specs.Exported.{whichNumber, whichPlace, bytesPlace, packedJoin}
+
+-- An answer whose figures fit their bits.
+pub record AnswerFits (a : Answer) : Type 0 where
+  pub value : valueOf a < tagPlace
+  pub second : secondOf a < 16777216
+
+-- It in one number.
+pub record PackedAnswer (a : Answer) (r : ℕ) : Type 0 where
+  pub is : r ≡ packed a
+  pub tag : tagOf a < 256
 
 -- The number r and the bytes v are those of the result x.
 pub record Packs (v : List ℕ) (r : ℕ) (x : Result) : Type 0 where
@@ -15,7 +25,7 @@ pub record Packs (v : List ℕ) (r : ℕ) (x : Result) : Type 0 where
   pub value : r % tagPlace ≡ valueOf (x .answer)
   -- bits 32 to 39
   pub tag : r / tagPlace % 256 ≡ tagOf (x .answer)
-  -- bits 40 to 63, free for a second figure: no answer of a check or a run has one, and they are zero
+  -- bits 40 to 63: of a run that is not refused its mark, else zero
   pub second : r / secondPlace ≡ secondOf (x .answer)
   pub left : v ≡ x .left
 

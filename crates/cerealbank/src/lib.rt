@@ -1,7 +1,11 @@
 // The engine for C and Rust: numbers and byte slices only. A slice is a pointer and then a length.
-use answers::Outcome;
-use answers::tag;
-use answers::value;
+use answers::CheckOutcome;
+use answers::RunOutcome;
+use answers::check_tag;
+use answers::check_value;
+use answers::run_mark;
+use answers::run_tag;
+use answers::run_value;
 use engine::check;
 use engine::run;
 use joining::Joined;
@@ -10,35 +14,39 @@ use joining::join_tag;
 use joining::join_value;
 use joining::preview;
 use joining::which_number;
-ghost use mathlib.Core.Path.{_≡_};
-ghost use Prim.Native.Nat.{_<_};
-ghost use Rattle.answers.specs.Cases.{answerOf};
+ghost use Rattle.answers.specs.Cases.{checkAnswer, runAnswer};
 ghost use Rattle.answers.specs.Definition.{definition};
-ghost use Rattle.answers.specs.Exported.{tagOf, valueOf, tagPlace, packed};
 ghost use Rattle.joining.specs.Join.{joined};
-ghost use Rattle.cerealbank.specs.Packed.{Packs, JoinFits, PackedJoin, PacksJoin, PacksPreview};
+ghost use Rattle.cerealbank.specs.Packed.{AnswerFits, PackedAnswer, Packs, JoinFits, PackedJoin, PacksJoin, PacksPreview};
 
 // The tag in bits 32 to 39, its value in bits 0 to 31.
-fn pack(o: Outcome) -> u64
-    requires { ⌜ valueOf (answerOf o) < tagPlace ⌝ }
-    ensures { λ n. ⌜ n ≡ packed (answerOf o) ⌝ }
-    ensures { λ n. ⌜ tagOf (answerOf o) < 256 ⌝ }
+fn pack_check(o: CheckOutcome) -> u64
+    requires { ⌜ AnswerFits (checkAnswer o) ⌝ }
+    ensures { λ n. ⌜ PackedAnswer (checkAnswer o) n ⌝ }
 {
-    (tag(o) as u64) * 4294967296 + (value(o) as u64)
+    (check_tag(o) as u64) * 4294967296 + (check_value(o) as u64)
+}
+
+// The same of a run, its mark above them.
+fn pack_run(o: RunOutcome) -> u64
+    requires { ⌜ AnswerFits (runAnswer o) ⌝ }
+    ensures { λ n. ⌜ PackedAnswer (runAnswer o) n ⌝ }
+{
+    (run_mark(o) as u64) * 1099511627776 + (run_tag(o) as u64) * 4294967296 + (run_value(o) as u64)
 }
 
 #[no_mangle]
 pub extern "C" fn cerealbank_check(book: &[u8], work: &mut [u8]) -> u64
     ensures { λ r. ⌜ Packs (now (work .exit)) r (definition .check (now (book .entry)) (now (work .entry))) ⌝ }
 {
-    pack(check(book, work))
+    pack_check(check(book, work))
 }
 
 #[no_mangle]
 pub extern "C" fn cerealbank_run(book: &[u8], work: &mut [u8], limit: u32) -> u64
     ensures { λ r. ⌜ Packs (now (work .exit)) r (definition .run (now (book .entry)) (now (work .entry)) limit) ⌝ }
 {
-    pack(run(book, work, limit))
+    pack_run(run(book, work, limit))
 }
 
 // The same of a join and a preview: the book that is meant in bits 40 to 47, the byte count in bits 48 to 63.

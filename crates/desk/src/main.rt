@@ -1,7 +1,8 @@
 // The desk program: a book on standard input, checked and run for at most 10,000 steps; the answers and the term reached on standard output.
 // Input past 65,536 bytes is not read: a book of that length is refused as too long.
-use answers::Outcome;
+use answers::CheckOutcome;
 use answers::Refusal;
+use answers::RunOutcome;
 use answers::Stop;
 use cells::Cell;
 use cells::read_cell;
@@ -38,11 +39,18 @@ fn print_stop(s: Stop) {
     }
 }
 
-fn print_outcome(o: Outcome) {
+fn print_checked(o: CheckOutcome) {
     match o {
-        Outcome::Refused(r) => print_refusal(r),
-        Outcome::Accepted(n) => print_word(b"accepted", n),
-        Outcome::Stopped(s) => print_stop(s),
+        CheckOutcome::Refused(r) => print_refusal(r),
+        CheckOutcome::Accepted(n) => print_word(b"accepted", n),
+    }
+}
+
+// The mark is not printed.
+fn print_ran(o: RunOutcome) {
+    match o {
+        RunOutcome::Refused(r) => print_refusal(r),
+        RunOutcome::Stopped(s, _) => print_stop(s),
     }
 }
 
@@ -71,7 +79,7 @@ fn print_cells(work: &[u8])
 fn run_and_print(book: &[u8], work: &mut [u8])
     requires { ⌜ 65536 ≡ length (now work) ⌝ }
 {
-    print_outcome(run(book, work, 10000));
+    print_ran(run(book, work, 10000));
     print_cells(work);
 }
 
@@ -79,8 +87,8 @@ fn check_and_print(book: &[u8], work: &mut [u8])
     requires { ⌜ 65536 ≡ length (now work) ⌝ }
 {
     let o = check(book, work);
-    print_outcome(o);
-    if let Outcome::Accepted(_) = o {
+    print_checked(o);
+    if let CheckOutcome::Accepted(_) = o {
         run_and_print(book, work);
     }
 }

@@ -12,7 +12,8 @@ use Rattle.format.specs.Book.{versionOf}
 use Rattle.answers.specs.Answer.{refused, Result}
 use Rattle.answers.specs.Definition.{check, judge, shown}
 use Rattle.answers.proofs.Demands.{demand2}
-use Rattle.answers.specs.declared.Outcome.{Outcome}
+use Rattle.answers.specs.Cases.{checkAnswer}
+use Rattle.answers.specs.declared.CheckOutcome.{CheckOutcome}
 use Rattle.engine.specs.Rows.{Refuses}
 use Rattle.engine.specs.Check.{Checked}
 use Rattle.engine.specs.Stages.{Gives}
@@ -27,8 +28,8 @@ pub check-refuses : (b w : List ℕ) → IsBytes b → (n i : ℕ) → check b w
 unfolding check
 check-refuses b w bytes n i e = judge-refuses b w bytes (shown (versionOf b)) (shown-accepts (versionOf b)) n i e
 
-module _ {b w v : List ℕ} {r : Outcome} (bytes : IsBytes b) where
-  meaning : Gives v r (check b w) → Checked b w v r
+module _ {b w v : List ℕ} {r : CheckOutcome} (bytes : IsBytes b) where
+  meaning : Gives v (checkAnswer r) (check b w) → Checked b w v r
   unfolding check
   meaning g =
       let d = demand2 b bytes in
@@ -46,6 +47,6 @@ module _ {b w v : List ℕ} {r : Outcome} (bytes : IsBytes b) where
             (g .answer ∙ ap (λ (x : Result). x .answer) e, g .left ∙ ap (λ (x : Result). x .left) e, typed-size t);
       }
 
-  pub checked-as : Gives v r (judge b w (shown (versionOf b))) → Checked b w v r
+  pub checked-as : Gives v (checkAnswer r) (judge b w (shown (versionOf b))) → Checked b w v r
   unfolding check
   checked-as g = meaning g

@@ -17,19 +17,19 @@ use Rattle.answers.specs.Order.{UnderOneType, Books, SameReading, IgnoresOrder,
 use Rattle.answers.proofs.Demands.{demand2, demand3-from-2}
 use Rattle.answers.proofs.Restamping.{restamped}
 use Rattle.answers.proofs.Order.{annotated-typed, same-reading, ignores-order, step-needed}
-use Rattle.answers.specs.Cases.{answerOf}
-use Rattle.answers.specs.declared.Outcome.{Outcome}
+use Rattle.answers.specs.Cases.{runAnswer}
+use Rattle.answers.specs.declared.RunOutcome.{RunOutcome}
 use Rattle.engine.specs.Run.{Ran}
 use Rattle.engine.specs.Demands.{MeetsContracts}
 
 -- Two laptops, by what the contracts of their two calls say and nothing else.
-pub calls-agree : {b w v w′ v′ : List ℕ} {l m : ℕ} {r q : Outcome} {A : Ty} → Ran b w v l r → Ran b w′ v′ m q → IsWork w → IsWork w′ → WellFormed b →
-    Typed [] (rootTerm b) A → Agree l m (result (answerOf r) v) (result (answerOf q) v′)
-calls-agree {v′ = v′} {m = m} {q = q} {A = A} x y j k f t = x .agree j f A t m (result (answerOf q) v′) (y .runs k f A t) .0
+pub calls-agree : {b w v w′ v′ : List ℕ} {l m : ℕ} {r q : RunOutcome} {A : Ty} → Ran b w v l r → Ran b w′ v′ m q → IsWork w → IsWork w′ → WellFormed b →
+    Typed [] (rootTerm b) A → Agree l m (result (runAnswer r) v) (result (runAnswer q) v′)
+calls-agree {v′ = v′} {m = m} {q = q} {A = A} x y j k f t = x .agree j f A t m (result (runAnswer q) v′) (y .runs k f A t) .0
 
 -- Two orders of a value under one annotation, likewise.
-pub calls-ignore-order : {b c w v w′ v′ : List ℕ} {l : ℕ} {r q : Outcome} → Ran b w v l r → Ran c w′ v′ l q → IsWork w → IsWork w′ → Books UnderOneType b c →
-    HasType [] (rootTerm b) → SameReading (versionOf b) (versionOf c) (rootTerm b) (rootTerm c) (result (answerOf r) v) (result (answerOf q) v′)
+pub calls-ignore-order : {b c w v w′ v′ : List ℕ} {l : ℕ} {r q : RunOutcome} → Ran b w v l r → Ran c w′ v′ l q → IsWork w → IsWork w′ → Books UnderOneType b c →
+    HasType [] (rootTerm b) → SameReading (versionOf b) (versionOf c) (rootTerm b) (rootTerm c) (result (runAnswer r) v) (result (runAnswer q) v′)
 calls-ignore-order {b = b} {c = c} x y j k p t =
     let u = annotated-typed (p .roots) t in
     same-reading (p .roots) t (x .runs j (p .formed .0) (t .0) (t .1)) (y .runs k (p .formed .1) (u .0) (u .1))

@@ -15,15 +15,15 @@ use Rattle.format.specs.Cell.{IsBytes}
 use Rattle.format.specs.Book.{versionOf, rootTerm, sizeLimit, WellFormed}
 use Rattle.answers.specs.Answer.{Stop, refused, Result, result}
 use Rattle.answers.specs.Engine.{IsWork}
-use Rattle.answers.specs.Definition.{definition, run, judge, Ended, ended, evaluate, endResult, reported}
+use Rattle.answers.specs.Definition.{definition, run, judge, Ended, ended, runFrom, endResult, reported}
 use Rattle.answers.specs.Demands as Demands
 use Rattle.answers.proofs.Fits.{reaches-fits, half-positive}
-use Rattle.answers.proofs.Running.{ran}
+use Rattle.answers.proofs.Running.{greatest-first, ran}
 use Rattle.answers.proofs.Restamping.{restamped}
 use Rattle.answers.proofs.Demands.{typed-accepts, definition-runs, runs-agree, demand2, demand3}
-use Rattle.answers.specs.Cases.{answerOf}
-use Rattle.answers.specs.declared.Outcome.{Outcome}
-use Rattle.answers.specs.declared.Outcome.the-variants.{Stopped}
+use Rattle.answers.specs.Cases.{runAnswer}
+use Rattle.answers.specs.declared.RunOutcome.{RunOutcome}
+use Rattle.answers.specs.declared.RunOutcome.the-variants.{Stopped}
 use Rattle.format.specs.Terms.{fromTerm, TermFits}
 use Rattle.format.proofs.Restamping.{fits-wide}
 use Rattle.format.proofs.Trees.{term-cells, term-positive}
@@ -41,10 +41,10 @@ use Rattle.engine.proofs.Rows.{judge-refuses}
 -- ---- the root, encoded and run
 
 -- the term that a run ends at fits the version, as the first did
-end-fits : (q : Version) {e : Term} {A : Ty} → Typed [] e A → size e ≤ sizeLimit → TermFits (halfOf q) e → (l : ℕ) {s : Stop} {n : ℕ} {f : Term} →
-    evaluate (halfOf q) sizeLimit l 0 e ≡ ended s n f → TermFits (halfOf q) f
+end-fits : (q : Version) {e : Term} {A : Ty} → Typed [] e A → size e ≤ sizeLimit → TermFits (halfOf q) e → (l : ℕ) {s : Stop} {n k : ℕ} {f : Term} →
+    runFrom (halfOf q) sizeLimit l e ≡ ended s n k f → TermFits (halfOf q) f
 end-fits q {e} t k h l {f = f} m =
-    let a = ran (halfOf q) t l 0 e r-zero first in
+    let a = ran (halfOf q) t l 0 (size e) e (record { reached = r-zero; small = first; greatest = greatest-first (halfOf q) t }) in
     reaches-fits (halfOf q) (half-positive q) (omega arith) (subst (λ (x : Ended). Reaches (halfOf q) (x .steps) e (x .term)) m (a .reached)) h
   where
     first : (i : ℕ) (g : Term) → i ≤ 0 → Reaches (halfOf q) i e g → size g ≤ sizeLimit
@@ -88,7 +88,7 @@ module _ {q : Version} {w : List ℕ} {i : ℕ} (bytes : IsBytes w) where
       pub end-encoded : length u ≡ length w → SomeRoot q w i → SomeTerm q u (z .cells)
       end-encoded h p = record { work = h ∙ p .root .long; term = _; encoded = reached (p .term) (p .root) }
 
-      pub root-runs : {t : List ℕ} → ClosesTerm q u t (z .cells) → RunsRoot q w t i l (Stopped (z .stop))
+      pub root-runs : {t : List ℕ} → ClosesTerm q u t (z .cells) → RunsRoot q w t i l (Stopped (z .stop) (z .mark))
       unfolding endResult
       root-runs x =
           record {
@@ -103,8 +103,8 @@ run-stops : (b : List ℕ) (l : ℕ) (A : Ty) (n i : ℕ) → reported b l A .an
 unfolding endResult
 run-stops b l A n i e = let z : _≡_ {A = ℕ} 0 1 = cc in absurd (omega arith)
 
-module _ {b w v : List ℕ} {l : ℕ} {r : Outcome} (bytes : IsBytes b) where
-  meaning : Gives v r (run b w l) → Ran b w v l r
+module _ {b w v : List ℕ} {l : ℕ} {r : RunOutcome} (bytes : IsBytes b) where
+  meaning : Gives v (runAnswer r) (run b w l) → Ran b w v l r
   unfolding run
   meaning g =
       record {
@@ -118,13 +118,13 @@ module _ {b w v : List ℕ} {l : ℕ} {r : Outcome} (bytes : IsBytes b) where
         agree = λ k f A t other y q. (runs-agree t (runs k f A t) q, runs-agree t q (runs k f A t));
       }
     where
-      same : {x : Result} → Gives v r x → result (answerOf r) v ≡ x
+      same : {x : Result} → Gives v (runAnswer r) x → result (runAnswer r) v ≡ x
       same h = rw (h .answer, h .left)
 
-      runs : IsWork w → WellFormed b → (A : Ty) → Typed [] (rootTerm b) A → Demands.TakesSteps (versionOf b) (rootTerm b) l (result (answerOf r) v)
+      runs : IsWork w → WellFormed b → (A : Ty) → Typed [] (rootTerm b) A → Demands.TakesSteps (versionOf b) (rootTerm b) l (result (runAnswer r) v)
       runs k f A t =
           subst (λ (x : Result). Demands.TakesSteps (versionOf b) (rootTerm b) l x) (sym (same g)) (definition-runs b w l bytes k (typed-accepts b (f, (A, t))))
 
-  pub ran-as : Gives v r (judge b w (reported b l)) → Ran b w v l r
+  pub ran-as : Gives v (runAnswer r) (judge b w (reported b l)) → Ran b w v l r
   unfolding run
   ran-as g = meaning g

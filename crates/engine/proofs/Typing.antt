@@ -24,7 +24,7 @@ use Rattle.format.proofs.Paths.{follow-alike}
 use Rattle.format.proofs.Tests.{rootTerm-tree, rootTerm-small, rootTerm-fits}
 use Rattle.answers.specs.Answer.{Result, refused, accepted, reasonNumber}
 use Rattle.answers.specs.Definition.{afterTyping, refusalResult, shown, reported}
-use Rattle.answers.specs.Cases.{refusalAnswer}
+use Rattle.answers.specs.Cases.{refusalAnswer, runAnswer}
 use Rattle.answers.specs.declared.Refusal.{Refusal}
 use Rattle.cells.specs.Held.{HoldsType, HoldsTerm, h-empty}
 use Rattle.loading.specs.Loaded.{Loaded}
@@ -34,10 +34,9 @@ use Rattle.layout.proofs.Encoded.{encode-ready}
 use Rattle.typing.specs.Finding.{FindReady, Finds, Answered}
 use Rattle.typing.specs.declared.Found.{Found}
 use Rattle.typing.specs.declared.Found.the-variants.{Typed, Refused}
-use Rattle.answers.specs.declared.Outcome.{Outcome}
-use Rattle.answers.specs.declared.Outcome.the-variants as Out
+use Rattle.answers.specs.declared.RunOutcome.{RunOutcome}
 use Rattle.cells.proofs.Held.{holds, same-held}
-use Rattle.engine.specs.Stages.{RefusesBy, FindsRoot, finds, refuses, Formed, AfterTyping, RootAt, SomeRoot, RunsRoot}
+use Rattle.engine.specs.Stages.{LeftByRefusal, FindsRoot, finds, refuses, Formed, AfterTyping, RootAt, SomeRoot, RunsRoot}
 use Rattle.engine.proofs.Parts.{cell-part, tree-part, part-length}
 
 module _ (b s : List ℕ) (bytes : IsBytes b) (f : WellFormed b) (l : Loaded (wideCells (versionOf b) (take (8 * count b) b)) s (count b)) where
@@ -114,7 +113,7 @@ module _ {b w t : List ℕ} {u : Version} {i : ℕ} {r : Found} (p : Formed b w 
   pub type-lain : {v : List ℕ} {c k n : ℕ} → length v ≡ length w → r ≡ Typed c k → EncodesTree t v 2 c n → SomeTree v n
   type-lain h e y = let a = found-of e in record { work = h ∙ p .work; tree = fromType (a .0); encoded = type-encoded (a .0) (a .1) (a .2) y }
 
-  pub check-found : {v o : List ℕ} {c k n : ℕ} → r ≡ Typed c k → EncodesTree t v 2 c n → Closes u v o n → AfterTyping b (shown (versionOf b)) o (Out.Accepted n)
+  pub check-found : {v o : List ℕ} {c k n : ℕ} → r ≡ Typed c k → EncodesTree t v 2 c n → Closes u v o n → AfterTyping b (shown (versionOf b)) o (accepted n)
   unfolding afterTyping shown
   check-found e y z =
       let a = found-of e in
@@ -136,20 +135,20 @@ module _ {b w t : List ℕ} {u : Version} {i : ℕ} {r : Found} (p : Formed b w 
   pub some-root : {c k : ℕ} → length t ≡ length w → r ≡ Typed c k → SomeRoot u t i
   some-root l e = rw (p .book .version) (record { term = rootTerm b; root = root-of l e })
 
-  pub run-found : {v : List ℕ} {c k m : ℕ} {o : Outcome} → length t ≡ length w → r ≡ Typed c k → RunsRoot u t v i m o → AfterTyping b (reported b m) v o
+  pub run-found : {v : List ℕ} {c k m : ℕ} {o : RunOutcome} → length t ≡ length w → r ≡ Typed c k → RunsRoot u t v i m o → AfterTyping b (reported b m) v (runAnswer o)
   unfolding afterTyping
   run-found l e y = let a = found-of e in rw (a .1) ((rw (p .book .version) at y) .says (rootTerm b) (root-of l e))
 
   -- a refusal is answered alike by both calls
-  pub ill-typed-book : {q : Refusal} {v : List ℕ} {o : Outcome} (g : Ty → Result) → length t ≡ length w → r ≡ Refused q → RefusesBy t v q o → AfterTyping b g v o
+  pub ill-typed-book : {q : Refusal} {v : List ℕ} (g : Ty → Result) → length t ≡ length w → r ≡ Refused q → LeftByRefusal t v → AfterTyping b g v (refusalAnswer q)
   unfolding afterTyping refusalResult
-  ill-typed-book {q} {v} {o} g l e u = go d
+  ill-typed-book {q} {v} g l e u = go d
     where
-      go : FindsRoot b t i r → AfterTyping b g v o
+      go : FindsRoot b t i r → AfterTyping b g v (refusalAnswer q)
       go (finds c f h k) = let z : _≡_ {A = ℕ} 0 1 = cc in absurd (omega arith)
       go (refuses {q = x} c f a) =
           let z : q ≡ x = cc in
-          rw (f, u .says) (record { answer = ap refusalAnswer z ∙ a; left = u .zeroed (l ∙ p .work) })
+          rw f (record { answer = ap refusalAnswer z ∙ a; left = u .zeroed (l ∙ p .work) })
 
 -- a buffer of 4,096 cells
 pub scratch : 32768 ≤ length (replicate {A = ℕ} 32768 0)

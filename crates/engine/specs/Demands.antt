@@ -6,13 +6,14 @@ use mathlib.Core.List.{List}
 use Rattle.format.specs.Cell.{IsBytes}
 use Rattle.answers.specs.Answer.{result}
 use Rattle.answers.specs.Engine.{Engine, IsLimit}
-use Rattle.answers.specs.Cases.{answerOf}
-use Rattle.answers.specs.declared.Outcome.{Outcome}
+use Rattle.answers.specs.Cases.{checkAnswer, runAnswer}
+use Rattle.answers.specs.declared.CheckOutcome.{CheckOutcome}
+use Rattle.answers.specs.declared.RunOutcome.{RunOutcome}
 use Rattle.engine.specs.Check.{Checked}
 use Rattle.engine.specs.Run.{Ran}
 
 -- Every answer of E, with the bytes left, is one that the contracts of `check` and `run` allow.
 pub record MeetsContracts (E : Engine) : Type 0 where
-  pub checks : (b w : List ℕ) → IsBytes b → (r : Outcome) × (v : List ℕ) × Checked b w v r × (E .check b w ≡ result (answerOf r) v)
+  pub checks : (b w : List ℕ) → IsBytes b → (r : CheckOutcome) × (v : List ℕ) × Checked b w v r × (E .check b w ≡ result (checkAnswer r) v)
   pub runs : (b w : List ℕ) (limit : ℕ) → IsBytes b → IsLimit limit →
-      (r : Outcome) × (v : List ℕ) × Ran b w v limit r × (E .run b w limit ≡ result (answerOf r) v)
+      (r : RunOutcome) × (v : List ℕ) × Ran b w v limit r × (E .run b w limit ≡ result (runAnswer r) v)

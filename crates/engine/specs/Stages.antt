@@ -9,15 +9,14 @@ use Rattle.calculus.specs.Typing.{Typed}
 use Rattle.format.specs.declared.Version.{Version}
 use Rattle.format.specs.Version.{halfOf}
 use Rattle.format.specs.Book.{WellFormed, versionOf, rootTerm, rootOf, follow, sizeLimit}
-use Rattle.answers.specs.Answer.{Result, refused, reasonNumber}
+use Rattle.answers.specs.Answer.{Answer, Result, refused, reasonNumber}
 use Rattle.answers.specs.Engine.{IsWork, zeros, workLength}
-use Rattle.answers.specs.Definition.{afterTyping, endResult, evaluate}
+use Rattle.answers.specs.Definition.{afterTyping, endResult, runFrom}
 use Rattle.calculus.specs.Infer as Infer
 use Rattle.calculus.specs.Infer.{Reason, found, infer}
-use Rattle.answers.specs.Cases.{answerOf, refusalAnswer}
+use Rattle.answers.specs.Cases.{refusalAnswer, runAnswer}
 use Rattle.answers.specs.declared.Refusal.{Refusal}
-use Rattle.answers.specs.declared.Outcome.{Outcome}
-use Rattle.answers.specs.declared.Outcome.the-variants.{Refused as Outcome·Refused}
+use Rattle.answers.specs.declared.RunOutcome.{RunOutcome}
 use Rattle.answers.specs.declared.Refusal.the-variants.{Buffer}
 use Rattle.book.specs.Form.{FormCheck}
 use Rattle.book.specs.declared.Form.{Form}
@@ -33,8 +32,7 @@ pub data FirstRows (b : List ℕ) (n : ℕ) (x : Form) : Type 0 where
   rows-2-to-10 : n ≡ workLength → FormCheck b x → FirstRows b n x
 
 -- "Refusal 1 touches nothing; all others zero the work buffer."
-pub record RefusesBy (w v : List ℕ) (q : Refusal) (r : Outcome) : Type 0 where
-  pub says : r ≡ Outcome·Refused q
+pub record LeftByRefusal (w v : List ℕ) : Type 0 where
   pub zeroed : IsWork w → v ≡ zeros workLength
   pub untouched : length w ≢ workLength → v ≡ w
 
@@ -60,14 +58,14 @@ pub record Formed (b w : List ℕ) (u : Version) (i : ℕ) : Type 0 where
   pub book : Rooted b u i
   pub work : IsWork w
 
--- The answer r and the bytes v are those of the result x.
-pub record Gives (v : List ℕ) (r : Outcome) (x : Result) : Type 0 where
-  pub answer : answerOf r ≡ x .answer
+-- The answer a and the bytes v are those of the result x.
+pub record Gives (v : List ℕ) (a : Answer) (x : Result) : Type 0 where
+  pub answer : a ≡ x .answer
   pub left : v ≡ x .left
 
 -- What is answered past row 10: g answers for the type found.
-abbrev pub AfterTyping : List ℕ → (Ty → Result) → List ℕ → Outcome → Type 0
-AfterTyping b g v r = Gives v r (afterTyping b g (infer [] (rootTerm b)))
+abbrev pub AfterTyping : List ℕ → (Ty → Result) → List ℕ → Answer → Type 0
+AfterTyping b g v a = Gives v a (afterTyping b g (infer [] (rootTerm b)))
 
 -- A typed book's root, held in the work buffer; u is the version of the book, which its numbers fit.
 pub record RootAt (u : Version) (w : List ℕ) (i : ℕ) (e : Term) : Type 0 where
@@ -84,5 +82,5 @@ pub record SomeRoot (u : Version) (w : List ℕ) (i : ℕ) : Type 0 where
   pub root : RootAt u w i term
 
 -- The run of the root: the definition's answer and bytes.
-pub record RunsRoot (u : Version) (w v : List ℕ) (i limit : ℕ) (r : Outcome) : Type 0 where
-  pub says : (e : Term) → RootAt u w i e → Gives v r (endResult u (evaluate (halfOf u) sizeLimit limit 0 e))
+pub record RunsRoot (u : Version) (w v : List ℕ) (i limit : ℕ) (r : RunOutcome) : Type 0 where
+  pub says : (e : Term) → RootAt u w i e → Gives v (runAnswer r) (endResult u (runFrom (halfOf u) sizeLimit limit e))

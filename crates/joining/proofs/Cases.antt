@@ -5,14 +5,12 @@ use mathlib.Core.Path.{_≡_, refl, sym, ap, _∙_}
 use Rattle.answers.specs.Answer.{Stop, refused, accepted, stopped}
 use Rattle.answers.specs.Cases.{refusalAnswer}
 use Rattle.answers.specs.declared.Refusal.{Refusal}
-use Rattle.answers.specs.declared.Outcome.the-variants.{Refused as Outcome·Refused}
-use Rattle.answers.proofs.Cases.{answer-fixes}
+use Rattle.answers.proofs.Cases.{refusal-number, refusal-fixes}
 use Rattle.answers.proofs.Demands.{clash}
 use Rattle.joining.specs.declared.JoinAnswer.{JoinAnswer}
 use Rattle.joining.specs.declared.JoinAnswer.the-variants.{Accepted, Refused, Full}
 use Rattle.joining.specs.declared.Joined.{Joined}
 use Rattle.joining.specs.Join.{joinAnswer}
-use Rattle.joining.proofs.Judging.{refusal-number}
 
 not-accepted : (n : ℕ) (q : Refusal) → ¬ (accepted n ≡ refusalAnswer q)
 not-accepted n q e = let x = refusal-number q in let z : accepted n ≡ refused (x .0) (x .1) = e ∙ x .2 in clash cc
@@ -24,20 +22,17 @@ not-full q e =
     let n : 16 ≡ x .0 = cc in
     omega (arith, n, x .3)
 
-same-refusal : (q r : Refusal) → refusalAnswer q ≡ refusalAnswer r → q ≡ r
-same-refusal q r e = let z : Outcome·Refused q ≡ Outcome·Refused r = answer-fixes (Outcome·Refused q) (Outcome·Refused r) e in cc
-
-pub never-stopped : (a : JoinAnswer) (s : Stop) (n : ℕ) → ¬ (joinAnswer a ≡ stopped s n)
-never-stopped (Accepted m) s n e = clash cc
-never-stopped (Refused q) s n e = let x = refusal-number q in let z : refused (x .0) (x .1) ≡ stopped s n = sym (x .2) ∙ e in clash cc
-never-stopped Full s n e = clash cc
+pub never-stopped : (a : JoinAnswer) (s : Stop) (n k : ℕ) → ¬ (joinAnswer a ≡ stopped s n k)
+never-stopped (Accepted m) s n k e = clash cc
+never-stopped (Refused q) s n k e = let x = refusal-number q in let z : refused (x .0) (x .1) ≡ stopped s n k = sym (x .2) ∙ e in clash cc
+never-stopped Full s n k e = clash cc
 
 pub join-answer-fixes : (a b : JoinAnswer) → joinAnswer a ≡ joinAnswer b → a ≡ b
 join-answer-fixes (Accepted n) (Accepted m) e = let z : n ≡ m = cc in ap Accepted z
 join-answer-fixes (Accepted n) (Refused r) e = absurd (not-accepted n r e)
 join-answer-fixes (Accepted n) Full e = absurd (clash cc)
 join-answer-fixes (Refused q) (Accepted m) e = absurd (not-accepted m q (sym e))
-join-answer-fixes (Refused q) (Refused r) e = ap Refused (same-refusal q r e)
+join-answer-fixes (Refused q) (Refused r) e = ap Refused (refusal-fixes q r e)
 join-answer-fixes (Refused q) Full e = absurd (not-full q (sym e))
 join-answer-fixes Full (Accepted m) e = absurd (clash cc)
 join-answer-fixes Full (Refused r) e = absurd (not-full r e)

@@ -107,7 +107,7 @@ module _ {l k : List ℕ} {n : ℕ} {q w v : List ℕ} {r : Joined} (p : Preview
         | no u ↦ ap length (c .zeroed m i u e) ∙ work-at-hand
       ]
       by (accepted m) e = let x = c .writes m e .3 in ap length (x .left) ∙ left-whole (joint (take n l) q) w o (x .owed)
-      by (stopped s m) e = absurd (never-stopped (r .answer) s m e)
+      by (stopped s m k) e = absurd (never-stopped (r .answer) s m k e)
 
   after : joined l n q w ≡ joined l n q v
   after =

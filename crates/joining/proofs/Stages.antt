@@ -33,21 +33,21 @@ module _ (x : Which) (l : List ℕ) (r : Result) (y : JoinResult) where
   on-accepted e = rw e refl
 
 -- no check is stopped
-pub not-stopped : (b w : List ℕ) (s : Stop) (n : ℕ) → check b w .answer ≢ stopped s n
+not-stopped : (b w : List ℕ) (s : Stop) (n k : ℕ) → check b w .answer ≢ stopped s n k
 unfolding check judge shown afterForm afterTyping refusalResult
-not-stopped b w s n e = tested (eqb (length w) workLength) refl e
+not-stopped b w s n k e = tested (eqb (length w) workLength) refl e
   where
-    typed : (f : Found) → afterTyping b (shown (versionOf b)) f .answer ≢ stopped s n
+    typed : (f : Found) → afterTyping b (shown (versionOf b)) f .answer ≢ stopped s n k
     typed (found A) e = clash cc
     typed (Infer.refused r p) e = clash cc
 
-    formed : (f : Option Finding) → afterForm b (shown (versionOf b)) f .answer ≢ stopped s n
+    formed : (f : Option Finding) → afterForm b (shown (versionOf b)) f .answer ≢ stopped s n k
     formed none e = typed (infer [] (rootTerm b)) e
     formed (some f) e = clash cc
 
-    tested : (t : Bool) → eqb (length w) workLength ≡ t → check b w .answer ≢ stopped s n
+    tested : (t : Bool) → eqb (length w) workLength ≡ t → check b w .answer ≢ stopped s n k
     tested true p e = formed (formFinding b) (rw (p, judge) at e)
-    tested false p e = let z : refused 1 0 ≡ stopped s n = rw (p, judge) at e in clash cc
+    tested false p e = let z : refused 1 0 ≡ stopped s n k = rw (p, judge) at e in clash cc
 
 -- a check refuses or accepts
 pub data Verdict (b w : List ℕ) : Type 0 where
@@ -60,7 +60,7 @@ verdict b w = go (check b w .answer) refl
     go : (a : Answer) → check b w .answer ≡ a → Verdict b w
     go (refused m i) e = turned e
     go (accepted m) e = passed e
-    go (stopped s m) e = absurd (not-stopped b w s m e)
+    go (stopped s m k) e = absurd (not-stopped b w s m k e)
 
 -- ---- 16 and the joint, c its check
 

@@ -137,7 +137,7 @@ module _ (l : List ℕ) (n : ℕ) (q w : List ℕ) where
   leaves (accepted m) =
       let b = joint (take n l) q in
       (length b, written b, check b w .left, λ k v r c e. let x = c .writes m e .3 in record { bytes = x .bytes; lent = lent-whole c m e; left = x .left })
-  leaves (stopped s m) = (0, l, w, λ k v r c e. absurd (never-stopped (r .answer) s m e))
+  leaves (stopped s m j) = (0, l, w, λ k v r c e. absurd (never-stopped (r .answer) s m j e))
 
 pub clauses-agree : {l k k' : List ℕ} {n : ℕ} {q w v v' : List ℕ} {r r' : Joined} → Joins l k n q w v r → Joins l k' n q w v' r' → Alike k k' v v' r r'
 clauses-agree {l = l} {n = n} {q = q} {w = w} {r = r} {r' = r'} c d =

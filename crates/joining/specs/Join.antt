@@ -50,7 +50,7 @@ acceptance b r = record { which = Joint; answer = r .answer; bytes = length b; l
 
 -- The rows of one of the books: refused as its check refuses it, or else on to x.
 abbrev pub afterCheck : Which → List ℕ → Result → JoinResult → JoinResult
-afterCheck b l r x = elim (r .answer) [ refused n i ↦ refusal b l r | accepted n ↦ x | stopped s n ↦ x ]
+afterCheck b l r x = elim (r .answer) [ refused n i ↦ refusal b l r | accepted n ↦ x | stopped s n m ↦ x ]
 
 -- "16, under joint with cell 0, when the joint has more than 4,095 cells, tested after both books were accepted on their own and before the joint is"
 unfoldable pub afterBooks : List ℕ → List ℕ → List ℕ → List ℕ → JoinResult

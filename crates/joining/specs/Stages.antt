@@ -4,25 +4,11 @@ use mathlib.Core.Path.{_≡_}
 use mathlib.Core.List.{List}
 use lib.ListN.{length}
 use Rattle.format.specs.Book.{WellFormed}
-use Rattle.answers.specs.Answer.{Answer, accepted, result}
 use Rattle.answers.specs.Engine.{IsWork, zeros}
-use Rattle.answers.specs.Definition.{check}
-use Rattle.answers.specs.Cases.{refusalAnswer}
 use Rattle.joining.specs.declared.Which.{Which}
 use Rattle.joining.specs.declared.JoinAnswer.{JoinAnswer}
 use Rattle.joining.specs.declared.Joined.{Joined}
-use Rattle.joining.specs.declared.Verdict.{Verdict}
-use Rattle.joining.specs.declared.Verdict.the-variants.{Accepted, Refused}
 use Rattle.joining.specs.Join.{JoinResult, joinAnswer, lentLength, afterBooks, afterProject, afterLengths, joined}
-
--- a verdict, as an answer
-abbrev pub verdictAnswer : Verdict → Answer
-verdictAnswer (Accepted n) = accepted n
-verdictAnswer (Refused q) = refusalAnswer q
-
--- The verdict r on the book b, and the bytes v left of w, are the check's.
-pub record JudgesBook (b w v : List ℕ) (r : Verdict) : Type 0 where
-  pub says : check b w ≡ result (verdictAnswer r) v
 
 -- A refusal of the book x, with no bytes.
 pub record RefusesFor (x : Which) (a : JoinAnswer) (r : Joined) : Type 0 where

@@ -1,7 +1,7 @@
 // Joining a part to the project. For every project's bytes, told length, part and work buffer the answer, the book that it means, the byte count, each byte
 // left in the work buffer and each lent byte of the project are fixed. A join is a judgement on a buffer of its own, and then one copy; a preview is the
 // judgement alone.
-use answers::Outcome;
+use answers::CheckOutcome;
 use answers::Refusal;
 use answers::cell;
 use answers::row;
@@ -9,7 +9,7 @@ use engine::check;
 use joint::write_joint;
 use layout::clear;
 use moving::copy;
-ghost use Rattle.joining.specs.Stages.{JudgesBook, RefusesFor, RefusesZeroed, JointJudgeable, JudgesJoint, PartJudgeable, JudgesPart};
+ghost use Rattle.joining.specs.Stages.{RefusesFor, RefusesZeroed, JointJudgeable, JudgesJoint, PartJudgeable, JudgesPart};
 ghost use Rattle.joining.specs.Stages.{ProjectJudgeable, JudgesProject, JointBuffer, Judges};
 ghost use Rattle.joining.specs.Joins.{Joins};
 ghost use Rattle.joining.specs.Previews.{Previews};
@@ -49,24 +49,6 @@ pub struct Joined {
     pub bytes: usize,
 }
 
-// What a check says of a book.
-enum Verdict {
-    // the size of its type
-    Accepted(usize),
-    Refused(Refusal),
-}
-
-// A check; none is stopped.
-fn judge_book(book: &[u8], work: &mut [u8]) -> Verdict
-    ensures { λ r. ⌜ JudgesBook (now (book .entry)) (now (work .entry)) (now (work .exit)) r ⌝ }
-{
-    match check(book, work) {
-        Outcome::Refused(refusal) => Verdict::Refused(refusal),
-        Outcome::Accepted(size) => Verdict::Accepted(size),
-        Outcome::Stopped(_) => Verdict::Accepted(0),
-    }
-}
-
 // A refusal gives no bytes.
 fn refused(which: Which, answer: JoinAnswer) -> Joined
     ensures { λ r. ⌜ RefusesFor which answer r ⌝ }
@@ -97,9 +79,9 @@ fn judge_joint(project: &[u8], part: &[u8], joint: &mut [u8], work: &mut [u8]) -
         return refuse_zeroed(work, Which::Joint, JoinAnswer::Full);
     }
     let bytes = write_joint(project, part, joint);
-    match judge_book(&joint[..bytes], work) {
-        Verdict::Refused(refusal) => refused(Which::Joint, JoinAnswer::Refused(refusal)),
-        Verdict::Accepted(size) => Joined {
+    match check(&joint[..bytes], work) {
+        CheckOutcome::Refused(refusal) => refused(Which::Joint, JoinAnswer::Refused(refusal)),
+        CheckOutcome::Accepted(size) => Joined {
             which: Which::Joint,
             answer: JoinAnswer::Accepted(size),
             bytes,
@@ -112,9 +94,9 @@ fn judge_part(project: &[u8], part: &[u8], joint: &mut [u8], work: &mut [u8]) ->
     requires { ⌜ PartJudgeable (now project) (now joint) (now work) ⌝ }
     ensures { λ r. ⌜ JudgesPart (now (project .entry)) (now (part .entry)) (now (joint .exit)) (now (work .entry)) (now (work .exit)) r ⌝ }
 {
-    match judge_book(part, work) {
-        Verdict::Refused(refusal) => refused(Which::Part, JoinAnswer::Refused(refusal)),
-        Verdict::Accepted(_) => judge_joint(project, part, joint, work),
+    match check(part, work) {
+        CheckOutcome::Refused(refusal) => refused(Which::Part, JoinAnswer::Refused(refusal)),
+        CheckOutcome::Accepted(_) => judge_joint(project, part, joint, work),
     }
 }
 
@@ -123,9 +105,9 @@ fn judge_project(project: &[u8], part: &[u8], joint: &mut [u8], work: &mut [u8])
     requires { ⌜ ProjectJudgeable (now joint) (now work) ⌝ }
     ensures { λ r. ⌜ JudgesProject (now (project .entry)) (now (part .entry)) (now (joint .exit)) (now (work .entry)) (now (work .exit)) r ⌝ }
 {
-    match judge_book(project, work) {
-        Verdict::Refused(refusal) => refused(Which::Project, JoinAnswer::Refused(refusal)),
-        Verdict::Accepted(_) => judge_part(project, part, joint, work),
+    match check(project, work) {
+        CheckOutcome::Refused(refusal) => refused(Which::Project, JoinAnswer::Refused(refusal)),
+        CheckOutcome::Accepted(_) => judge_part(project, part, joint, work),
     }
 }
 

@@ -6,7 +6,7 @@ use mathlib.Core.Bool.{false}
 use mathlib.Core.List.{List, [], _++_}
 use mathlib.Core.Option.{some}
 use lib.ListN.{length, take, drop, take-append-drop}
-use Rattle.calculus.specs.Syntax.{Ty, Term}
+use Rattle.calculus.specs.Syntax.{Ty, Term, size}
 use Rattle.calculus.specs.Typing.{Typed}
 use Rattle.format.specs.declared.Version.the-variants.{Two}
 use Rattle.format.specs.Table.{term-sort, unused, refers, Row, rowFor, rowOf, rowIn, table}
@@ -51,8 +51,12 @@ module _ {w : List ℕ} {n : ℕ} {e : Term} (l : EncodedTerm w n e) where
   start-place : (s : List ℕ) → 32768 ≤ length s → length w ≡ 65536 → take (8 * n) s ≡ take (8 * n) w → PlaceReady s w 0 (8192 - n) n
   start-place s h k q = place-ready w (8192 - n) (omega (arith, h, l .tree .small)) k (omega (arith, l .tree .small)) (omega (arith, l .tree .small)) (term-run s q)
 
+  -- it lies in as many cells as it has
+  pub encoded-size : size e ≡ n
+  encoded-size = omega (arith, l .tree .count, term-cells Two e)
+
   pub encoded-runnable : {A : Ty} → Typed [] e A → Runnable e
-  encoded-runnable {A} t = record { type = A; typed = t; fits = l .fits; small = omega (arith, l .tree .small, l .tree .count, term-cells Two e) }
+  encoded-runnable {A} t = record { type = A; typed = t; fits = l .fits; small = omega (arith, l .tree .small, encoded-size) }
 
 -- the place of a whole term of n cells that is to come
 abbrev pub first : ℕ → Place

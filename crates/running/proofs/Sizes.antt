@@ -1,8 +1,8 @@
--- The size of the whole term is what stands left and right of the gap, wherever the focus is: a run can tell its greatest size from its
+-- The size of the whole term is what stands left and right of the gap, wherever the focus is: a run tells its greatest size from its
 -- places alone. Assumes nothing.
-use Prim.Native.Nat.{ℕ, suc, _+_, _-_}
+use Prim.Native.Nat.{ℕ, suc, _+_}
 use native.Mathlib.Omega.{arith}
-use mathlib.Core.Path.{_≡_, ap, _∙_}
+use mathlib.Core.Path.{_≡_, sym, ap, _∙_, subst}
 use mathlib.Core.List.{List}
 use Rattle.calculus.specs.Syntax.{Term, fix, size}
 use Rattle.format.specs.declared.Version.the-variants.{Two}
@@ -10,7 +10,7 @@ use Rattle.format.proofs.Trees.{term-cells, type-cells}
 use Rattle.emission.proofs.Runs.{counts}
 use Rattle.running.specs.Waiting.{around}
 use Rattle.running.specs.Contexts.{Around, frames}
-use Rattle.running.specs.Places.{BothDone, RedexParts, of-anno, of-app, of-fix, of-proj, of-sum, of-choice, FocusIs, Standing}
+use Rattle.running.specs.Places.{BothDone, RedexParts, of-anno, of-app, of-fix, of-proj, of-sum, of-choice, FocusIs, Standing, FocusReady, placeOf, GapWithin, cellsAt}
 use Rattle.running.specs.declared.Place.{Place}
 use Rattle.running.specs.declared.Focus.{Focus}
 use Rattle.running.specs.declared.Focus.the-variants.{Ahead, Done, Redex, Whole}
@@ -18,15 +18,23 @@ use Rattle.running.proofs.Waiting.{waiting}
 use Rattle.running.proofs.Ranges.{ahead-range, done-range, redex-range}
 use Rattle.running.proofs.Projecting.{size-whole}
 
-abbrev placeOf : Focus → Place
-placeOf (Ahead p) = p
-placeOf (Done p) = p
-placeOf (Redex p) = p
-placeOf (Whole p) = p
+-- wherever the focus is, the gap lies in the work buffer
+gap-at : (w : List ℕ) (x : Focus) (K : List Around) (f : Term) → FocusIs w x K f → GapWithin (placeOf x)
+gap-at w (Ahead p) K f a = let r = ahead-range a in record { apart = r .apart; right = omega (arith, r .right, r .root) }
+gap-at w (Done p) K f d = let r = done-range d in record { apart = r .apart; right = r .right }
+gap-at w (Redex p) K f d = let r = redex-range d in record { apart = r .apart; right = omega (arith, r .right, r .root) }
+gap-at w (Whole p) K f d = let r = done-range (d .1) in record { apart = r .apart; right = r .right }
 
--- the cells left of the gap and right of it
-abbrev pub cellsAt : Place → ℕ
-cellsAt p = p .left + (8192 - p .right)
+pub gap-within : {w : List ℕ} {x : Focus} → FocusReady w x → GapWithin (placeOf x)
+gap-within {w} {x} h = let s = h .standing in gap-at w x (s .around) (s .focus) (s .at)
+
+-- the same by the case of the focus
+module _ (k : Place → Focus) (same : (p : Place) → placeOf (k p) ≡ p) {x : Focus} {p : Place} (e : x ≡ k p) where
+  pub gap-of : GapWithin (placeOf x) → GapWithin p
+  gap-of h = subst GapWithin (ap placeOf e ∙ same p) h
+
+  pub count-of : {n : ℕ} → n ≡ cellsAt p → n ≡ cellsAt (placeOf x)
+  count-of q = q ∙ ap cellsAt (sym (ap placeOf e ∙ same p))
 
 both-cells : {w : List ℕ} {p : Place} {k : ℕ} {v u : Term} → BothDone w p k v u → suc (size v + size u) + p .start + p .right ≡ p .left + suc (p .root)
 both-cells {v = v} {u} d = omega (arith, counts (d .first), counts (d .second), d .nothing, term-cells Two v, term-cells Two u)

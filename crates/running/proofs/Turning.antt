@@ -1,5 +1,5 @@
 -- What each return of a step says. Assumes nothing.
-use Prim.Native.Nat.{ℕ, _+_, _≤_, _<_}
+use Prim.Native.Nat.{ℕ, _+_, _≤_, _<_, max}
 use native.Mathlib.Omega.{arith}
 use mathlib.Core.Path.{_≡_, refl, sym, ap, _∙_, subst}
 use mathlib.Core.Bool.{true, false}
@@ -15,7 +15,7 @@ use Rattle.format.specs.Version.{halfOf}
 use Rattle.format.specs.Book.{sizeLimit}
 use Rattle.answers.specs.declared.Stop.the-variants.{Value, Spent, Room}
 use Rattle.running.specs.Contexts.{Around, whole}
-use Rattle.running.specs.Places.{Standing, Runnable, FocusReady, Settled, Settles, Contracts, ContractsTo, c-to, c-full}
+use Rattle.running.specs.Places.{Standing, placeOf, GapWithin, cellsAt, Runnable, FocusReady, Settled, Settles, Contracts, ContractsTo, c-to, c-full}
 use Rattle.running.specs.Turns.{TurnOf, t-value, t-spent, t-room, t-next, Steps}
 use Rattle.running.specs.declared.Place.{Place}
 use Rattle.running.specs.declared.Focus.{Focus}
@@ -27,6 +27,7 @@ use Rattle.running.specs.declared.Contracted.the-variants.{To, Full}
 use Rattle.running.proofs.Contexts.{no-value}
 use Rattle.running.proofs.Standing.{successor, next-runnable}
 use Rattle.running.proofs.Projecting.{redex-value}
+use Rattle.running.proofs.Sizes.{gap-within, standing-size}
 
 -- a whole value is one
 whole-value : {w : List ℕ} {p : Place} {e : Term} → Standing w (Whole p) e → value? e ≡ true
@@ -67,36 +68,44 @@ module _ {w : List ℕ} {y : Focus} {p : Place} (q : y ≡ Redex p) where
             record { term = g; standing = subst (λ (d : Focus). Standing v d g) i t; runnable = next-runnable u (h .runnable) n l }
         by g n (c-full u k t) = let z : _≡_ {A = ℕ} 0 1 = cc in absurd (omega arith)
 
+    -- where it has settled, its cells can be counted
+    pub settled-gap : {z x : Focus} {a : List ℕ} → FocusReady w y → o ≡ To z → Settles v a z x → GapWithin (placeOf x)
+    settled-gap h f t =
+        let r = contracted-ready h f in
+        gap-within (record { term = r .term; standing = t .moves .says (r .term) (r .standing) (r .runnable); runnable = r .runnable })
+
 pub turn-spent : {u : Version} {w : List ℕ} {x : State} {l : ℕ} {p : Place} → x .focus ≡ Redex p → x .steps ≡ l → Steps u w w x l (Ended (Spent (x .steps)) (Redex p))
 turn-spent {x = x} q h = record { says = λ e s r. t-spent (redex-none (at q s)) h (ap (Ended (Spent (x .steps))) (sym q)) s }
 
-module _ (u : Version) {w v : List ℕ} {x : State} {l : ℕ} {p : Place} {o : Contracted} (q : x .focus ≡ Redex p) (c : Contracts (halfOf u) w v p o) (le : x .steps ≤ l) (ne : x .steps ≡ l → ⊥) where
-  h : x .steps < l
-  h = omega arith
+below : {k l : ℕ} → k ≤ l → (k ≡ l → ⊥) → k < l
+below i n = omega arith
 
+module _ (u : Version) {w v : List ℕ} {x : State} {l : ℕ} {p : Place} {o : Contracted} (q : x .focus ≡ Redex p) (c : Contracts (halfOf u) w v p o) (le : x .steps ≤ l) (ne : x .steps ≡ l → ⊥) where
   pub turn-room : o ≡ Full → Steps u w v x l (Ended (Room (x .steps)) (Redex p))
   turn-room f = record { says = go }
     where
-      go : (e : Term) → Standing w (x .focus) e → Runnable e → TurnOf u v (x .focus) (x .steps) l e (Ended (Room (x .steps)) (Redex p))
+      go : (e : Term) → Standing w (x .focus) e → Runnable e → TurnOf u v x l e (Ended (Room (x .steps)) (Redex p))
       go e s r = let a = contracted q u c s r in by (a .0) (a .1) (a .2)
         where
-          by : (g : Term) → next (halfOf u) e ≡ some g → ContractsTo w v g o → TurnOf u v (x .focus) (x .steps) l e (Ended (Room (x .steps)) (Redex p))
+          by : (g : Term) → next (halfOf u) e ≡ some g → ContractsTo w v g o → TurnOf u v x l e (Ended (Room (x .steps)) (Redex p))
           by g n (c-to u z y) = let z : _≡_ {A = ℕ} 0 1 = cc in absurd (omega arith)
           by g n (c-full u z y) =
-              t-room (redex-none (at q s)) h n (lt-ltb sizeLimit (size g) u) (ap (Ended (Room (x .steps))) (sym q)) (subst (λ (d : List ℕ). Standing d (x .focus) e) (sym y) s)
+              t-room (redex-none (at q s)) (below le ne) n (lt-ltb sizeLimit (size g) u) (ap (Ended (Room (x .steps))) (sym q)) (subst (λ (d : List ℕ). Standing d (x .focus) e) (sym y) s)
 
-  pub turn-next : {y z : Focus} {a : List ℕ} → o ≡ To y → Settles v a y z → Steps u w a x l (Next (record { focus = z; steps = x .steps + 1 }))
-  turn-next {y} {z} {a} f t = record { says = go }
+  pub turn-next : {y z : Focus} {a : List ℕ} {n m : ℕ} → o ≡ To y → Settles v a y z → n ≡ cellsAt (placeOf z) → m ≡ max (x .mark) n →
+      Steps u w a x l (Next (record { focus = z; steps = x .steps + 1; mark = m }))
+  turn-next {y} {z} {a} {n} {m} f t i j = record { says = go }
     where
-      go : (e : Term) → Standing w (x .focus) e → Runnable e → TurnOf u a (x .focus) (x .steps) l e (Next (record { focus = z; steps = x .steps + 1 }))
+      go : (e : Term) → Standing w (x .focus) e → Runnable e → TurnOf u a x l e (Next (record { focus = z; steps = x .steps + 1; mark = m }))
       go e s r = let k = contracted q u c s r in by (k .0) (k .1) (k .2)
         where
-          by : (g : Term) → next (halfOf u) e ≡ some g → ContractsTo w v g o → TurnOf u a (x .focus) (x .steps) l e (Next (record { focus = z; steps = x .steps + 1 }))
-          by g n (c-to {x = d} b k m) =
-              let i : d ≡ y = cc in
-              t-next (redex-none (at q s)) h n (le-ltb sizeLimit (size g) b) refl refl (t .settled)
-              (t .moves .says g (subst (λ (d : Focus). Standing v d g) i m) (next-runnable u r n b))
-          by g n (c-full b k m) = let z : _≡_ {A = ℕ} 0 1 = cc in absurd (omega arith)
+          by : (g : Term) → next (halfOf u) e ≡ some g → ContractsTo w v g o →
+              TurnOf u a x l e (Next (record { focus = z; steps = x .steps + 1; mark = m }))
+          by g n (c-to {x = d} b k c) =
+              let d-is : d ≡ y = cc in
+              let there : Standing a z g = t .moves .says g (subst (λ (d : Focus). Standing v d g) d-is c) (next-runnable u r n b) in
+              t-next (redex-none (at q s)) (below le ne) n (le-ltb sizeLimit (size g) b) refl refl (j ∙ ap (max (x .mark)) (i ∙ sym (standing-size there))) (t .settled) there
+          by g n (c-full b k c) = let z : _≡_ {A = ℕ} 0 1 = cc in absurd (omega arith)
 
 -- the tag of a redex is none of the others'
 pub no-redex : _≡_ {A = ℕ} 2 0 ⊎ (_≡_ {A = ℕ} 2 1 ⊎ _≡_ {A = ℕ} 2 3) → ⊥

@@ -96,6 +96,22 @@ pub record Standing (w : List ℕ) (x : Focus) (e : Term) : Type 0 where
   pub proper : AllProper around
   pub at : FocusIs w x around focus
 
+-- The place of a focus.
+abbrev pub placeOf : Focus → Place
+placeOf (Ahead p) = p
+placeOf (Done p) = p
+placeOf (Redex p) = p
+placeOf (Whole p) = p
+
+-- The gap of a place lies in the work buffer.
+pub record GapWithin (p : Place) : Type 0 where
+  pub apart : p .left < p .right
+  pub right : p .right ≤ 8192
+
+-- The cells left of the gap and right of it: as many as the term has that stands there (proofs/Sizes).
+abbrev pub cellsAt : Place → ℕ
+cellsAt p = p .left + (8192 - p .right)
+
 -- A typed term within the limit, whose labels, indices and numbers fit.
 pub record Runnable (e : Term) : Type 0 where
   pub type : Ty

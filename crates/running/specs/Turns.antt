@@ -1,5 +1,5 @@
 -- The turns of a run over the lent buffer: what a step needs, and what it answers and leaves. Assumes nothing.
-use Prim.Native.Nat.{ℕ, _+_, _≤_, _<_}
+use Prim.Native.Nat.{ℕ, _+_, _≤_, _<_, max}
 use mathlib.Core.Path.{_≡_}
 use mathlib.Core.Bool.{true, false}
 use mathlib.Core.Option.{some}
@@ -16,7 +16,7 @@ use Rattle.format.specs.Terms.{fromTerm, WideFits}
 use Rattle.format.specs.Book.{sizeLimit}
 use Rattle.answers.specs.Answer as Answer
 use Rattle.answers.specs.Answer.{stopped}
-use Rattle.answers.specs.Definition.{ended, evaluate}
+use Rattle.answers.specs.Definition.{ended, runFrom}
 use Rattle.layout.specs.Encoding.{EncodedTree}
 use Rattle.answers.specs.Cases.{stopAnswer}
 use Rattle.answers.specs.declared.Stop.{Stop}
@@ -59,20 +59,21 @@ pub record TurnReady (s w : List ℕ) (x : State) (l : ℕ) : Type 0 where
   pub settled : Settled (x .focus)
   pub taken : x .steps ≤ l
 
--- One turn of e, which stands at the focus x, after k steps of at most l: r is the answer, and v the work buffer then; u is the version of the book, by
+-- One turn of e, which stands at the focus of the state x, with the limit l: r is the answer, and v the work buffer then; u is the version of the book, by
 -- which sums are held, here and below. "value when the term is one; else spent when exactly the limit has been taken; else no room when the
 -- successor's size exceeds 4,095"
-pub data TurnOf (u : Version) (v : List ℕ) (x : Focus) (k l : ℕ) (e : Term) (r : Turn) : Type 0 where
-  t-value : value? e ≡ true → r ≡ Ended (Value k) x → Standing v x e → TurnOf u v x k l e r
-  t-spent : value? e ≡ false → k ≡ l → r ≡ Ended (Spent k) x → Standing v x e → TurnOf u v x k l e r
-  t-room : {f : Term} → value? e ≡ false → k < l → next (halfOf u) e ≡ some f → ltb sizeLimit (size f) ≡ true → r ≡ Ended (Room k) x → Standing v x e →
-      TurnOf u v x k l e r
-  t-next : {f : Term} {y : State} → value? e ≡ false → k < l → next (halfOf u) e ≡ some f → ltb sizeLimit (size f) ≡ false → r ≡ Next y →
-      y .steps ≡ k + 1 → Settled (y .focus) → Standing v (y .focus) f → TurnOf u v x k l e r
+pub data TurnOf (u : Version) (v : List ℕ) (x : State) (l : ℕ) (e : Term) (r : Turn) : Type 0 where
+  t-value : value? e ≡ true → r ≡ Ended (Value (x .steps)) (x .focus) → Standing v (x .focus) e → TurnOf u v x l e r
+  t-spent : value? e ≡ false → x .steps ≡ l → r ≡ Ended (Spent (x .steps)) (x .focus) → Standing v (x .focus) e → TurnOf u v x l e r
+  t-room : {f : Term} → value? e ≡ false → x .steps < l → next (halfOf u) e ≡ some f → ltb sizeLimit (size f) ≡ true →
+      r ≡ Ended (Room (x .steps)) (x .focus) → Standing v (x .focus) e → TurnOf u v x l e r
+  -- document 02, (viii): "The state of a run carries the greatest size of any term so far"
+  t-next : {f : Term} {y : State} → value? e ≡ false → x .steps < l → next (halfOf u) e ≡ some f → ltb sizeLimit (size f) ≡ false → r ≡ Next y →
+      y .steps ≡ x .steps + 1 → y .mark ≡ max (x .mark) (size f) → Settled (y .focus) → Standing v (y .focus) f → TurnOf u v x l e r
 
 -- One turn of the term that stands there.
 pub record Steps (u : Version) (w v : List ℕ) (x : State) (l : ℕ) (r : Turn) : Type 0 where
-  pub says : (e : Term) → Standing w (x .focus) e → Runnable e → TurnOf u v (x .focus) (x .steps) l e r
+  pub says : (e : Term) → Standing w (x .focus) e → Runnable e → TurnOf u v x l e r
 
 -- A term that has its place, and a buffer to encode it in.
 pub record WholeReady (s w : List ℕ) (x : Focus) : Type 0 where
@@ -83,13 +84,14 @@ pub record WholeReady (s w : List ℕ) (x : Focus) : Type 0 where
 pub record EncodesWhole (w v : List ℕ) (x : Focus) (r : ℕ) : Type 0 where
   pub says : (e : Term) → Standing w x e → Runnable e → EncodedTerm v r e
 
--- The whole run of e with limit l: how it ended, by the definition, and the term reached, which is encoded in the work buffer.
+-- The whole run of e with limit l: how it ended, by the definition, with which mark, and the term reached, which is encoded in the work buffer.
 pub record RunOf (u : Version) (v : List ℕ) (l : ℕ) (e : Term) (r : End) : Type 0 where
   pub stop : Answer.Stop
   pub steps : ℕ
+  pub mark : ℕ
   pub term : Term
-  pub ends : evaluate (halfOf u) sizeLimit l 0 e ≡ ended stop steps term
-  pub answer : stopAnswer (r .stop) ≡ stopped stop steps
+  pub ends : runFrom (halfOf u) sizeLimit l e ≡ ended stop steps mark term
+  pub answer : stopAnswer (r .stop) (r .mark) ≡ stopped stop steps mark
   pub encoded : EncodedTerm v (r .cells) term
 
 -- The whole run of the term encoded there.

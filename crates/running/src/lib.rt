@@ -19,10 +19,11 @@ use projection::value_part;
 use reduction::emit_contractum;
 use typed_reduction::read_number;
 ghost use mathlib.Core.Path.{_≡_};
-ghost use Prim.Native.Nat.{_<_};
+ghost use Prim.Native.Nat.{_<_, max};
 ghost use Rattle.format.specs.Version.{halfOf};
 ghost use Rattle.cells.specs.Coded.{asCell};
 ghost use Rattle.running.specs.Places.{Taking, thirdOf, Descending, Entering, Enters, Leaving, Leaves, WaitingOne, WaitingFirst, WaitingSecond, FocusReady, Settles};
+ghost use Rattle.running.specs.Places.{placeOf, GapWithin, cellsAt};
 ghost use Rattle.running.specs.Places.{doneAt, Becomes, BecomesAny, AtRedex, SingleReady, BecomesSingle, BecomesTop, RedexAt, MergeAt, TopAt, FunctionAt, CastsInPlace};
 ghost use Rattle.running.specs.Places.{Installing, Halving, Installs, Contracting, ContractingAnno, Emitting, Contracts, ContractsAny};
 ghost use Rattle.running.specs.Places.{Unwinding, Unwinds, RestoreReady, Restores, Rebuilds};
@@ -49,10 +50,11 @@ pub enum Focus {
     Whole(Place),
 }
 
-// The focus and the steps taken. The version of the book, by which sums are held, goes with it.
+// The focus, the steps taken and the greatest size of any term so far. The version of the book, by which sums are held, goes with it.
 pub struct State {
     pub focus: Focus,
     pub steps: u32,
+    pub mark: usize,
 }
 
 pub enum Turn {
@@ -60,10 +62,11 @@ pub enum Turn {
     Ended(Stop, Focus),
 }
 
-// How a run ended.
+// How a run ended: the cells of the term reached, and the greatest size of any term.
 pub struct End {
     pub stop: Stop,
     pub cells: usize,
+    pub mark: usize,
 }
 
 // What a redex became in place, or that it becomes nothing there.
@@ -543,13 +546,44 @@ fn contract(s: &mut [u8], w: &mut [u8], p: Place, version: Version) -> Contracte
     }
 }
 
-// One turn: value, then spent, then room. Of s nothing is decided.
+// The cells on both sides of the gap.
+fn cells_at(p: Place) -> usize
+    requires { ⌜ GapWithin p ⌝ }
+    ensures { λ r. ⌜ r ≡ cellsAt p ⌝ }
+{
+    p.left + (8192 - p.right)
+}
+
+// The size of the term, wherever the focus is.
+fn count_cells(focus: Focus) -> usize
+    requires { ⌜ GapWithin (placeOf focus) ⌝ }
+    ensures { λ r. ⌜ r ≡ cellsAt (placeOf focus) ⌝ }
+{
+    match focus {
+        Focus::Ahead(p) => cells_at(p),
+        Focus::Done(p) => cells_at(p),
+        Focus::Redex(p) => cells_at(p),
+        Focus::Whole(p) => cells_at(p),
+    }
+}
+
+fn larger(m: usize, n: usize) -> usize
+    ensures { λ r. ⌜ r ≡ max m n ⌝ }
+{
+    if m < n {
+        return n;
+    }
+    m
+}
+
+// One turn: value, then spent, then room. A term that is reached counts for the mark. Of s nothing is decided.
 pub fn step(s: &mut [u8], w: &mut [u8], state: State, limit: u32, version: Version) -> Turn
     requires { ⌜ TurnReady (now s) (now w) state limit ⌝ }
     ensures { λ r. ⌜ Steps version (now (w .entry)) (now (w .exit)) state limit r ⌝ }
 {
     let focus = state.focus;
     let k = state.steps;
+    let mark = state.mark;
     let Focus::Redex(p) = focus else {
         return Turn::Ended(Stop::Value(k), focus);
     };
@@ -560,9 +594,11 @@ pub fn step(s: &mut [u8], w: &mut [u8], state: State, limit: u32, version: Versi
         return Turn::Ended(Stop::Room(k), focus);
     };
     let next = settle(w, x);
+    let n = count_cells(next);
     Turn::Next(State {
         focus: next,
         steps: k + 1,
+        mark: larger(mark, n),
     })
 }
 
@@ -664,6 +700,7 @@ pub fn run_on(s: &mut [u8], w: &mut [u8], n: usize, limit: u32, version: Version
     let mut state = State {
         focus: start(s, w, n),
         steps: 0,
+        mark: n,
     };
     loop {
         match step(s, w, state, limit, version) {
@@ -672,7 +709,8 @@ pub fn run_on(s: &mut [u8], w: &mut [u8], n: usize, limit: u32, version: Version
             }
             Turn::Ended(stop, focus) => {
                 let cells = encode_whole(s, w, focus);
-                return End { stop, cells };
+                let mark = state.mark;
+                return End { stop, cells, mark };
             }
         }
     }

@@ -1,7 +1,8 @@
 // Every sample of document 01 that is not marked M: each book is made here, checked or run, and its answer printed. Then books whose cells are compared
 // as document 02, (iii), says, in the book's own bytes.
-use answers::Outcome;
+use answers::CheckOutcome;
 use answers::Refusal;
+use answers::RunOutcome;
 use answers::Stop;
 use book::Form;
 use book::check_form;
@@ -30,19 +31,26 @@ fn print_word(word: &[u8], n: usize) {
     io::write_all(STDOUT_FILENO, b"\n");
 }
 
-fn print_stop(s: Stop) {
+fn print_stop(s: Stop, mark: usize) {
     match s {
         Stop::Value(n) => print_word(b"value ", n as usize),
         Stop::Spent(n) => print_word(b"spent ", n as usize),
         Stop::Room(n) => print_word(b"room ", n as usize),
     }
+    print_word(b"mark ", mark);
 }
 
-fn print_outcome(o: Outcome) {
+fn print_checked(o: CheckOutcome) {
     match o {
-        Outcome::Refused(r) => print_refusal(r),
-        Outcome::Accepted(n) => print_word(b"accepted ", n),
-        Outcome::Stopped(s) => print_stop(s),
+        CheckOutcome::Refused(r) => print_refusal(r),
+        CheckOutcome::Accepted(n) => print_word(b"accepted ", n),
+    }
+}
+
+fn print_ran(o: RunOutcome) {
+    match o {
+        RunOutcome::Refused(r) => print_refusal(r),
+        RunOutcome::Stopped(s, mark) => print_stop(s, mark),
     }
 }
 
@@ -88,12 +96,12 @@ fn check_chain(leaf: Cell, kind: u8, label: u8, both: bool, k: usize)
     let mut book = [0u8; 32768];
     let mut work = io::large_buffer();
     let n = chain(&mut book, leaf, kind, label, both, k);
-    print_outcome(check(&book[..n], &mut work));
+    print_checked(check(&book[..n], &mut work));
 }
 
 fn run_and_print(book: &[u8], limit: u32) {
     let mut work = io::large_buffer();
-    print_outcome(run(book, &mut work, limit));
+    print_ran(run(book, &mut work, limit));
 }
 
 // The fixpoint at Int whose body is its own variable: Int, the variable, the fixpoint.

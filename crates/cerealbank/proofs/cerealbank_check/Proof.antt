@@ -1,8 +1,6 @@
 -- `cerealbank::cerealbank_check` meets its contract. Assumes nothing.
-use Prim.Native.Nat.{_<_}
 use mathlib.Core.Path.{sym, subst}
-use Rattle.answers.specs.Answer.{Answer}
-use Rattle.answers.specs.Exported.{valueOf, tagPlace}
+use Rattle.cerealbank.specs.Packed.{AnswerFits}
 use Rattle.cerealbank.proofs.Packing.{packs}
 use Rattle.cerealbank.proofs.Values.{check-fits}
 use borrow.Author.Needs.{needs}
@@ -12,9 +10,9 @@ use Rattle.cerealbank.proofs.cerealbank_check.Tie as tie
 check-requires : tie.Need-check-requires
 check-requires c κs = search needs
 
-pack-requires : tie.Need-pack-requires
-pack-requires c κs =
-    subst (λ (a : Answer). valueOf a < tagPlace) (sym (c .before .before .check .ensures .answer))
+pack-check-requires : tie.Need-pack-check-requires
+pack-check-requires c κs =
+    subst AnswerFits (sym (c .before .before .check .ensures .answer))
     (check-fits _ _ (λ i. c .before .before .before .before .before .shared-slice-known .given i .fits))
 
 same-length : tie.Need-same-length
@@ -24,7 +22,7 @@ returns : tie.Need-returns
 returns c =
     let k = c .before .before .before .check .ensures in
     packs _ (check-fits _ _ (λ i. c .before .before .before .before .before .before .shared-slice-known .given i .fits))
-    (k .answer) (k .left) (c .pack .ensures)
+    (k .answer) (k .left) (c .pack-check .ensures)
 
 pub cerealbank-check-spec : {M : Type 1} → statement M
-cerealbank-check-spec = tie.close (tie.spec check-requires pack-requires same-length returns)
+cerealbank-check-spec = tie.close (tie.spec check-requires pack-check-requires same-length returns)

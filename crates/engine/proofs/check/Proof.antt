@@ -8,11 +8,11 @@ use Rattle.engine.proofs.check.Tie as tie
 first-rows-requires : tie.Need-first-rows-requires
 first-rows-requires c κs = search needs
 
-enum-known-refusal : tie.Need-enum-known-refusal
-enum-known-refusal c = search needs
+enum-known-fault : tie.Need-enum-known-fault
+enum-known-fault c = search needs
 
-refuse-requires : tie.Need-refuse-requires
-refuse-requires c κs = search needs
+clear-refused-requires : tie.Need-clear-refused-requires
+clear-refused-requires c κs = search needs
 
 enum-known-version : tie.Need-enum-known-version
 enum-known-version c = search needs
@@ -26,7 +26,7 @@ same-length c = search needs
 
 returns : tie.Need-returns
 returns c =
-    checked-as (λ i. c .before .before .before .before .before .before .before .before .before .shared-slice-known .given i .fits) (refused-result _ _ _ (c .before .before .before .before .before .before .before .first-rows .ensures) (c .before .before .before .before .before .refusal .given .1) (c .before .before .refuse .ensures))
+    checked-as (λ i. c .before .before .before .before .before .before .before .before .before .shared-slice-known .given i .fits) (refused-result _ _ _ (c .before .before .before .before .before .before .before .first-rows .ensures) (c .before .before .before .before .before .fault .given .1) (c .before .before .clear-refused .ensures))
 
 same-length-2 : tie.Need-same-length-2
 same-length-2 c = search needs
@@ -40,8 +40,8 @@ check-spec =
     tie.close
     (tie.spec
     first-rows-requires
-    enum-known-refusal
-    refuse-requires
+    enum-known-fault
+    clear-refused-requires
     enum-known-version
     check-types-requires
     same-length

@@ -8,11 +8,11 @@ use Rattle.engine.proofs.check_types.Tie as tie
 find-root-requires : tie.Need-find-root-requires
 find-root-requires c κs = search needs
 
-enum-known-refusal : tie.Need-enum-known-refusal
-enum-known-refusal c = search needs
+enum-known-reason : tie.Need-enum-known-reason
+enum-known-reason c = search needs
 
-refuse-requires : tie.Need-refuse-requires
-refuse-requires c κs = search needs
+clear-refused-requires : tie.Need-clear-refused-requires
+clear-refused-requires c κs = search needs
 
 enum-known-t : tie.Need-enum-known-t
 enum-known-t c = search needs
@@ -33,7 +33,7 @@ same-length c = search needs
 
 returns : tie.Need-returns
 returns c =
-    ill-typed-book (c .before .before .before .before .before .before .before .before .before .before .before .before .before .pre) (λ i. c .before .before .before .before .before .before .before .before .before .before .before .before .shared-slice-known .given i .fits) (c .before .before .before .before .before .before .before .before .before .find-root .ensures) _ (c .before .before .before .before .before .before .before .before .before .find-root .kept .1 .0) (c .before .before .before .before .before .refusal .given .1) (c .before .before .refuse .ensures)
+    ill-typed-book (c .before .before .before .before .before .before .before .before .before .before .before .before .before .pre) (λ i. c .before .before .before .before .before .before .before .before .before .before .before .before .shared-slice-known .given i .fits) (c .before .before .before .before .before .before .before .before .before .find-root .ensures) _ (c .before .before .before .before .before .before .before .before .before .find-root .kept .1 .0) (c .before .before .before .before .before .reason .given .1) (c .before .before .clear-refused .ensures)
 
 same-length-2 : tie.Need-same-length-2
 same-length-2 c = search needs
@@ -47,8 +47,8 @@ check-types-spec =
     tie.close
     (tie.spec
     find-root-requires
-    enum-known-refusal
-    refuse-requires
+    enum-known-reason
+    clear-refused-requires
     enum-known-t
     slice-aggregate-encode-in-place
     encode-in-place-requires

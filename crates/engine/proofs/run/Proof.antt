@@ -11,8 +11,8 @@ first-rows-requires c κs = search needs
 enum-known-fault : tie.Need-enum-known-fault
 enum-known-fault c = search needs
 
-refuse-requires : tie.Need-refuse-requires
-refuse-requires c κs = search needs
+clear-refused-requires : tie.Need-clear-refused-requires
+clear-refused-requires c κs = search needs
 
 enum-known-version : tie.Need-enum-known-version
 enum-known-version c = search needs
@@ -26,7 +26,7 @@ same-length c = search needs
 
 returns : tie.Need-returns
 returns c =
-    ran-as (λ i. c .before .before .before .before .before .before .before .before .before .shared-slice-known .given i .fits) (refused-result _ _ _ (c .before .before .before .before .before .before .before .first-rows .ensures) (c .before .before .before .before .before .fault .given .1) (c .before .before .refuse .ensures))
+    ran-as (λ i. c .before .before .before .before .before .before .before .before .before .shared-slice-known .given i .fits) (refused-result _ _ _ (c .before .before .before .before .before .before .before .first-rows .ensures) (c .before .before .before .before .before .fault .given .1) (c .before .before .clear-refused .ensures))
 
 same-length-2 : tie.Need-same-length-2
 same-length-2 c = search needs
@@ -41,7 +41,7 @@ run-spec =
     (tie.spec
     first-rows-requires
     enum-known-fault
-    refuse-requires
+    clear-refused-requires
     enum-known-version
     run-types-requires
     same-length

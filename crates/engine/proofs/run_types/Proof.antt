@@ -7,11 +7,11 @@ use Rattle.engine.proofs.run_types.Tie as tie
 find-root-requires : tie.Need-find-root-requires
 find-root-requires c κs = search needs
 
-enum-known-fault : tie.Need-enum-known-fault
-enum-known-fault c = search needs
+enum-known-reason : tie.Need-enum-known-reason
+enum-known-reason c = search needs
 
-refuse-requires : tie.Need-refuse-requires
-refuse-requires c κs = search needs
+clear-refused-requires : tie.Need-clear-refused-requires
+clear-refused-requires c κs = search needs
 
 enum-told : tie.Need-enum-told
 enum-told c = search needs
@@ -26,7 +26,7 @@ same-length c = search needs
 
 returns : tie.Need-returns
 returns c =
-    ill-typed-book (c .before .before .before .before .before .before .before .before .before .before .before .before .before .pre) (λ i. c .before .before .before .before .before .before .before .before .before .before .before .before .shared-slice-known .given i .fits) (c .before .before .before .before .before .before .before .before .before .find-root .ensures) _ (c .before .before .before .before .before .before .before .before .before .find-root .kept .1 .0) (c .before .before .before .before .before .fault .given .1) (c .before .before .refuse .ensures)
+    ill-typed-book (c .before .before .before .before .before .before .before .before .before .before .before .before .before .pre) (λ i. c .before .before .before .before .before .before .before .before .before .before .before .before .shared-slice-known .given i .fits) (c .before .before .before .before .before .before .before .before .before .find-root .ensures) _ (c .before .before .before .before .before .before .before .before .before .find-root .kept .1 .0) (c .before .before .before .before .before .reason .given .1) (c .before .before .clear-refused .ensures)
 
 same-length-2 : tie.Need-same-length-2
 same-length-2 c = search needs
@@ -40,8 +40,8 @@ run-types-spec =
     tie.close
     (tie.spec
     find-root-requires
-    enum-known-fault
-    refuse-requires
+    enum-known-reason
+    clear-refused-requires
     enum-told
     run-root-requires
     same-length

@@ -37,8 +37,8 @@ write-joint-requires c κs =
     let if1 = c .before .if1 in
     write-ready (λ j. shared-slice-known .given j .fits) (λ j. shared-slice-known2 .given j .fits) (pre) (omega (arith, if1 .left))
 
-slice-reshare-prefix-judge-book : tie.Need-slice-reshare-prefix-judge-book
-slice-reshare-prefix-judge-book c =
+slice-reshare-prefix-check : tie.Need-slice-reshare-prefix-check
+slice-reshare-prefix-check c =
     let shared-slice-known = c .before .before .before .before .before .before .before .before .shared-slice-known in
     let shared-slice-known2 = c .before .before .before .before .before .before .before .shared-slice-known2 in
     let pre = c .before .before .before .before .before .before .before .before .before .pre in
@@ -46,8 +46,8 @@ slice-reshare-prefix-judge-book c =
     let write-joint = c .before .before .write-joint in
     prefix-fits (λ j. shared-slice-known .given j .fits) (λ j. shared-slice-known2 .given j .fits) (pre) (omega (arith, if1 .left)) (write-joint .ensures)
 
-slice-aggregate-judge-book : tie.Need-slice-aggregate-judge-book
-slice-aggregate-judge-book c =
+slice-aggregate-check : tie.Need-slice-aggregate-check
+slice-aggregate-check c =
     let shared-slice-known = c .before .before .before .before .before .before .before .before .before .shared-slice-known in
     let shared-slice-known2 = c .before .before .before .before .before .before .before .before .shared-slice-known2 in
     let pre = c .before .before .before .before .before .before .before .before .before .before .pre in
@@ -55,8 +55,8 @@ slice-aggregate-judge-book c =
     let write-joint = c .before .before .before .write-joint in
     sym (length-take-le _ _ (prefix-fits (λ j. shared-slice-known .given j .fits) (λ j. shared-slice-known2 .given j .fits) (pre) (omega (arith, if1 .left)) (write-joint .ensures)))
 
-judge-book-requires : tie.Need-judge-book-requires
-judge-book-requires c κs = search needs
+check-requires : tie.Need-check-requires
+check-requires c κs = search needs
 
 enum-known-refusal : tie.Need-enum-known-refusal
 enum-known-refusal c = search needs
@@ -80,9 +80,9 @@ returns-2 c =
     let pre = c .before .before .before .before .before .before .before .before .before .before .before .before .before .before .before .before .before .before .pre in
     let if1 = c .before .before .before .before .before .before .before .before .before .before .before .before .before .if1 in
     let write-joint = c .before .before .before .before .before .before .before .before .before .before .before .write-joint in
-    let judge-book = c .before .before .before .before .before .before .judge-book in
+    let check = c .before .before .before .before .before .before .check in
     let refusal = c .before .before .refusal in
-    joint-refused (λ j. shared-slice-known .given j .fits) (λ j. shared-slice-known2 .given j .fits) (pre) (omega (arith, if1 .left)) (write-joint .ensures) (judge-book .ensures) (refusal .given .1) (c .refused .ensures)
+    joint-refused (λ j. shared-slice-known .given j .fits) (λ j. shared-slice-known2 .given j .fits) (pre) (omega (arith, if1 .left)) (write-joint .ensures) (check .ensures) (refusal .given .1) (c .refused .ensures)
 
 same-length-4 : tie.Need-same-length-4
 same-length-4 c = search needs
@@ -97,9 +97,9 @@ returns-3 c =
     let pre = c .before .before .before .before .before .before .before .before .before .before .before .before .before .before .before .before .before .pre in
     let if1 = c .before .before .before .before .before .before .before .before .before .before .before .before .if1 in
     let write-joint = c .before .before .before .before .before .before .before .before .before .before .write-joint in
-    let judge-book = c .before .before .before .before .before .judge-book in
+    let check = c .before .before .before .before .before .check in
     let size = c .before .size in
-    joint-accepted (λ j. shared-slice-known .given j .fits) (λ j. shared-slice-known2 .given j .fits) (pre) (omega (arith, if1 .left)) (write-joint .ensures) (judge-book .ensures) (size .given .1)
+    joint-accepted (λ j. shared-slice-known .given j .fits) (λ j. shared-slice-known2 .given j .fits) (pre) (omega (arith, if1 .left)) (write-joint .ensures) (check .ensures) (size .given .1)
 
 pub judge-joint-spec : {M : Type 1} → statement M
 judge-joint-spec =
@@ -113,9 +113,9 @@ judge-joint-spec =
     same-length
     returns
     write-joint-requires
-    slice-reshare-prefix-judge-book
-    slice-aggregate-judge-book
-    judge-book-requires
+    slice-reshare-prefix-check
+    slice-aggregate-check
+    check-requires
     enum-known-refusal
     refused-requires
     enum-known-size

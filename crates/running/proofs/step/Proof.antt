@@ -5,7 +5,7 @@ use types.Run.{OneOf}
 use denote.Enum.Declared.{tagOf}
 use Rattle.running.specs.declared.Focus.{Focus}
 use Rattle.running.proofs.Focus.{the-type}
-use Rattle.running.proofs.Turning.{no-redex, turn-value, turn-spent, redex-ready, turn-room, contracted-ready, turn-next}
+use Rattle.running.proofs.Turning.{no-redex, turn-value, turn-spent, redex-ready, turn-room, contracted-ready, settled-gap, turn-next}
 use borrow.Author.Needs.{needs}
 use Rattle.running.proofs.step.Statement.{statement}
 use Rattle.running.proofs.step.Tie as tie
@@ -41,8 +41,14 @@ returns-3 c = search turn-room
 settle-requires : tie.Need-settle-requires
 settle-requires c κs = search contracted-ready
 
-add-t22 : tie.Need-add-t22
-add-t22 c = search needs
+count-cells-requires : tie.Need-count-cells-requires
+count-cells-requires c κs = search settled-gap
+
+add-t24 : tie.Need-add-t24
+add-t24 c = search needs
+
+larger-requires : tie.Need-larger-requires
+larger-requires c κs = search needs
 
 same-length-3 : tie.Need-same-length-3
 same-length-3 c = search needs
@@ -67,7 +73,9 @@ step-spec =
     same-length-2
     returns-3
     settle-requires
-    add-t22
+    count-cells-requires
+    add-t24
+    larger-requires
     same-length-3
     same-length-4
     returns-4)

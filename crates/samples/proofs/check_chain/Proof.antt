@@ -26,8 +26,8 @@ slice-aggregate-check-2 c = search needs
 check-requires : tie.Need-check-requires
 check-requires c κs = search needs
 
-print-outcome-requires : tie.Need-print-outcome-requires
-print-outcome-requires c κs = search needs
+print-checked-requires : tie.Need-print-checked-requires
+print-checked-requires c κs = search needs
 
 returns : tie.Need-returns
 returns c = search needs
@@ -43,5 +43,5 @@ check-chain-spec =
     slice-aggregate-check
     slice-aggregate-check-2
     check-requires
-    print-outcome-requires
+    print-checked-requires
     returns)
