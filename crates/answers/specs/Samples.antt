@@ -1,5 +1,5 @@
 -- Document 01, "Sample books": those marked M, as one list; books for the field reads, sums and choices, bodies, numbers of 48 bits, and values in two orders of
--- document 02, (i) to (v); and a small book for each row from 2 to 15 of "Where a book is turned back". Bytes, answers and encoded bytes are literals. Assumes nothing.
+-- document 02, (i) to (v), terms that grow and shrink of (viii); and a small book for each row from 2 to 15 of "Where a book is turned back". Bytes, answers and encoded bytes are literals. Assumes nothing.
 use Prim.Native.Nat.{ℕ}
 use Prim.Native.String.{String}
 use mathlib.Core.Path.{_≡_}
@@ -167,8 +167,8 @@ doubled =
 unfoldable pub samples : List Sample
 samples =
     sample "1 merged with 1" equalNumbers check (accepted 3) (line 1 0 0 0 0 0 0 0 ++ line 1 0 0 0 0 0 0 0 ++ line 4 0 0 0 1 0 0 0 ++ line 240 1 3 0 2 0 0 0)
-    ∷ sample "1 merged with 1" equalNumbers (run 0) (stopped value 0) (line 17 0 0 0 1 0 0 0 ++ line 17 0 0 0 1 0 0 0 ++ line 22 0 0 0 1 0 0 0 ++ line 240 1 3 0 2 0 0 0)
-    ∷ sample "1 merged with 1" equalNumbers (run 1) (stopped value 0) (line 17 0 0 0 1 0 0 0 ++ line 17 0 0 0 1 0 0 0 ++ line 22 0 0 0 1 0 0 0 ++ line 240 1 3 0 2 0 0 0)
+    ∷ sample "1 merged with 1" equalNumbers (run 0) (stopped value 0 3) (line 17 0 0 0 1 0 0 0 ++ line 17 0 0 0 1 0 0 0 ++ line 22 0 0 0 1 0 0 0 ++ line 240 1 3 0 2 0 0 0)
+    ∷ sample "1 merged with 1" equalNumbers (run 1) (stopped value 0 3) (line 17 0 0 0 1 0 0 0 ++ line 17 0 0 0 1 0 0 0 ++ line 22 0 0 0 1 0 0 0 ++ line 240 1 3 0 2 0 0 0)
     ∷ sample "1 merged with 2" unequalNumbers check (refused 14 2) []
     ∷ sample "1 merged with 2" unequalNumbers (run 0) (refused 14 2) []
     ∷ sample "1 merged with 2" unequalNumbers (run 1) (refused 14 2) []
@@ -176,26 +176,26 @@ samples =
     ∷ sample "a variable merged with itself" mergedVariable (run 0) (refused 14 2) []
     ∷ sample "a variable merged with itself" mergedVariable (run 1) (refused 14 2) []
     ∷ sample "1 under Int and Int, then Int" twiceRead check (accepted 1) (line 1 0 0 0 0 0 0 0 ++ line 240 1 1 0 0 0 0 0)
-    ∷ sample "1 under Int and Int, then Int" twiceRead (run 2) (stopped value 2) (line 17 0 0 0 1 0 0 0 ++ line 240 1 1 0 0 0 0 0)
-    ∷ sample "1 under Int and Int, then Int" twiceRead (run 3) (stopped value 2) (line 17 0 0 0 1 0 0 0 ++ line 240 1 1 0 0 0 0 0)
+    ∷ sample "1 under Int and Int, then Int" twiceRead (run 2) (stopped value 2 7) (line 17 0 0 0 1 0 0 0 ++ line 240 1 1 0 0 0 0 0)
+    ∷ sample "1 under Int and Int, then Int" twiceRead (run 3) (stopped value 2 7) (line 17 0 0 0 1 0 0 0 ++ line 240 1 1 0 0 0 0 0)
     ∷ sample "the identity on a merge" identityOnMerge check (accepted 1) (line 1 0 0 0 0 0 0 0 ++ line 240 1 1 0 0 0 0 0)
-    ∷ sample "the identity on a merge" identityOnMerge (run 2) (stopped value 2) (line 17 0 0 0 1 0 0 0 ++ line 240 1 1 0 0 0 0 0)
-    ∷ sample "the identity on a merge" identityOnMerge (run 3) (stopped value 2) (line 17 0 0 0 1 0 0 0 ++ line 240 1 1 0 0 0 0 0)
+    ∷ sample "the identity on a merge" identityOnMerge (run 2) (stopped value 2 9) (line 17 0 0 0 1 0 0 0 ++ line 240 1 1 0 0 0 0 0)
+    ∷ sample "the identity on a merge" identityOnMerge (run 3) (stopped value 2 9) (line 17 0 0 0 1 0 0 0 ++ line 240 1 1 0 0 0 0 0)
     ∷ sample "the identity under Int to Top" identityUnderTop check (accepted 3) (line 1 0 0 0 0 0 0 0 ++ line 2 0 0 0 0 0 0 0 ++ line 3 0 0 0 1 0 0 0 ++ line 240 1 3 0 2 0 0 0)
-    ∷ sample "the identity under Int to Top" identityUnderTop (run 1) (stopped value 1) (line 18 0 0 0 0 0 0 0 ++ line 240 1 1 0 0 0 0 0)
-    ∷ sample "the identity under Int to Top" identityUnderTop (run 2) (stopped value 1) (line 18 0 0 0 0 0 0 0 ++ line 240 1 1 0 0 0 0 0)
+    ∷ sample "the identity under Int to Top" identityUnderTop (run 1) (stopped value 1 8) (line 18 0 0 0 0 0 0 0 ++ line 240 1 1 0 0 0 0 0)
+    ∷ sample "the identity under Int to Top" identityUnderTop (run 2) (stopped value 1 8) (line 18 0 0 0 0 0 0 0 ++ line 240 1 1 0 0 0 0 0)
     ∷ sample "the top value applied to 3" appliedTop check (accepted 1) (line 2 0 0 0 0 0 0 0 ++ line 240 1 1 0 0 0 0 0)
-    ∷ sample "the top value applied to 3" appliedTop (run 1) (stopped value 1) (line 18 0 0 0 0 0 0 0 ++ line 240 1 1 0 0 0 0 0)
-    ∷ sample "the top value applied to 3" appliedTop (run 2) (stopped value 1) (line 18 0 0 0 0 0 0 0 ++ line 240 1 1 0 0 0 0 0)
+    ∷ sample "the top value applied to 3" appliedTop (run 1) (stopped value 1 3) (line 18 0 0 0 0 0 0 0 ++ line 240 1 1 0 0 0 0 0)
+    ∷ sample "the top value applied to 3" appliedTop (run 2) (stopped value 1 3) (line 18 0 0 0 0 0 0 0 ++ line 240 1 1 0 0 0 0 0)
     ∷ sample "3 applied to 4" appliedNumber check (refused 12 2) []
     ∷ sample "3 applied to 4" appliedNumber (run 0) (refused 12 2) []
     ∷ sample "3 applied to 4" appliedNumber (run 1) (refused 12 2) []
     ∷ sample "the hidden field" hiddenField check (accepted 1) (line 1 0 0 0 0 0 0 0 ++ line 240 1 1 0 0 0 0 0)
-    ∷ sample "the hidden field" hiddenField (run 4) (stopped value 4) (line 17 0 0 0 2 0 0 0 ++ line 240 1 1 0 0 0 0 0)
-    ∷ sample "the hidden field" hiddenField (run 5) (stopped value 4) (line 17 0 0 0 2 0 0 0 ++ line 240 1 1 0 0 0 0 0)
+    ∷ sample "the hidden field" hiddenField (run 4) (stopped value 4 18) (line 17 0 0 0 2 0 0 0 ++ line 240 1 1 0 0 0 0 0)
+    ∷ sample "the hidden field" hiddenField (run 5) (stopped value 4 18) (line 17 0 0 0 2 0 0 0 ++ line 240 1 1 0 0 0 0 0)
     ∷ sample "the fixpoint of its own variable" ownFixpoint check (accepted 1) (line 1 0 0 0 0 0 0 0 ++ line 240 1 1 0 0 0 0 0)
-    ∷ sample "the fixpoint of its own variable" ownFixpoint (run 0) (stopped spent 0) (line 16 0 0 0 0 0 0 0 ++ line 1 0 0 0 0 0 0 0 ++ line 23 0 0 0 1 0 0 0 ++ line 240 1 3 0 2 0 0 0)
-    ∷ sample "the fixpoint of its own variable" ownFixpoint (run 1) (stopped spent 1) (line 16 0 0 0 0 0 0 0 ++ line 1 0 0 0 0 0 0 0 ++ line 23 0 0 0 1 0 0 0 ++ line 1 0 0 0 0 0 0 0 ++ line 19 0 2 0 3 0 0 0 ++ line 240 1 5 0 4 0 0 0)
+    ∷ sample "the fixpoint of its own variable" ownFixpoint (run 0) (stopped spent 0 3) (line 16 0 0 0 0 0 0 0 ++ line 1 0 0 0 0 0 0 0 ++ line 23 0 0 0 1 0 0 0 ++ line 240 1 3 0 2 0 0 0)
+    ∷ sample "the fixpoint of its own variable" ownFixpoint (run 1) (stopped spent 1 5) (line 16 0 0 0 0 0 0 0 ++ line 1 0 0 0 0 0 0 0 ++ line 23 0 0 0 1 0 0 0 ++ line 1 0 0 0 0 0 0 0 ++ line 19 0 2 0 3 0 0 0 ++ line 240 1 5 0 4 0 0 0)
     ∷ []
 
 -- "its content is the type"
@@ -391,32 +391,32 @@ laterMerge =
 unfoldable pub fieldReads : List Sample
 fieldReads =
     sample "field 2 of {1 = 5} merged with {2 = 6}" mergedField check (accepted 1) (line 1 0 0 0 0 0 0 0 ++ line 240 1 1 0 0 0 0 0)
-    ∷ sample "field 2 of {1 = 5} merged with {2 = 6}" mergedField (run 1) (stopped value 1) (line 17 0 0 0 6 0 0 0 ++ line 240 1 1 0 0 0 0 0)
+    ∷ sample "field 2 of {1 = 5} merged with {2 = 6}" mergedField (run 1) (stopped value 1 6) (line 17 0 0 0 6 0 0 0 ++ line 240 1 1 0 0 0 0 0)
     ∷ sample "field 3 of the same" missingField check (refused 13 5) []
     ∷ sample "two records of one label" twoFields check (refused 13 5) []
     ∷ sample "two records of one label, and the top value" twoFieldsBesideTop check (refused 13 7) []
     ∷ sample "a top-like record beside a proper one of that label" topLikeBesideField check (accepted 1) (line 1 0 0 0 0 0 0 0 ++ line 240 1 1 0 0 0 0 0)
-    ∷ sample "a top-like record beside a proper one of that label" topLikeBesideField (run 1) (stopped value 1) (line 17 0 0 0 5 0 0 0 ++ line 240 1 1 0 0 0 0 0)
+    ∷ sample "a top-like record beside a proper one of that label" topLikeBesideField (run 1) (stopped value 1 6) (line 17 0 0 0 5 0 0 0 ++ line 240 1 1 0 0 0 0 0)
     ∷ sample "only top-like records of that label" topLikeFields check (accepted 1) (line 2 0 0 0 0 0 0 0 ++ line 240 1 1 0 0 0 0 0)
-    ∷ sample "only top-like records of that label" topLikeFields (run 1) (stopped value 1) (line 18 0 0 0 0 0 0 0 ++ line 240 1 1 0 0 0 0 0)
+    ∷ sample "only top-like records of that label" topLikeFields (run 1) (stopped value 1 6) (line 18 0 0 0 0 0 0 0 ++ line 240 1 1 0 0 0 0 0)
     ∷ sample "a record of a top-like function beside another label" topLikeContent check (accepted 1) (line 2 0 0 0 0 0 0 0 ++ line 240 1 1 0 0 0 0 0)
-    ∷ sample "a record of a top-like function beside another label" topLikeContent (run 1) (stopped value 1) (line 18 0 0 0 0 0 0 0 ++ line 240 1 1 0 0 0 0 0)
+    ∷ sample "a record of a top-like function beside another label" topLikeContent (run 1) (stopped value 1 9) (line 18 0 0 0 0 0 0 0 ++ line 240 1 1 0 0 0 0 0)
     ∷ sample "the same record alone" loneTopLike check (accepted 3) (line 2 0 0 0 0 0 0 0 ++ line 2 0 0 0 0 0 0 0 ++ line 3 0 0 0 1 0 0 0 ++ line 240 1 3 0 2 0 0 0)
-    ∷ sample "the same record alone" loneTopLike (run 1) (stopped value 1) (line 16 0 0 0 0 0 0 0 ++ line 2 0 0 0 0 0 0 0 ++ line 2 0 0 0 0 0 0 0 ++ line 21 0 0 0 1 0 2 0 ++ line 240 1 4 0 3 0 0 0)
+    ∷ sample "the same record alone" loneTopLike (run 1) (stopped value 1 6) (line 16 0 0 0 0 0 0 0 ++ line 2 0 0 0 0 0 0 0 ++ line 2 0 0 0 0 0 0 0 ++ line 21 0 0 0 1 0 2 0 ++ line 240 1 4 0 3 0 0 0)
     ∷ sample "a top-like function alone" loneFunction check (refused 13 4) []
     ∷ sample "a top-like record of another label alone" loneOtherLabel check (refused 13 2) []
     ∷ sample "a number merged with a top-like function" topLikeFunction check (accepted 1) (line 2 0 0 0 0 0 0 0 ++ line 240 1 1 0 0 0 0 0)
-    ∷ sample "a number merged with a top-like function" topLikeFunction (run 1) (stopped value 1) (line 18 0 0 0 0 0 0 0 ++ line 240 1 1 0 0 0 0 0)
+    ∷ sample "a number merged with a top-like function" topLikeFunction (run 1) (stopped value 1 7) (line 18 0 0 0 0 0 0 0 ++ line 240 1 1 0 0 0 0 0)
     ∷ sample "a number merged with a top-like record" topLikeOtherLabel check (accepted 1) (line 2 0 0 0 0 0 0 0 ++ line 240 1 1 0 0 0 0 0)
-    ∷ sample "a number merged with a top-like record" topLikeOtherLabel (run 1) (stopped value 1) (line 18 0 0 0 0 0 0 0 ++ line 240 1 1 0 0 0 0 0)
+    ∷ sample "a number merged with a top-like record" topLikeOtherLabel (run 1) (stopped value 1 5) (line 18 0 0 0 0 0 0 0 ++ line 240 1 1 0 0 0 0 0)
     ∷ sample "a number merged with the top value" topPart check (accepted 1) (line 2 0 0 0 0 0 0 0 ++ line 240 1 1 0 0 0 0 0)
-    ∷ sample "a number merged with the top value" topPart (run 1) (stopped value 1) (line 18 0 0 0 0 0 0 0 ++ line 240 1 1 0 0 0 0 0)
+    ∷ sample "a number merged with the top value" topPart (run 1) (stopped value 1 4) (line 18 0 0 0 0 0 0 0 ++ line 240 1 1 0 0 0 0 0)
     ∷ sample "parts nested on both sides" nestedParts check (accepted 1) (line 1 0 0 0 0 0 0 0 ++ line 240 1 1 0 0 0 0 0)
-    ∷ sample "parts nested on both sides" nestedParts (run 1) (stopped value 1) (line 17 0 0 0 4 0 0 0 ++ line 240 1 1 0 0 0 0 0)
+    ∷ sample "parts nested on both sides" nestedParts (run 1) (stopped value 1 10) (line 17 0 0 0 4 0 0 0 ++ line 240 1 1 0 0 0 0 0)
     ∷ sample "the hidden field without its annotation" hiddenUnannotated check (accepted 1) (line 1 0 0 0 0 0 0 0 ++ line 240 1 1 0 0 0 0 0)
-    ∷ sample "the hidden field without its annotation" hiddenUnannotated (run 3) (stopped value 3) (line 17 0 0 0 2 0 0 0 ++ line 240 1 1 0 0 0 0 0)
+    ∷ sample "the hidden field without its annotation" hiddenUnannotated (run 3) (stopped value 3 15) (line 17 0 0 0 2 0 0 0 ++ line 240 1 1 0 0 0 0 0)
     ∷ sample "a merge that steps first" laterMerge check (accepted 1) (line 1 0 0 0 0 0 0 0 ++ line 240 1 1 0 0 0 0 0)
-    ∷ sample "a merge that steps first" laterMerge (run 2) (stopped value 2) (line 17 0 0 0 4 0 0 0 ++ line 240 1 1 0 0 0 0 0)
+    ∷ sample "a merge that steps first" laterMerge (run 2) (stopped value 2 8) (line 17 0 0 0 4 0 0 0 ++ line 240 1 1 0 0 0 0 0)
     ∷ []
 
 -- "Kind 26 adds a and b"
@@ -792,32 +792,32 @@ unknownKind =
 unfoldable pub sumsAndChoices : List Sample
 sumsAndChoices =
     sample "1 + 2" onePlusTwo check (accepted 1) (line 1 0 0 0 0 0 0 0 ++ line 240 1 1 0 0 0 0 0)
-    ∷ sample "1 + 2" onePlusTwo (run 0) (stopped spent 0) (line 17 0 0 0 1 0 0 0 ++ line 17 0 0 0 2 0 0 0 ++ line 26 0 0 0 1 0 0 0 ++ line 240 1 3 0 2 0 0 0)
-    ∷ sample "1 + 2" onePlusTwo (run 1) (stopped value 1) (line 17 0 0 0 3 0 0 0 ++ line 240 1 1 0 0 0 0 0)
-    ∷ sample "2147483647 + 1" pastUpperEnd (run 1) (stopped value 1) (line 17 0 0 0 255 255 255 127 ++ line 240 1 1 0 0 0 0 0)
-    ∷ sample "-2147483648 + -1" pastLowerEnd (run 1) (stopped value 1) (line 17 0 0 0 0 0 0 128 ++ line 240 1 1 0 0 0 0 0)
-    ∷ sample "2147483646 + 1" atUpperEnd (run 1) (stopped value 1) (line 17 0 0 0 255 255 255 127 ++ line 240 1 1 0 0 0 0 0)
-    ∷ sample "-2147483647 + -1" atLowerEnd (run 1) (stopped value 1) (line 17 0 0 0 0 0 0 128 ++ line 240 1 1 0 0 0 0 0)
-    ∷ sample "-2147483648 + 2147483647" bothEnds (run 1) (stopped value 1) (line 17 0 0 0 255 255 255 255 ++ line 240 1 1 0 0 0 0 0)
-    ∷ sample "(1 + 2) + (3 + 4)" sumOfSums (run 1) (stopped spent 1) (line 17 0 0 0 3 0 0 0 ++ line 17 0 0 0 3 0 0 0 ++ line 17 0 0 0 4 0 0 0 ++ line 26 0 1 0 2 0 0 0 ++ line 26 0 0 0 3 0 0 0 ++ line 240 1 5 0 4 0 0 0)
-    ∷ sample "(1 + 2) + (3 + 4)" sumOfSums (run 3) (stopped value 3) (line 17 0 0 0 10 0 0 0 ++ line 240 1 1 0 0 0 0 0)
-    ∷ sample "(1 merged with {7 = 5}) + 2" mergedSide (run 1) (stopped value 1) (line 17 0 0 0 3 0 0 0 ++ line 240 1 1 0 0 0 0 0)
-    ∷ sample "2 + (1 merged with {7 = 5})" mergedRightSide (run 1) (stopped value 1) (line 17 0 0 0 3 0 0 0 ++ line 240 1 1 0 0 0 0 0)
+    ∷ sample "1 + 2" onePlusTwo (run 0) (stopped spent 0 3) (line 17 0 0 0 1 0 0 0 ++ line 17 0 0 0 2 0 0 0 ++ line 26 0 0 0 1 0 0 0 ++ line 240 1 3 0 2 0 0 0)
+    ∷ sample "1 + 2" onePlusTwo (run 1) (stopped value 1 3) (line 17 0 0 0 3 0 0 0 ++ line 240 1 1 0 0 0 0 0)
+    ∷ sample "2147483647 + 1" pastUpperEnd (run 1) (stopped value 1 3) (line 17 0 0 0 255 255 255 127 ++ line 240 1 1 0 0 0 0 0)
+    ∷ sample "-2147483648 + -1" pastLowerEnd (run 1) (stopped value 1 3) (line 17 0 0 0 0 0 0 128 ++ line 240 1 1 0 0 0 0 0)
+    ∷ sample "2147483646 + 1" atUpperEnd (run 1) (stopped value 1 3) (line 17 0 0 0 255 255 255 127 ++ line 240 1 1 0 0 0 0 0)
+    ∷ sample "-2147483647 + -1" atLowerEnd (run 1) (stopped value 1 3) (line 17 0 0 0 0 0 0 128 ++ line 240 1 1 0 0 0 0 0)
+    ∷ sample "-2147483648 + 2147483647" bothEnds (run 1) (stopped value 1 3) (line 17 0 0 0 255 255 255 255 ++ line 240 1 1 0 0 0 0 0)
+    ∷ sample "(1 + 2) + (3 + 4)" sumOfSums (run 1) (stopped spent 1 7) (line 17 0 0 0 3 0 0 0 ++ line 17 0 0 0 3 0 0 0 ++ line 17 0 0 0 4 0 0 0 ++ line 26 0 1 0 2 0 0 0 ++ line 26 0 0 0 3 0 0 0 ++ line 240 1 5 0 4 0 0 0)
+    ∷ sample "(1 + 2) + (3 + 4)" sumOfSums (run 3) (stopped value 3 7) (line 17 0 0 0 10 0 0 0 ++ line 240 1 1 0 0 0 0 0)
+    ∷ sample "(1 merged with {7 = 5}) + 2" mergedSide (run 1) (stopped value 1 6) (line 17 0 0 0 3 0 0 0 ++ line 240 1 1 0 0 0 0 0)
+    ∷ sample "2 + (1 merged with {7 = 5})" mergedRightSide (run 1) (stopped value 1 6) (line 17 0 0 0 3 0 0 0 ++ line 240 1 1 0 0 0 0 0)
     ∷ sample "the top value + a free variable" topPlusVariable check (refused 15 0) []
     ∷ sample "1 + the top value" onePlusTop check (refused 15 1) []
     ∷ sample "if 0 then 5 else 7" choiceByZero check (accepted 1) (line 1 0 0 0 0 0 0 0 ++ line 240 1 1 0 0 0 0 0)
-    ∷ sample "if 0 then 5 else 7" choiceByZero (run 0) (stopped spent 0) (line 17 0 0 0 0 0 0 0 ++ line 17 0 0 0 5 0 0 0 ++ line 17 0 0 0 7 0 0 0 ++ line 27 0 0 0 1 0 2 0 ++ line 240 1 4 0 3 0 0 0)
-    ∷ sample "if 0 then 5 else 7" choiceByZero (run 1) (stopped spent 1) (line 17 0 0 0 5 0 0 0 ++ line 1 0 0 0 0 0 0 0 ++ line 19 0 0 0 1 0 0 0 ++ line 240 1 3 0 2 0 0 0)
-    ∷ sample "if 0 then 5 else 7" choiceByZero (run 2) (stopped value 2) (line 17 0 0 0 5 0 0 0 ++ line 240 1 1 0 0 0 0 0)
-    ∷ sample "if 1 then 5 else 7" choiceByOne (run 1) (stopped spent 1) (line 17 0 0 0 7 0 0 0 ++ line 1 0 0 0 0 0 0 0 ++ line 19 0 0 0 1 0 0 0 ++ line 240 1 3 0 2 0 0 0)
-    ∷ sample "if 1 then 5 else 7" choiceByOne (run 2) (stopped value 2) (line 17 0 0 0 7 0 0 0 ++ line 240 1 1 0 0 0 0 0)
-    ∷ sample "if -1 then 5 else 7" choiceByMinusOne (run 1) (stopped spent 1) (line 17 0 0 0 7 0 0 0 ++ line 1 0 0 0 0 0 0 0 ++ line 19 0 0 0 1 0 0 0 ++ line 240 1 3 0 2 0 0 0)
-    ∷ sample "if -1 then 5 else 7" choiceByMinusOne (run 2) (stopped value 2) (line 17 0 0 0 7 0 0 0 ++ line 240 1 1 0 0 0 0 0)
-    ∷ sample "if 65536 then 5 else 7" choiceByHigh (run 1) (stopped spent 1) (line 17 0 0 0 7 0 0 0 ++ line 1 0 0 0 0 0 0 0 ++ line 19 0 0 0 1 0 0 0 ++ line 240 1 3 0 2 0 0 0)
-    ∷ sample "if 65536 then 5 else 7" choiceByHigh (run 2) (stopped value 2) (line 17 0 0 0 7 0 0 0 ++ line 240 1 1 0 0 0 0 0)
-    ∷ sample "if 1 then a loop else 4" waitingLoop (run 2) (stopped value 2) (line 17 0 0 0 4 0 0 0 ++ line 240 1 1 0 0 0 0 0)
+    ∷ sample "if 0 then 5 else 7" choiceByZero (run 0) (stopped spent 0 4) (line 17 0 0 0 0 0 0 0 ++ line 17 0 0 0 5 0 0 0 ++ line 17 0 0 0 7 0 0 0 ++ line 27 0 0 0 1 0 2 0 ++ line 240 1 4 0 3 0 0 0)
+    ∷ sample "if 0 then 5 else 7" choiceByZero (run 1) (stopped spent 1 4) (line 17 0 0 0 5 0 0 0 ++ line 1 0 0 0 0 0 0 0 ++ line 19 0 0 0 1 0 0 0 ++ line 240 1 3 0 2 0 0 0)
+    ∷ sample "if 0 then 5 else 7" choiceByZero (run 2) (stopped value 2 4) (line 17 0 0 0 5 0 0 0 ++ line 240 1 1 0 0 0 0 0)
+    ∷ sample "if 1 then 5 else 7" choiceByOne (run 1) (stopped spent 1 4) (line 17 0 0 0 7 0 0 0 ++ line 1 0 0 0 0 0 0 0 ++ line 19 0 0 0 1 0 0 0 ++ line 240 1 3 0 2 0 0 0)
+    ∷ sample "if 1 then 5 else 7" choiceByOne (run 2) (stopped value 2 4) (line 17 0 0 0 7 0 0 0 ++ line 240 1 1 0 0 0 0 0)
+    ∷ sample "if -1 then 5 else 7" choiceByMinusOne (run 1) (stopped spent 1 4) (line 17 0 0 0 7 0 0 0 ++ line 1 0 0 0 0 0 0 0 ++ line 19 0 0 0 1 0 0 0 ++ line 240 1 3 0 2 0 0 0)
+    ∷ sample "if -1 then 5 else 7" choiceByMinusOne (run 2) (stopped value 2 4) (line 17 0 0 0 7 0 0 0 ++ line 240 1 1 0 0 0 0 0)
+    ∷ sample "if 65536 then 5 else 7" choiceByHigh (run 1) (stopped spent 1 4) (line 17 0 0 0 7 0 0 0 ++ line 1 0 0 0 0 0 0 0 ++ line 19 0 0 0 1 0 0 0 ++ line 240 1 3 0 2 0 0 0)
+    ∷ sample "if 65536 then 5 else 7" choiceByHigh (run 2) (stopped value 2 4) (line 17 0 0 0 7 0 0 0 ++ line 240 1 1 0 0 0 0 0)
+    ∷ sample "if 1 then a loop else 4" waitingLoop (run 2) (stopped value 2 6) (line 17 0 0 0 4 0 0 0 ++ line 240 1 1 0 0 0 0 0)
     ∷ sample "(if 0 then 1 merged with {1 = 2} else 3) merged with {1 = 5}" annotatedBranch check (accepted 4) (line 1 0 0 0 0 0 0 0 ++ line 1 0 0 0 0 0 0 0 ++ line 5 1 1 0 0 0 0 0 ++ line 4 0 0 0 2 0 0 0 ++ line 240 1 4 0 3 0 0 0)
-    ∷ sample "(if 0 then 1 merged with {1 = 2} else 3) merged with {1 = 5}" annotatedBranch (run 2) (stopped value 2) (line 17 0 0 0 1 0 0 0 ++ line 17 0 0 0 5 0 0 0 ++ line 24 1 1 0 0 0 0 0 ++ line 22 0 0 0 2 0 0 0 ++ line 240 1 4 0 3 0 0 0)
+    ∷ sample "(if 0 then 1 merged with {1 = 2} else 3) merged with {1 = 5}" annotatedBranch (run 2) (stopped value 2 10) (line 17 0 0 0 1 0 0 0 ++ line 17 0 0 0 5 0 0 0 ++ line 24 1 1 0 0 0 0 0 ++ line 22 0 0 0 2 0 0 0 ++ line 240 1 4 0 3 0 0 0)
     ∷ sample "if the top value then a free variable else another" choiceByTop check (refused 15 0) []
     ∷ sample "if 0 then the top value else a free variable" topForZero check (refused 15 1) []
     ∷ sample "if 0 then 1 else the top value" topForOther check (refused 15 2) []
@@ -828,11 +828,11 @@ sumsAndChoices =
     ∷ sample "two functions with the body if x then 1 else 2" equalChoices check (accepted 9) (line 1 0 0 0 0 0 0 0 ++ line 1 0 0 0 0 0 0 0 ++ line 3 0 0 0 1 0 0 0 ++ line 1 0 0 0 0 0 0 0 ++ line 1 0 0 0 0 0 0 0 ++ line 2 0 0 0 0 0 0 0 ++ line 4 0 4 0 5 0 0 0 ++ line 3 0 3 0 6 0 0 0 ++ line 4 0 2 0 7 0 0 0 ++ line 240 1 9 0 8 0 0 0)
     ∷ sample "functions with the bodies if x then 1 else 2 and if x then 2 else 1" exchangedChoices check (refused 14 10) []
     ∷ sample "functions with the bodies if x then 1 else 2 and if x then 1 else 1" otherThirdPart check (refused 14 10) []
-    ∷ sample "the function if 0 then x else 7 on 5" choiceInBody (run 1) (stopped spent 1) (line 17 0 0 0 0 0 0 0 ++ line 17 0 0 0 5 0 0 0 ++ line 17 0 0 0 7 0 0 0 ++ line 27 0 0 0 1 0 2 0 ++ line 1 0 0 0 0 0 0 0 ++ line 19 0 3 0 4 0 0 0 ++ line 240 1 6 0 5 0 0 0)
-    ∷ sample "the function if 0 then x else 7 on 5" choiceInBody (run 4) (stopped value 4) (line 17 0 0 0 5 0 0 0 ++ line 240 1 1 0 0 0 0 0)
-    ∷ sample "the function x + 2 on 1" sumInBody (run 1) (stopped spent 1) (line 17 0 0 0 1 0 0 0 ++ line 17 0 0 0 2 0 0 0 ++ line 26 0 0 0 1 0 0 0 ++ line 1 0 0 0 0 0 0 0 ++ line 19 0 2 0 3 0 0 0 ++ line 240 1 5 0 4 0 0 0)
-    ∷ sample "the function x + 2 on 1" sumInBody (run 3) (stopped value 3) (line 17 0 0 0 3 0 0 0 ++ line 240 1 1 0 0 0 0 0)
-    ∷ sample "the triangular number of 4" triangle (run 38) (stopped value 38) (line 17 0 0 0 10 0 0 0 ++ line 240 1 1 0 0 0 0 0)
+    ∷ sample "the function if 0 then x else 7 on 5" choiceInBody (run 1) (stopped spent 1 9) (line 17 0 0 0 0 0 0 0 ++ line 17 0 0 0 5 0 0 0 ++ line 17 0 0 0 7 0 0 0 ++ line 27 0 0 0 1 0 2 0 ++ line 1 0 0 0 0 0 0 0 ++ line 19 0 3 0 4 0 0 0 ++ line 240 1 6 0 5 0 0 0)
+    ∷ sample "the function if 0 then x else 7 on 5" choiceInBody (run 4) (stopped value 4 9) (line 17 0 0 0 5 0 0 0 ++ line 240 1 1 0 0 0 0 0)
+    ∷ sample "the function x + 2 on 1" sumInBody (run 1) (stopped spent 1 8) (line 17 0 0 0 1 0 0 0 ++ line 17 0 0 0 2 0 0 0 ++ line 26 0 0 0 1 0 0 0 ++ line 1 0 0 0 0 0 0 0 ++ line 19 0 2 0 3 0 0 0 ++ line 240 1 5 0 4 0 0 0)
+    ∷ sample "the function x + 2 on 1" sumInBody (run 3) (stopped value 3 8) (line 17 0 0 0 3 0 0 0 ++ line 240 1 1 0 0 0 0 0)
+    ∷ sample "the triangular number of 4" triangle (run 38) (stopped value 38 61) (line 17 0 0 0 10 0 0 0 ++ line 240 1 1 0 0 0 0 0)
     ∷ sample "a sum with field c" sumNamesC check (refused 6 1) []
     ∷ sample "a sum with a label" labelledSum check (refused 6 1) []
     ∷ sample "a choice with a label" labelledChoice check (refused 6 1) []
@@ -1238,33 +1238,33 @@ restampedMinusFive =
 unfoldable pub wideNumbers : List Sample
 wideNumbers =
     sample "2^40 in version 2" wideNumber check (accepted 1) (line 1 0 0 0 0 0 0 0 ++ line 240 2 1 0 0 0 0 0)
-    ∷ sample "2^40 in version 2" wideNumber (run 10) (stopped value 0) (line 17 0 0 0 0 0 0 1 ++ line 240 2 1 0 0 0 0 0)
-    ∷ sample "-1 in version 2" wideMinusOne (run 10) (stopped value 0) (line 17 0 255 255 255 255 255 255 ++ line 240 2 1 0 0 0 0 0)
-    ∷ sample "(2^47 - 1) + 1 in version 2" pastWideUpperEnd (run 1) (stopped value 1) (line 17 0 255 255 255 255 255 127 ++ line 240 2 1 0 0 0 0 0)
-    ∷ sample "-2^47 + -1 in version 2" pastWideLowerEnd (run 1) (stopped value 1) (line 17 0 0 0 0 0 0 128 ++ line 240 2 1 0 0 0 0 0)
-    ∷ sample "2147483647 + 1 in version 2" above32 (run 1) (stopped value 1) (line 17 0 0 0 0 128 0 0 ++ line 240 2 1 0 0 0 0 0)
-    ∷ sample "2147483647 + 1 in version 1" pastUpperEnd (run 1) (stopped value 1) (line 17 0 0 0 255 255 255 127 ++ line 240 1 1 0 0 0 0 0)
-    ∷ sample "-2147483648 + -1 in version 2" below32 (run 1) (stopped value 1) (line 17 0 255 255 255 127 255 255 ++ line 240 2 1 0 0 0 0 0)
-    ∷ sample "-2147483648 + -1 in version 1" pastLowerEnd (run 1) (stopped value 1) (line 17 0 0 0 0 0 0 128 ++ line 240 1 1 0 0 0 0 0)
+    ∷ sample "2^40 in version 2" wideNumber (run 10) (stopped value 0 1) (line 17 0 0 0 0 0 0 1 ++ line 240 2 1 0 0 0 0 0)
+    ∷ sample "-1 in version 2" wideMinusOne (run 10) (stopped value 0 1) (line 17 0 255 255 255 255 255 255 ++ line 240 2 1 0 0 0 0 0)
+    ∷ sample "(2^47 - 1) + 1 in version 2" pastWideUpperEnd (run 1) (stopped value 1 3) (line 17 0 255 255 255 255 255 127 ++ line 240 2 1 0 0 0 0 0)
+    ∷ sample "-2^47 + -1 in version 2" pastWideLowerEnd (run 1) (stopped value 1 3) (line 17 0 0 0 0 0 0 128 ++ line 240 2 1 0 0 0 0 0)
+    ∷ sample "2147483647 + 1 in version 2" above32 (run 1) (stopped value 1 3) (line 17 0 0 0 0 128 0 0 ++ line 240 2 1 0 0 0 0 0)
+    ∷ sample "2147483647 + 1 in version 1" pastUpperEnd (run 1) (stopped value 1 3) (line 17 0 0 0 255 255 255 127 ++ line 240 1 1 0 0 0 0 0)
+    ∷ sample "-2147483648 + -1 in version 2" below32 (run 1) (stopped value 1 3) (line 17 0 255 255 255 127 255 255 ++ line 240 2 1 0 0 0 0 0)
+    ∷ sample "-2147483648 + -1 in version 1" pastLowerEnd (run 1) (stopped value 1 3) (line 17 0 0 0 0 0 0 128 ++ line 240 1 1 0 0 0 0 0)
     ∷ sample "a version 1 number with field a" lowestInOne check (refused 6 0) []
     ∷ sample "the same bytes in version 2" lowestInTwo check (accepted 1) (line 1 0 0 0 0 0 0 0 ++ line 240 2 1 0 0 0 0 0)
     ∷ sample "a version 2 number with a label" labelledNumber check (refused 6 0) []
     ∷ sample "1 merged with 2 in version 2" unequalInTwo check (refused 14 2) []
     ∷ sample "1 merged with 2^32 + 1" unequalAbove32 check (refused 14 2) []
     ∷ sample "2^40 merged with 2^40" equalAbove32 check (accepted 3) (line 1 0 0 0 0 0 0 0 ++ line 1 0 0 0 0 0 0 0 ++ line 4 0 0 0 1 0 0 0 ++ line 240 2 3 0 2 0 0 0)
-    ∷ sample "2^40 merged with 2^40" equalAbove32 (run 1) (stopped value 0) (line 17 0 0 0 0 0 0 1 ++ line 17 0 0 0 0 0 0 1 ++ line 22 0 0 0 1 0 0 0 ++ line 240 2 3 0 2 0 0 0)
+    ∷ sample "2^40 merged with 2^40" equalAbove32 (run 1) (stopped value 0 3) (line 17 0 0 0 0 0 0 1 ++ line 17 0 0 0 0 0 0 1 ++ line 22 0 0 0 1 0 0 0 ++ line 240 2 3 0 2 0 0 0)
     ∷ sample "functions with the bodies 2^32 and 0" otherAbove32 check (refused 14 5) []
-    ∷ sample "if 2^32 then 1 else 2" choiceAbove32 (run 2) (stopped value 2) (line 17 0 2 0 0 0 0 0 ++ line 240 2 1 0 0 0 0 0)
-    ∷ sample "if 65536 then 1 else 2 in version 2" choiceAbove16 (run 2) (stopped value 2) (line 17 0 2 0 0 0 0 0 ++ line 240 2 1 0 0 0 0 0)
-    ∷ sample "if 1 then 1 else 2 in version 2" choiceLow (run 2) (stopped value 2) (line 17 0 2 0 0 0 0 0 ++ line 240 2 1 0 0 0 0 0)
-    ∷ sample "if 0 then 1 else 2 in version 2" choiceNone (run 2) (stopped value 2) (line 17 0 1 0 0 0 0 0 ++ line 240 2 1 0 0 0 0 0)
+    ∷ sample "if 2^32 then 1 else 2" choiceAbove32 (run 2) (stopped value 2 4) (line 17 0 2 0 0 0 0 0 ++ line 240 2 1 0 0 0 0 0)
+    ∷ sample "if 65536 then 1 else 2 in version 2" choiceAbove16 (run 2) (stopped value 2 4) (line 17 0 2 0 0 0 0 0 ++ line 240 2 1 0 0 0 0 0)
+    ∷ sample "if 1 then 1 else 2 in version 2" choiceLow (run 2) (stopped value 2 4) (line 17 0 2 0 0 0 0 0 ++ line 240 2 1 0 0 0 0 0)
+    ∷ sample "if 0 then 1 else 2 in version 2" choiceNone (run 2) (stopped value 2 4) (line 17 0 1 0 0 0 0 0 ++ line 240 2 1 0 0 0 0 0)
     ∷ sample "version 3" versionThree check (refused 3 0) []
     ∷ sample "version 0" versionZero check (refused 3 0) []
     ∷ sample "the identity in version 2" identityInTwo check (accepted 3) (line 1 0 0 0 0 0 0 0 ++ line 1 0 0 0 0 0 0 0 ++ line 3 0 0 0 1 0 0 0 ++ line 240 2 3 0 2 0 0 0)
     ∷ sample "the hidden field, restamped" restampedHiddenField check (accepted 1) (line 1 0 0 0 0 0 0 0 ++ line 240 2 1 0 0 0 0 0)
-    ∷ sample "the hidden field, restamped" restampedHiddenField (run 4) (stopped value 4) (line 17 0 2 0 0 0 0 0 ++ line 240 2 1 0 0 0 0 0)
-    ∷ sample "-5 in version 1" minusFive (run 10) (stopped value 0) (line 17 0 0 0 251 255 255 255 ++ line 240 1 1 0 0 0 0 0)
-    ∷ sample "-5, restamped" restampedMinusFive (run 10) (stopped value 0) (line 17 0 251 255 255 255 255 255 ++ line 240 2 1 0 0 0 0 0)
+    ∷ sample "the hidden field, restamped" restampedHiddenField (run 4) (stopped value 4 18) (line 17 0 2 0 0 0 0 0 ++ line 240 2 1 0 0 0 0 0)
+    ∷ sample "-5 in version 1" minusFive (run 10) (stopped value 0 1) (line 17 0 0 0 251 255 255 255 ++ line 240 1 1 0 0 0 0 0)
+    ∷ sample "-5, restamped" restampedMinusFive (run 10) (stopped value 0 1) (line 17 0 251 255 255 255 255 255 ++ line 240 2 1 0 0 0 0 0)
     ∷ []
 
 -- 1,,{1=2}
@@ -1535,18 +1535,18 @@ unfoldable pub orders : List Sample
 orders =
     sample "1,,{1=2}" numberFirst check (accepted 4) (line 1 0 0 0 0 0 0 0 ++ line 1 0 0 0 0 0 0 0 ++ line 5 1 1 0 0 0 0 0 ++ line 4 0 0 0 2 0 0 0 ++ line 240 1 4 0 3 0 0 0)
     ∷ sample "{1=2},,1" recordFirst check (accepted 4) (line 1 0 0 0 0 0 0 0 ++ line 5 1 0 0 0 0 0 0 ++ line 1 0 0 0 0 0 0 0 ++ line 4 0 1 0 2 0 0 0 ++ line 240 1 4 0 3 0 0 0)
-    ∷ sample "1,,{1=2}" numberFirst (run 1) (stopped value 0) (line 17 0 0 0 1 0 0 0 ++ line 17 0 0 0 2 0 0 0 ++ line 24 1 1 0 0 0 0 0 ++ line 22 0 0 0 2 0 0 0 ++ line 240 1 4 0 3 0 0 0)
-    ∷ sample "{1=2},,1" recordFirst (run 1) (stopped value 0) (line 17 0 0 0 2 0 0 0 ++ line 24 1 0 0 0 0 0 0 ++ line 17 0 0 0 1 0 0 0 ++ line 22 0 1 0 2 0 0 0 ++ line 240 1 4 0 3 0 0 0)
-    ∷ sample "(1,,{1=2}) : Int & {1:Int}" numberFirstRead (run 0) (stopped spent 0) (line 17 0 0 0 1 0 0 0 ++ line 17 0 0 0 2 0 0 0 ++ line 24 1 1 0 0 0 0 0 ++ line 22 0 0 0 2 0 0 0 ++ line 1 0 0 0 0 0 0 0 ++ line 1 0 0 0 0 0 0 0 ++ line 5 1 5 0 0 0 0 0 ++ line 4 0 4 0 6 0 0 0 ++ line 19 0 3 0 7 0 0 0 ++ line 240 1 9 0 8 0 0 0)
-    ∷ sample "({1=2},,1) : Int & {1:Int}" recordFirstRead (run 0) (stopped spent 0) (line 17 0 0 0 2 0 0 0 ++ line 24 1 0 0 0 0 0 0 ++ line 17 0 0 0 1 0 0 0 ++ line 22 0 1 0 2 0 0 0 ++ line 1 0 0 0 0 0 0 0 ++ line 1 0 0 0 0 0 0 0 ++ line 5 1 5 0 0 0 0 0 ++ line 4 0 4 0 6 0 0 0 ++ line 19 0 3 0 7 0 0 0 ++ line 240 1 9 0 8 0 0 0)
-    ∷ sample "(1,,{1=2}) : Int & {1:Int}" numberFirstRead (run 1) (stopped value 1) (line 17 0 0 0 1 0 0 0 ++ line 17 0 0 0 2 0 0 0 ++ line 24 1 1 0 0 0 0 0 ++ line 22 0 0 0 2 0 0 0 ++ line 240 1 4 0 3 0 0 0)
-    ∷ sample "({1=2},,1) : Int & {1:Int}" recordFirstRead (run 1) (stopped value 1) (line 17 0 0 0 1 0 0 0 ++ line 17 0 0 0 2 0 0 0 ++ line 24 1 1 0 0 0 0 0 ++ line 22 0 0 0 2 0 0 0 ++ line 240 1 4 0 3 0 0 0)
-    ∷ sample "(1,,{1=2}) : {1:Int} & Int" numberFirstTurned (run 1) (stopped value 1) (line 17 0 0 0 2 0 0 0 ++ line 24 1 0 0 0 0 0 0 ++ line 17 0 0 0 1 0 0 0 ++ line 22 0 1 0 2 0 0 0 ++ line 240 1 4 0 3 0 0 0)
-    ∷ sample "({1=2},,1) : {1:Int} & Int" recordFirstTurned (run 1) (stopped value 1) (line 17 0 0 0 2 0 0 0 ++ line 24 1 0 0 0 0 0 0 ++ line 17 0 0 0 1 0 0 0 ++ line 22 0 1 0 2 0 0 0 ++ line 240 1 4 0 3 0 0 0)
+    ∷ sample "1,,{1=2}" numberFirst (run 1) (stopped value 0 4) (line 17 0 0 0 1 0 0 0 ++ line 17 0 0 0 2 0 0 0 ++ line 24 1 1 0 0 0 0 0 ++ line 22 0 0 0 2 0 0 0 ++ line 240 1 4 0 3 0 0 0)
+    ∷ sample "{1=2},,1" recordFirst (run 1) (stopped value 0 4) (line 17 0 0 0 2 0 0 0 ++ line 24 1 0 0 0 0 0 0 ++ line 17 0 0 0 1 0 0 0 ++ line 22 0 1 0 2 0 0 0 ++ line 240 1 4 0 3 0 0 0)
+    ∷ sample "(1,,{1=2}) : Int & {1:Int}" numberFirstRead (run 0) (stopped spent 0 9) (line 17 0 0 0 1 0 0 0 ++ line 17 0 0 0 2 0 0 0 ++ line 24 1 1 0 0 0 0 0 ++ line 22 0 0 0 2 0 0 0 ++ line 1 0 0 0 0 0 0 0 ++ line 1 0 0 0 0 0 0 0 ++ line 5 1 5 0 0 0 0 0 ++ line 4 0 4 0 6 0 0 0 ++ line 19 0 3 0 7 0 0 0 ++ line 240 1 9 0 8 0 0 0)
+    ∷ sample "({1=2},,1) : Int & {1:Int}" recordFirstRead (run 0) (stopped spent 0 9) (line 17 0 0 0 2 0 0 0 ++ line 24 1 0 0 0 0 0 0 ++ line 17 0 0 0 1 0 0 0 ++ line 22 0 1 0 2 0 0 0 ++ line 1 0 0 0 0 0 0 0 ++ line 1 0 0 0 0 0 0 0 ++ line 5 1 5 0 0 0 0 0 ++ line 4 0 4 0 6 0 0 0 ++ line 19 0 3 0 7 0 0 0 ++ line 240 1 9 0 8 0 0 0)
+    ∷ sample "(1,,{1=2}) : Int & {1:Int}" numberFirstRead (run 1) (stopped value 1 9) (line 17 0 0 0 1 0 0 0 ++ line 17 0 0 0 2 0 0 0 ++ line 24 1 1 0 0 0 0 0 ++ line 22 0 0 0 2 0 0 0 ++ line 240 1 4 0 3 0 0 0)
+    ∷ sample "({1=2},,1) : Int & {1:Int}" recordFirstRead (run 1) (stopped value 1 9) (line 17 0 0 0 1 0 0 0 ++ line 17 0 0 0 2 0 0 0 ++ line 24 1 1 0 0 0 0 0 ++ line 22 0 0 0 2 0 0 0 ++ line 240 1 4 0 3 0 0 0)
+    ∷ sample "(1,,{1=2}) : {1:Int} & Int" numberFirstTurned (run 1) (stopped value 1 9) (line 17 0 0 0 2 0 0 0 ++ line 24 1 0 0 0 0 0 0 ++ line 17 0 0 0 1 0 0 0 ++ line 22 0 1 0 2 0 0 0 ++ line 240 1 4 0 3 0 0 0)
+    ∷ sample "({1=2},,1) : {1:Int} & Int" recordFirstTurned (run 1) (stopped value 1 9) (line 17 0 0 0 2 0 0 0 ++ line 24 1 0 0 0 0 0 0 ++ line 17 0 0 0 1 0 0 0 ++ line 22 0 1 0 2 0 0 0 ++ line 240 1 4 0 3 0 0 0)
     ∷ sample "(1,,{1=2}),,{2=3}" groupedLeft check (accepted 7) (line 1 0 0 0 0 0 0 0 ++ line 1 0 0 0 0 0 0 0 ++ line 5 1 1 0 0 0 0 0 ++ line 4 0 0 0 2 0 0 0 ++ line 1 0 0 0 0 0 0 0 ++ line 5 2 4 0 0 0 0 0 ++ line 4 0 3 0 5 0 0 0 ++ line 240 1 7 0 6 0 0 0)
     ∷ sample "1,,({1=2},,{2=3})" groupedRight check (accepted 7) (line 1 0 0 0 0 0 0 0 ++ line 1 0 0 0 0 0 0 0 ++ line 5 1 1 0 0 0 0 0 ++ line 1 0 0 0 0 0 0 0 ++ line 5 2 3 0 0 0 0 0 ++ line 4 0 2 0 4 0 0 0 ++ line 4 0 0 0 5 0 0 0 ++ line 240 1 7 0 6 0 0 0)
-    ∷ sample "((1,,{1=2}),,{2=3}) : {2:Int} & Int" groupedLeftRead (run 1) (stopped value 1) (line 17 0 0 0 3 0 0 0 ++ line 24 2 0 0 0 0 0 0 ++ line 17 0 0 0 1 0 0 0 ++ line 22 0 1 0 2 0 0 0 ++ line 240 1 4 0 3 0 0 0)
-    ∷ sample "(1,,({1=2},,{2=3})) : {2:Int} & Int" groupedRightRead (run 1) (stopped value 1) (line 17 0 0 0 3 0 0 0 ++ line 24 2 0 0 0 0 0 0 ++ line 17 0 0 0 1 0 0 0 ++ line 22 0 1 0 2 0 0 0 ++ line 240 1 4 0 3 0 0 0)
+    ∷ sample "((1,,{1=2}),,{2=3}) : {2:Int} & Int" groupedLeftRead (run 1) (stopped value 1 12) (line 17 0 0 0 3 0 0 0 ++ line 24 2 0 0 0 0 0 0 ++ line 17 0 0 0 1 0 0 0 ++ line 22 0 1 0 2 0 0 0 ++ line 240 1 4 0 3 0 0 0)
+    ∷ sample "(1,,({1=2},,{2=3})) : {2:Int} & Int" groupedRightRead (run 1) (stopped value 1 12) (line 17 0 0 0 3 0 0 0 ++ line 24 2 0 0 0 0 0 0 ++ line 17 0 0 0 1 0 0 0 ++ line 22 0 1 0 2 0 0 0 ++ line 240 1 4 0 3 0 0 0)
     ∷ sample "(1,,{1=2}),,1" partTwice check (accepted 6) (line 1 0 0 0 0 0 0 0 ++ line 1 0 0 0 0 0 0 0 ++ line 5 1 1 0 0 0 0 0 ++ line 4 0 0 0 2 0 0 0 ++ line 1 0 0 0 0 0 0 0 ++ line 4 0 3 0 4 0 0 0 ++ line 240 1 6 0 5 0 0 0)
     ∷ sample "1,,(1,,{1=2})" partTwiceSwapped check (accepted 6) (line 1 0 0 0 0 0 0 0 ++ line 1 0 0 0 0 0 0 0 ++ line 1 0 0 0 0 0 0 0 ++ line 5 1 2 0 0 0 0 0 ++ line 4 0 1 0 3 0 0 0 ++ line 4 0 0 0 4 0 0 0 ++ line 240 1 6 0 5 0 0 0)
     ∷ sample "(1,,{1=2}),,2" conflictingEnds check (refused 14 5) []
@@ -1556,6 +1556,65 @@ orders =
     ∷ sample "a function whose body is (1,,1) beside a function that gives the argument" openValue check (accepted 3) (line 1 0 0 0 0 0 0 0 ++ line 1 0 0 0 0 0 0 0 ++ line 3 0 0 0 1 0 0 0 ++ line 240 1 3 0 2 0 0 0)
     ∷ sample "the same body, regrouped" openValueRegrouped check (refused 14 7) []
     ∷ sample "functions with the bodies 1,,{1=2} and {1=2},,1" reorderedBodies check (refused 14 20) []
+    ∷ []
+
+-- fix.(if 0 then #0 else 1) : Int: every third term is smaller than the one before
+unfoldable pub choosingLoop : List ℕ
+choosingLoop =
+    line 17 0 0 0 0 0 0 0
+    ++ line 16 0 0 0 0 0 0 0
+    ++ line 17 0 0 0 1 0 0 0
+    ++ line 27 0 0 0 1 0 2 0
+    ++ line 1 0 0 0 0 0 0 0
+    ++ line 23 0 3 0 4 0 0 0
+    ++ line 240 1 6 0 5 0 0 0
+
+-- a function on Int & (Int & Int) that puts its argument in three records and shows one, on 1: its 13 cells are a term of 18
+unfoldable pub threeCopies : List ℕ
+threeCopies =
+    line 1 0 0 0 0 0 0 0
+    ++ line 16 0 0 0 0 0 0 0
+    ++ line 24 1 1 0 0 0 0 0
+    ++ line 24 2 1 0 0 0 0 0
+    ++ line 24 3 1 0 0 0 0 0
+    ++ line 22 0 3 0 4 0 0 0
+    ++ line 22 0 2 0 5 0 0 0
+    ++ line 4 0 0 0 0 0 0 0
+    ++ line 4 0 0 0 7 0 0 0
+    ++ line 5 1 0 0 0 0 0 0
+    ++ line 21 0 6 0 8 0 9 0
+    ++ line 17 0 0 0 1 0 0 0
+    ++ line 20 0 10 0 11 0 0 0
+    ++ line 240 1 13 0 12 0 0 0
+
+-- 1 : Int in a book of eight cells, five of which the root does not reach
+unfoldable pub unreachedCells : List ℕ
+unreachedCells =
+    line 1 0 0 0 0 0 0 0
+    ++ line 17 0 0 0 1 0 0 0
+    ++ line 22 0 1 0 1 0 0 0
+    ++ line 22 0 2 0 2 0 0 0
+    ++ line 22 0 3 0 3 0 0 0
+    ++ line 22 0 4 0 4 0 0 0
+    ++ line 22 0 5 0 5 0 0 0
+    ++ line 19 0 1 0 0 0 0 0
+    ++ line 240 1 8 0 7 0 0 0
+
+-- Document 02, (viii): the greatest term is the first, one on the way, or the last; of a book that shares cells, or has cells that its root does not reach, it is
+-- the term that counts.
+unfoldable pub marks : List Sample
+marks =
+    sample "the fixpoint if 0 then itself else 1" choosingLoop (run 0) (stopped spent 0 6) (line 17 0 0 0 0 0 0 0 ++ line 16 0 0 0 0 0 0 0 ++ line 17 0 0 0 1 0 0 0 ++ line 27 0 0 0 1 0 2 0 ++ line 1 0 0 0 0 0 0 0 ++ line 23 0 3 0 4 0 0 0 ++ line 240 1 6 0 5 0 0 0)
+    ∷ sample "the fixpoint if 0 then itself else 1" choosingLoop (run 1) (stopped spent 1 11) (line 17 0 0 0 0 0 0 0 ++ line 17 0 0 0 0 0 0 0 ++ line 16 0 0 0 0 0 0 0 ++ line 17 0 0 0 1 0 0 0 ++ line 27 0 1 0 2 0 3 0 ++ line 1 0 0 0 0 0 0 0 ++ line 23 0 4 0 5 0 0 0 ++ line 17 0 0 0 1 0 0 0 ++ line 27 0 0 0 6 0 7 0 ++ line 1 0 0 0 0 0 0 0 ++ line 19 0 8 0 9 0 0 0 ++ line 240 1 11 0 10 0 0 0)
+    ∷ sample "the fixpoint if 0 then itself else 1" choosingLoop (run 2) (stopped spent 2 11) (line 17 0 0 0 0 0 0 0 ++ line 16 0 0 0 0 0 0 0 ++ line 17 0 0 0 1 0 0 0 ++ line 27 0 0 0 1 0 2 0 ++ line 1 0 0 0 0 0 0 0 ++ line 23 0 3 0 4 0 0 0 ++ line 1 0 0 0 0 0 0 0 ++ line 19 0 5 0 6 0 0 0 ++ line 1 0 0 0 0 0 0 0 ++ line 19 0 7 0 8 0 0 0 ++ line 240 1 10 0 9 0 0 0)
+    ∷ sample "the fixpoint if 0 then itself else 1" choosingLoop (run 3) (stopped spent 3 15) (line 17 0 0 0 0 0 0 0 ++ line 17 0 0 0 0 0 0 0 ++ line 16 0 0 0 0 0 0 0 ++ line 17 0 0 0 1 0 0 0 ++ line 27 0 1 0 2 0 3 0 ++ line 1 0 0 0 0 0 0 0 ++ line 23 0 4 0 5 0 0 0 ++ line 17 0 0 0 1 0 0 0 ++ line 27 0 0 0 6 0 7 0 ++ line 1 0 0 0 0 0 0 0 ++ line 19 0 8 0 9 0 0 0 ++ line 1 0 0 0 0 0 0 0 ++ line 19 0 10 0 11 0 0 0 ++ line 1 0 0 0 0 0 0 0 ++ line 19 0 12 0 13 0 0 0 ++ line 240 1 15 0 14 0 0 0)
+    ∷ sample "the fixpoint if 0 then itself else 1" choosingLoop (run 4) (stopped spent 4 15) (line 17 0 0 0 0 0 0 0 ++ line 16 0 0 0 0 0 0 0 ++ line 17 0 0 0 1 0 0 0 ++ line 27 0 0 0 1 0 2 0 ++ line 1 0 0 0 0 0 0 0 ++ line 23 0 3 0 4 0 0 0 ++ line 1 0 0 0 0 0 0 0 ++ line 19 0 5 0 6 0 0 0 ++ line 1 0 0 0 0 0 0 0 ++ line 19 0 7 0 8 0 0 0 ++ line 1 0 0 0 0 0 0 0 ++ line 19 0 9 0 10 0 0 0 ++ line 1 0 0 0 0 0 0 0 ++ line 19 0 11 0 12 0 0 0 ++ line 240 1 14 0 13 0 0 0)
+    ∷ sample "the argument in three records, one shown" threeCopies (run 0) (stopped spent 0 18) (line 16 0 0 0 0 0 0 0 ++ line 24 1 0 0 0 0 0 0 ++ line 16 0 0 0 0 0 0 0 ++ line 24 2 2 0 0 0 0 0 ++ line 16 0 0 0 0 0 0 0 ++ line 24 3 4 0 0 0 0 0 ++ line 22 0 3 0 5 0 0 0 ++ line 22 0 1 0 6 0 0 0 ++ line 1 0 0 0 0 0 0 0 ++ line 1 0 0 0 0 0 0 0 ++ line 1 0 0 0 0 0 0 0 ++ line 4 0 9 0 10 0 0 0 ++ line 4 0 8 0 11 0 0 0 ++ line 1 0 0 0 0 0 0 0 ++ line 5 1 13 0 0 0 0 0 ++ line 21 0 7 0 12 0 14 0 ++ line 17 0 0 0 1 0 0 0 ++ line 20 0 15 0 16 0 0 0 ++ line 240 1 18 0 17 0 0 0)
+    ∷ sample "the argument in three records, one shown" threeCopies (run 1) (stopped spent 1 23) (line 17 0 0 0 1 0 0 0 ++ line 17 0 0 0 1 0 0 0 ++ line 17 0 0 0 1 0 0 0 ++ line 22 0 1 0 2 0 0 0 ++ line 22 0 0 0 3 0 0 0 ++ line 24 1 4 0 0 0 0 0 ++ line 17 0 0 0 1 0 0 0 ++ line 17 0 0 0 1 0 0 0 ++ line 17 0 0 0 1 0 0 0 ++ line 22 0 7 0 8 0 0 0 ++ line 22 0 6 0 9 0 0 0 ++ line 24 2 10 0 0 0 0 0 ++ line 17 0 0 0 1 0 0 0 ++ line 17 0 0 0 1 0 0 0 ++ line 17 0 0 0 1 0 0 0 ++ line 22 0 13 0 14 0 0 0 ++ line 22 0 12 0 15 0 0 0 ++ line 24 3 16 0 0 0 0 0 ++ line 22 0 11 0 17 0 0 0 ++ line 22 0 5 0 18 0 0 0 ++ line 1 0 0 0 0 0 0 0 ++ line 5 1 20 0 0 0 0 0 ++ line 19 0 19 0 21 0 0 0 ++ line 240 1 23 0 22 0 0 0)
+    ∷ sample "the argument in three records, one shown" threeCopies (run 2) (stopped value 2 23) (line 17 0 0 0 1 0 0 0 ++ line 24 1 0 0 0 0 0 0 ++ line 240 1 2 0 1 0 0 0)
+    ∷ sample "the argument in three records, one shown" threeCopies (run 3) (stopped value 2 23) (line 17 0 0 0 1 0 0 0 ++ line 24 1 0 0 0 0 0 0 ++ line 240 1 2 0 1 0 0 0)
+    ∷ sample "1 under Int, five cells beside it" unreachedCells (run 0) (stopped spent 0 3) (line 17 0 0 0 1 0 0 0 ++ line 1 0 0 0 0 0 0 0 ++ line 19 0 0 0 1 0 0 0 ++ line 240 1 3 0 2 0 0 0)
+    ∷ sample "1 under Int, five cells beside it" unreachedCells (run 1) (stopped value 1 3) (line 17 0 0 0 1 0 0 0 ++ line 240 1 1 0 0 0 0 0)
     ∷ []
 
 -- A small book for each row from 2 to 15, with the number and the cell that it is refused with. docs/FORMAT.md has the same books.
