@@ -1,5 +1,6 @@
--- Document 01, "Sample books": those marked M, as one list; books for the field reads, sums and choices, bodies, numbers of 48 bits, and values in two orders of
--- document 02, (i) to (v), terms that grow and shrink of (viii); and a small book for each row from 2 to 15 of "Where a book is turned back". Bytes, answers and encoded bytes are literals. Assumes nothing.
+-- Document 01, "Sample books": those marked M, as one list; books for the field reads, sums and choices, bodies, numbers of 48 bits, values in two orders, and
+-- terms that grow and shrink of document 02, (i) to (v) and (viii); and a small book for each row from 2 to 15 of "Where a book is turned back". Bytes, answers and
+-- encoded bytes are literals. Assumes nothing.
 use Prim.Native.Nat.{ℕ}
 use Prim.Native.String.{String}
 use mathlib.Core.Path.{_≡_}
@@ -1558,7 +1559,7 @@ orders =
     ∷ sample "functions with the bodies 1,,{1=2} and {1=2},,1" reorderedBodies check (refused 14 20) []
     ∷ []
 
--- fix.(if 0 then #0 else 1) : Int: every third term is smaller than the one before
+-- fix.(if 0 then #0 else 1) : Int: sizes 6, 11, 10, 15, 14, ..
 unfoldable pub choosingLoop : List ℕ
 choosingLoop =
     line 17 0 0 0 0 0 0 0
