@@ -147,7 +147,7 @@ mod tests {
     fn progress_is_taken_away() {
         let (mut out, mut err) = (Vec::new(), Vec::new());
         let mut terminal = Terminal::plain(&mut out, &mut err);
-        let ran = |steps, mark, cells| Ran { stop: Stop::Spent, steps, mark, left: vec![0; (cells + 1) * CELL] };
+        let ran = |steps, mark, cells: usize| Ran { stop: Stop::Spent, steps, mark, left: vec![0; (cells + 1) * CELL] };
         terminal.progress(&ran(100, 2_000, 2_000));
         terminal.progress(&ran(200, 2_300, 3));
         terminal.clear();

@@ -442,6 +442,10 @@ fn progress_on_a_terminal() {
     assert!(first.is_empty() && told[1].contains(" steps, ") && told[1].contains(" cells, largest "), "{printed:?}");
     assert!(told[told.len() - 2].trim().is_empty() && last.starts_with("stopped for steps after 16000000 steps: "), "{printed:?}");
     assert!(!printed.contains('\x1b'), "{printed:?}");
+    // The largest term so far never shrinks, and the run's is no smaller.
+    let largest = |told: &str| told.split("largest ").nth(1)?.trim_start_matches("term: ").split_whitespace().next()?.parse().ok();
+    let marks: Vec<u32> = told.iter().filter_map(|told| largest(told)).collect();
+    assert!(marks.len() == told.len() - 2 && marks.windows(2).all(|pair| pair[0] <= pair[1]), "{printed:?}");
     // What does not take long says nothing of how far it is.
     let quick = on_terminal("run books/spent_loop.book --limit 1000", "1").expect("a terminal");
     assert!(quick.starts_with("stopped for steps after 1000 steps: "), "{quick:?}");

@@ -112,8 +112,10 @@ const VALUE: &str = "value";
 const STEPS: &str = "stopped for steps";
 const ROOM: &str = "stopped for room";
 
-/// Texts, and for a limit why the run stops, after how many steps, and its largest term.
-const RUNS: [(&str, &[(u32, &str, u32, usize)]); 5] = [
+/// A limit, why the run stops under it, after how many steps, and its largest term.
+type Limited = (u32, &'static str, u32, usize);
+
+const RUNS: [(&str, &[Limited]); 5] = [
     ("7", &[(0, VALUE, 0, 1), (5, VALUE, 0, 1)]),
     (
         "fix self : Int . self",
