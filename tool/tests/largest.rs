@@ -115,6 +115,7 @@ const ROOM: &str = "stopped for room";
 /// A limit, why the run stops under it, after how many steps, and its largest term.
 type Limited = (u32, &'static str, u32, usize);
 
+/// Texts, and their runs.
 const RUNS: [(&str, &[Limited]); 5] = [
     ("7", &[(0, VALUE, 0, 1), (5, VALUE, 0, 1)]),
     (
