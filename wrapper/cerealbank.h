@@ -21,11 +21,15 @@ extern "C" {
    to take. */
 #define CEREALBANK_STACK 1150976
 
-/* An answer: its value in bits 0 to 31, its tag in bits 32 to 39. Bits 40 to 63 are for a second figure, which a join and a preview have; of a
-   check and a run they are zero. */
+/* An answer: its value in bits 0 to 31, its tag in bits 32 to 39. Bits 40 to 63 are for a second figure, which a run, a join and a preview have;
+   of a check they are zero. */
 #define CEREALBANK_VALUE(answer) ((uint32_t)(answer))
 #define CEREALBANK_TAG(answer) ((uint32_t)((uint64_t)(answer) >> 32 & 255))
 #define CEREALBANK_SECOND(answer) ((uint32_t)((uint64_t)(answer) >> 40))
+
+/* The second figure of a run that is not refused: its mark, the greatest size of any term so far, the first and the one reached included. It is at
+   most 4,095; a term for which there was no room does not count. Of a refusal it is zero. */
+#define CEREALBANK_MARK(answer) CEREALBANK_SECOND(answer)
 
 /* The second figure of a join: the book that its answer means in bits 40 to 47, and in bits 48 to 63 how many bytes hold the joint, 0 when
    refused. A preview has the same: as many bytes would hold the joint. */
@@ -51,7 +55,8 @@ extern "C" {
    or refused with a zeroed work buffer. Refusal 1 touches nothing. */
 uint64_t cerealbank_check(const uint8_t *book, size_t book_len, uint8_t *work, size_t work_len);
 
-/* Runs a book for at most limit steps, and leaves the term reached as a check leaves the type. */
+/* Runs a book for at most limit steps: refused as a check refuses it, or stopped, with the steps taken, the mark, and the term reached left as a check
+   leaves the type. */
 uint64_t cerealbank_run(const uint8_t *book, size_t book_len, uint8_t *work, size_t work_len, uint32_t limit);
 
 /* Joins a part to the project that the first length of the project's lent bytes hold; lent are CEREALBANK_PROJECT bytes. The project is checked,

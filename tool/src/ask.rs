@@ -1,10 +1,10 @@
 //! What the library says. Every question about types and values becomes a book, and the library's answer is the answer; which type a part
 //! names is read off the table of docs/FORMAT.md.
 
-use crate::book::{Book, Part};
+use crate::book::{Book, Part, CELL};
 use crate::kinds::Kind;
 pub use cerealbank::Which;
-use cerealbank::{Answer, Joined, PROJECT, WORK};
+use cerealbank::{Answer, Joined, RunAnswer, PROJECT, WORK};
 use std::collections::HashMap;
 
 /// A refusal: its number and its cell.
@@ -22,11 +22,20 @@ pub enum Stop {
     Room,
 }
 
-/// A run: why it stopped, after how many steps, and the book of the term reached.
+/// A run: why it stopped, after how many steps, the greatest size of any term so far, and the book of the term reached.
+#[derive(PartialEq, Eq, Debug)]
 pub struct Ran {
     pub stop: Stop,
     pub steps: u32,
+    pub mark: u32,
     pub left: Vec<u8>,
+}
+
+impl Ran {
+    /// The size of the term reached: nothing is shared in its book.
+    pub fn cells(&self) -> usize {
+        self.left.len() / CELL - 1
+    }
 }
 
 /// An answer that the library never gives. It names no cell.
@@ -44,13 +53,14 @@ pub fn check(book: &[u8]) -> Result<Vec<u8>, Refusal> {
 /// Runs a book.
 pub fn run(book: &[u8], limit: u32) -> Result<Ran, Refusal> {
     let mut work = vec![0; WORK];
-    let (stop, steps) = match cerealbank::run(book, &mut work, limit) {
-        Answer::Value { steps } => (Stop::Value, steps),
-        Answer::Spent { steps } => (Stop::Spent, steps),
-        Answer::Room { steps } => (Stop::Room, steps),
-        other => return Err(refusal(other)),
+    let (stop, steps, mark) = match cerealbank::run(book, &mut work, limit) {
+        RunAnswer::Value { steps, mark } => (Stop::Value, steps, mark),
+        RunAnswer::Spent { steps, mark } => (Stop::Spent, steps, mark),
+        RunAnswer::Room { steps, mark } => (Stop::Room, steps, mark),
+        RunAnswer::Refused { number, cell } => return Err(Refusal { number, cell: cell as usize }),
+        RunAnswer::Unknown { .. } => return Err(NO_ANSWER),
     };
-    Ok(Ran { stop, steps, left: Book::left_in(&work).to_vec() })
+    Ok(Ran { stop, steps, mark, left: Book::left_in(&work).to_vec() })
 }
 
 /// The joint of two books, and its type as a book.

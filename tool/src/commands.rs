@@ -2,7 +2,7 @@
 
 use crate::ask::{check, join, preview, run, Ran, Refusal, Stop, NO_ANSWER};
 use crate::assemble::assemble;
-use crate::book::Book;
+use crate::book::{Book, MOST_CELLS};
 use crate::cells::{graph, table};
 use crate::explanation::{printed, with_carets};
 use crate::format::{headings, section, NUMBERS};
@@ -77,7 +77,7 @@ static COMMANDS: [Command; 6] = [
     Command {
         name: "run",
         arguments: &["BOOK"],
-        does: "prints why the run stopped, after how many steps, and the term reached",
+        does: "prints why the run stopped, after how many steps, how large its terms became, and the term reached",
         flags: &["--limit", "--trace", "-o", "--book", "--notation"],
         run: run_book,
     },
@@ -366,23 +366,24 @@ fn ran(bytes: &[u8], limit: u32, terminal: &mut Terminal) -> Result<Ran, Refusal
         return run(bytes, limit);
     }
     let start = Instant::now();
-    let ran = watched(bytes, limit, |steps, cells| {
+    let ran = watched(bytes, limit, |so_far| {
         if start.elapsed() > PATIENCE {
-            terminal.progress(steps, cells);
+            terminal.progress(so_far);
         }
     });
     terminal.clear();
     ran
 }
 
-/// Why a run stopped, and after how many steps.
+/// Why a run stopped, after how many steps, and the cells of its largest term.
 fn ending(ran: &Ran) -> String {
     let steps = format!("{} step{}", ran.steps, if ran.steps == 1 { "" } else { "s" });
-    match ran.stop {
-        Stop::Value => format!("value after {steps}\n"),
-        Stop::Spent => format!("stopped for steps after {steps}: the term is no value yet\n"),
-        Stop::Room => format!("stopped for room after {steps}: the next term has more than 4095 cells\n"),
-    }
+    let why = match ran.stop {
+        Stop::Value => format!("value after {steps}"),
+        Stop::Spent => format!("stopped for steps after {steps}: the term is no value yet"),
+        Stop::Room => format!("stopped for room after {steps}: the next term has more than {MOST_CELLS} cells"),
+    };
+    format!("{why}\nlargest term: {} of {MOST_CELLS} cells\n", ran.mark)
 }
 
 /// Every term with its number of steps before it.

@@ -1,30 +1,40 @@
 //! Runs: whole ones, watched ones, and one step after the other. The library takes every step.
 
 use crate::ask::{run, Ran, Refusal, Stop};
-use crate::book::{Book, Part, CELL};
+use crate::book::{Book, Part};
 use std::collections::HashMap;
 use std::time::{Duration, Instant};
 
 /// A watched run is asked for in parts that are doubled until one takes this long.
 const LONG: Duration = Duration::from_millis(100);
 
-/// Runs a book in parts, each from where the last one stopped, and tells after each how many steps were taken and how many cells the term
-/// has. What is laid down after some steps is a book, and goes on as the run would have gone on: the answer is that of a whole run.
-pub fn watched(book: &[u8], limit: u32, mut tell: impl FnMut(u32, usize)) -> Result<Ran, Refusal> {
-    let (mut here, mut steps, mut part) = (book.to_vec(), 0, 1);
+/// Runs a book in parts, each from where the last one stopped: the first has so many steps, and `next`, told the run so far, says how many
+/// the next has. What is laid down after some steps is a book, and goes on as the run would have gone on: the answer is that of a whole run.
+/// A part's first term is the last of the part before, so the largest term is the largest of any part.
+pub fn in_parts(book: &[u8], limit: u32, first: u32, mut next: impl FnMut(&Ran) -> u32) -> Result<Ran, Refusal> {
+    let mut part = first;
+    let mut so_far = Ran { stop: Stop::Spent, steps: 0, mark: 0, left: book.to_vec() };
     loop {
-        let start = Instant::now();
-        let ran = run(&here, part.min(limit - steps))?;
-        steps += ran.steps;
-        if ran.stop != Stop::Spent || steps == limit {
-            return Ok(Ran { steps, ..ran });
+        let ran = run(&so_far.left, part.min(limit - so_far.steps))?;
+        so_far = Ran { steps: so_far.steps + ran.steps, mark: so_far.mark.max(ran.mark), ..ran };
+        if so_far.stop != Stop::Spent || so_far.steps == limit {
+            return Ok(so_far);
         }
-        tell(steps, ran.left.len() / CELL - 1);
-        here = ran.left;
+        part = next(&so_far);
+    }
+}
+
+/// Runs a book in parts, and tells the run so far after each but the last.
+pub fn watched(book: &[u8], limit: u32, mut tell: impl FnMut(&Ran)) -> Result<Ran, Refusal> {
+    let (mut start, mut part) = (Instant::now(), 1_u32);
+    in_parts(book, limit, part, |so_far| {
         if start.elapsed() < LONG {
             part = part.saturating_mul(2);
         }
-    }
+        tell(so_far);
+        start = Instant::now();
+        part
+    })
 }
 
 /// A term that a run reaches, and the cell of it that the next step changes, if there is one.

@@ -1,5 +1,6 @@
 //! Where a command prints: colours and progress on a terminal, plain text anywhere else.
 
+use crate::ask::Ran;
 use crate::explanation::WOULD_BE;
 use std::ffi::OsString;
 use std::io::{self, ErrorKind, IsTerminal, Write};
@@ -67,10 +68,10 @@ impl<'a> Terminal<'a> {
         self.err.write_all(text.as_bytes()).ok();
     }
 
-    /// How far a long run is.
-    pub fn progress(&mut self, steps: u32, cells: usize) {
+    /// How far a long run is: its steps, the cells of the term reached and of the largest so far.
+    pub fn progress(&mut self, so_far: &Ran) {
         if !self.quiet {
-            let text = format!("{steps} steps, {cells} cells");
+            let text = format!("{} steps, {} cells, largest {}", so_far.steps, so_far.cells(), so_far.mark);
             self.complain(&format!("\r{text:width$}", width = self.told));
             self.told = text.len();
         }
@@ -114,7 +115,9 @@ fn coloured_line(line: &str) -> String {
 
 #[cfg(test)]
 mod tests {
-    use super::{coloured, has_colours, Terminal, GREEN, PLAIN, RED};
+    use super::{coloured, has_colours, Ran, Terminal, GREEN, PLAIN, RED};
+    use crate::ask::Stop;
+    use crate::book::CELL;
 
     #[test]
     fn colours_only_on_a_terminal_without_no_color() {
@@ -144,13 +147,16 @@ mod tests {
     fn progress_is_taken_away() {
         let (mut out, mut err) = (Vec::new(), Vec::new());
         let mut terminal = Terminal::plain(&mut out, &mut err);
-        terminal.progress(100, 2_000);
-        terminal.progress(200, 3);
+        let ran = |steps, mark, cells: usize| Ran { stop: Stop::Spent, steps, mark, left: vec![0; (cells + 1) * CELL] };
+        terminal.progress(&ran(100, 2_000, 2_000));
+        terminal.progress(&ran(200, 2_300, 3));
         terminal.clear();
         terminal.clear();
         terminal.quiet = true;
-        terminal.progress(300, 3);
-        assert_eq!(String::from_utf8(err).expect("a text"), "\r100 steps, 2000 cells\r200 steps, 3 cells   \r                  \r");
+        terminal.progress(&ran(300, 2_300, 3));
+        let (first, second) = ("100 steps, 2000 cells, largest 2000", "200 steps, 3 cells, largest 2300   ");
+        let blanks = " ".repeat(second.trim_end().len());
+        assert_eq!(String::from_utf8(err).expect("a text"), format!("\r{first}\r{second}\r{blanks}\r"));
         assert!(out.is_empty());
     }
 }

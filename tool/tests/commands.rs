@@ -2,7 +2,7 @@
 
 mod common;
 
-use common::{answered, at, bytes, called, files, generated, text};
+use common::{answered, at, bytes, called, files, generated, on_terminal, text};
 use compare::deepest::deepest;
 use std::fs;
 use std::process::{Command, Stdio};
@@ -67,7 +67,7 @@ fn exit_status() {
 fn books_from_anywhere() {
     let book = bytes("books/hidden_field.book");
     let notation = text("books/hidden_field.txt");
-    let expected = ("value after 4 steps\n2\n".to_owned(), 0);
+    let expected = ("value after 4 steps\nlargest term: 18 of 4095 cells\n2\n".to_owned(), 0);
     assert_eq!(answered(&["run", "books/hidden_field.book"], b""), expected);
     assert_eq!(answered(&["run", "books/hidden_field.txt"], b""), expected);
     assert_eq!(answered(&["run"], &book), expected);
@@ -96,7 +96,7 @@ fn files_are_written() {
     let seven = fs::read(&file).expect("the term reached");
     let on = answered(&["run", "--limit", "3"], &seven).0;
     let ten = answered(&["run", "books/spent_loop.book", "--limit", "10"], b"").0;
-    assert_eq!(on.lines().skip(1).collect::<Vec<_>>(), ten.lines().skip(1).collect::<Vec<_>>());
+    assert_eq!(on.lines().skip(2).collect::<Vec<_>>(), ten.lines().skip(2).collect::<Vec<_>>());
     fs::remove_file(&file).expect("the file goes");
 }
 
@@ -373,7 +373,7 @@ fn flags_are_heeded() {
 fn labels_are_shown_by_name() {
     let text = b"label size = 7 {size = 1 + 2}";
     assert_eq!(answered(&["check"], text).0, "accepted: {size : Int}\n");
-    assert_eq!(answered(&["run"], text).0, "value after 1 step\n{size = 3}\n");
+    assert_eq!(answered(&["run"], text).0, "value after 1 step\nlargest term: 4 of 4095 cells\n{size = 3}\n");
     assert_eq!(answered(&["show"], text).0, "label size = 7\n{size = 1 + 2}\n");
     assert!(answered(&["run", "--trace"], text).0.starts_with("    0  {size = 1 + 2}\n               ^^^^^\n    1  {size = 3}\n"));
 }
@@ -417,14 +417,6 @@ fn cells_and_graphs_word_for_word() {
     assert_eq!(answered(&["show", "--dot"], &made), (GRAPH.into(), 0));
 }
 
-/// What the program prints on a terminal, where there is `script` to be one.
-fn on_terminal(arguments: &str, no_color: &str) -> Option<String> {
-    let command = format!("{} {arguments}", env!("CARGO_BIN_EXE_cerealbank"));
-    let mut script = Command::new("script");
-    script.args(["-qec", &command, "/dev/null"]).env("NO_COLOR", no_color).current_dir(at(".")).stdin(std::process::Stdio::null());
-    Some(String::from_utf8_lossy(&script.output().ok()?.stdout).replace("\r\n", "\n"))
-}
-
 #[test]
 fn colours_on_a_terminal() {
     let Some(printed) = on_terminal("check books/refusals/14.book", "") else { return };
@@ -447,9 +439,13 @@ fn progress_on_a_terminal() {
     let Some(printed) = on_terminal("run target/long.txt --limit 16000000", "1") else { return };
     let told: Vec<&str> = printed.split('\r').collect();
     let [first, .., last] = &told[..] else { panic!("{printed:?}") };
-    assert!(first.is_empty() && told[1].contains(" steps, ") && told[1].ends_with(" cells"), "{printed:?}");
+    assert!(first.is_empty() && told[1].contains(" steps, ") && told[1].contains(" cells, largest "), "{printed:?}");
     assert!(told[told.len() - 2].trim().is_empty() && last.starts_with("stopped for steps after 16000000 steps: "), "{printed:?}");
     assert!(!printed.contains('\x1b'), "{printed:?}");
+    // The largest term so far never shrinks, and the run's is no smaller.
+    let largest = |told: &str| told.split("largest ").nth(1)?.trim_start_matches("term: ").split_whitespace().next()?.parse().ok();
+    let marks: Vec<u32> = told.iter().filter_map(|told| largest(told)).collect();
+    assert!(marks.len() == told.len() - 2 && marks.windows(2).all(|pair| pair[0] <= pair[1]), "{printed:?}");
     // What does not take long says nothing of how far it is.
     let quick = on_terminal("run books/spent_loop.book --limit 1000", "1").expect("a terminal");
     assert!(quick.starts_with("stopped for steps after 1000 steps: "), "{quick:?}");

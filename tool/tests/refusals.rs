@@ -348,9 +348,8 @@ fn a_watched_run_is_the_run() {
         let book = bytes(&format!("books/{name}.book"));
         for limit in [0, 1, 2, 5, 37, 38, 39, 2_045, 2_046, 2_047, 10_000] {
             let mut told = Vec::new();
-            let watched = watched(&book, limit, |steps, _| told.push(steps));
-            let shown = |ran: Result<tool::ask::Ran, tool::ask::Refusal>| ran.map(|ran| (ran.stop, ran.steps, ran.left));
-            assert_eq!(shown(watched), shown(run(&book, limit)), "{name} {limit}");
+            let watched = watched(&book, limit, |so_far| told.push(so_far.steps));
+            assert_eq!(watched, run(&book, limit), "{name} {limit}");
             assert!(told.windows(2).all(|pair| pair[0] < pair[1]) && told.iter().all(|&steps| steps < limit));
         }
     }
@@ -613,11 +612,12 @@ fn traces_end_at_the_limit_and_progress_counts_cells() {
     let printed = answered(&["run", "--trace", "--limit", "1"], b"1 + 2 + 3").0;
     assert_eq!(
         printed,
-        "    0  1 + 2 + 3\n       ^^^^^\n    1  3 + 3\n       ^^^^^\nstopped for steps after 1 step: the term is no value yet\n"
+        "    0  1 + 2 + 3\n       ^^^^^\n    1  3 + 3\n       ^^^^^\nstopped for steps after 1 step: the term is no value yet\n\
+         largest term: 5 of 4095 cells\n"
     );
     let loops = bytes("books/spent_loop.book");
-    let _ = tool::running::watched(&loops, 50, |steps, cells| {
-        let left = tool::ask::run(&loops, steps).expect("a run").left;
-        assert_eq!(cells, Book::read(&left).expect("a book").parts.len());
+    let _ = tool::running::watched(&loops, 50, |so_far| {
+        let left = tool::ask::run(&loops, so_far.steps).expect("a run").left;
+        assert_eq!(so_far.cells(), Book::read(&left).expect("a book").parts.len());
     });
 }

@@ -12,7 +12,7 @@
 //!
 #![cfg_attr(not(library_missing), doc = "```")]
 #![cfg_attr(library_missing, doc = "```ignore")]
-//! use cerealbank::{check, run, Answer, WORK};
+//! use cerealbank::{check, run, Answer, RunAnswer, WORK};
 //!
 //! let book = [
 //!     17, 0, 0, 0, 1, 0, 0, 0, // number 1
@@ -25,8 +25,8 @@
 //! assert_eq!(check(&book, &mut work), Answer::Accepted { size: 3 });
 //! assert_eq!(work[..8], [1, 0, 0, 0, 0, 0, 0, 0]);
 //!
-//! // It is a value already. The term is encoded with nothing shared.
-//! assert_eq!(run(&book, &mut work, 100), Answer::Value { steps: 0 });
+//! // It is a value already. The term is encoded with nothing shared: three cells, and no term of the run was larger.
+//! assert_eq!(run(&book, &mut work, 100), RunAnswer::Value { steps: 0, mark: 3 });
 //! assert_eq!(work[8..16], [17, 0, 0, 0, 1, 0, 0, 0]);
 //!
 //! // A book cut short is refused, and the work buffer is zero.
@@ -91,6 +91,9 @@ const NO_ROOM: u8 = 35;
 const TAG_PLACE: u32 = 32;
 const SECOND_PLACE: u32 = 40;
 
+// The second figure of a run that is not refused is its mark: no term of a run is larger.
+const LARGEST: u32 = 4_095;
+
 // Of a join and of a preview, the second figure is the book that is meant, and above it the byte count.
 const WHICH_PLACE: u32 = 40;
 const BYTES_PLACE: u32 = 48;
@@ -98,7 +101,7 @@ const OF_PROJECT: u8 = 1;
 const OF_PART: u8 = 2;
 const OF_JOINT: u8 = 3;
 
-/// What a call says of a book.
+/// What a check says of a book, and a join or its preview of the book that it means.
 #[derive(Clone, Copy, PartialEq, Eq, Debug)]
 pub enum Answer {
     /// The book is refused, with the number and cell that docs/FORMAT.md explains.
@@ -113,20 +116,44 @@ pub enum Answer {
         /// The type's count of cells.
         size: u32,
     },
-    /// A run came to a value and encoded it.
+    /// No answer of this list. An engine that keeps its contract never gives one.
+    Unknown {
+        /// What the engine returned.
+        packed: u64,
+    },
+}
+
+/// What a run says of a book: refused as a check refuses it, or why it stopped. The mark of a run is the greatest size of any term so far,
+/// the first and the one reached included: at most 4,095 cells. A term for which there was no room does not count.
+#[derive(Clone, Copy, PartialEq, Eq, Debug)]
+pub enum RunAnswer {
+    /// The book is refused, with the number and cell that docs/FORMAT.md explains.
+    Refused {
+        /// 1 to 31, of which 1 to 15 are in use.
+        number: u8,
+        /// The cell that is meant; 0 for the numbers 1 to 4.
+        cell: u32,
+    },
+    /// The run came to a value and encoded it.
     Value {
         /// The steps taken.
         steps: u32,
+        /// The greatest size of any term so far.
+        mark: u32,
     },
-    /// A run took as many steps as its limit allows and encoded the term reached.
+    /// The run took as many steps as its limit allows and encoded the term reached.
     Spent {
         /// The steps taken.
         steps: u32,
+        /// The greatest size of any term so far.
+        mark: u32,
     },
-    /// A run stopped where the next term has more than 4,095 cells, and encoded the term reached.
+    /// The run stopped where the next term has more than 4,095 cells, and encoded the term reached.
     Room {
         /// The steps taken.
         steps: u32,
+        /// The greatest size of any term so far, the next not counted.
+        mark: u32,
     },
     /// No answer of this list. An engine that keeps its contract never gives one.
     Unknown {
@@ -135,21 +162,31 @@ pub enum Answer {
     },
 }
 
+/// The engine returns a value in bits 0 to 31, a tag in bits 32 to 39 and a second figure in the bits above.
+fn parts(packed: u64) -> (u8, u32, u32) {
+    ((packed >> TAG_PLACE) as u8, packed as u32, (packed >> SECOND_PLACE) as u32)
+}
+
 impl Answer {
-    /// The engine returns a value in bits 0 to 31 and a tag in bits 32 to 39. The bits above are for a second figure, which no answer
-    /// has.
+    /// No second figure stands beside a refusal or an acceptance.
     fn unpacked(packed: u64) -> Answer {
-        let (second, tag, value) = (packed >> SECOND_PLACE, (packed >> TAG_PLACE) as u8, packed as u32);
-        if second != 0 {
-            return Answer::Unknown { packed };
-        }
-        match tag {
-            1..=LAST_REFUSAL => Answer::Refused { number: tag, cell: value },
-            ACCEPTED => Answer::Accepted { size: value },
-            TO_VALUE => Answer::Value { steps: value },
-            SPENT => Answer::Spent { steps: value },
-            NO_ROOM => Answer::Room { steps: value },
+        match parts(packed) {
+            (number @ 1..=LAST_REFUSAL, cell, 0) => Answer::Refused { number, cell },
+            (ACCEPTED, size, 0) => Answer::Accepted { size },
             _ => Answer::Unknown { packed },
+        }
+    }
+}
+
+impl RunAnswer {
+    /// The mark of a run stands beside its steps; a refusal has none.
+    fn unpacked(packed: u64) -> RunAnswer {
+        match parts(packed) {
+            (number @ 1..=LAST_REFUSAL, cell, 0) => RunAnswer::Refused { number, cell },
+            (TO_VALUE, steps, mark @ 1..=LARGEST) => RunAnswer::Value { steps, mark },
+            (SPENT, steps, mark @ 1..=LARGEST) => RunAnswer::Spent { steps, mark },
+            (NO_ROOM, steps, mark @ 1..=LARGEST) => RunAnswer::Room { steps, mark },
+            _ => RunAnswer::Unknown { packed },
         }
     }
 }
@@ -229,11 +266,12 @@ pub fn check(book: &[u8], work: &mut [u8]) -> Answer {
     Answer::unpacked(unsafe { cerealbank_check(book.as_ptr(), book.len(), work.as_mut_ptr(), work.len()) })
 }
 
-/// Runs a book for at most `limit` steps: [`Answer::Value`], [`Answer::Spent`] or [`Answer::Room`] with the term reached encoded
-/// as a book of its own, of the same version, at the start of the work buffer and zeros past it, or refused as a check refuses it.
-pub fn run(book: &[u8], work: &mut [u8], limit: u32) -> Answer {
+/// Runs a book for at most `limit` steps: [`RunAnswer::Value`], [`RunAnswer::Spent`] or [`RunAnswer::Room`], each with the steps taken
+/// and the greatest size of any term so far, and with the term reached encoded as a book of its own, of the same version, at the start of
+/// the work buffer and zeros past it; or refused as a check refuses it.
+pub fn run(book: &[u8], work: &mut [u8], limit: u32) -> RunAnswer {
     // SAFETY: as in `check`.
-    Answer::unpacked(unsafe { cerealbank_run(book.as_ptr(), book.len(), work.as_mut_ptr(), work.len(), limit) })
+    RunAnswer::unpacked(unsafe { cerealbank_run(book.as_ptr(), book.len(), work.as_mut_ptr(), work.len(), limit) })
 }
 
 /// Joins a part to a project, whose book is the first `length` bytes of `project`; all that is lent of it must be [`PROJECT`] bytes. The
@@ -260,7 +298,8 @@ pub fn preview(project: &[u8], length: usize, part: &[u8], work: &mut [u8]) -> J
 
 #[cfg(test)]
 mod tests {
-    use super::{Answer, Joined, Which, ACCEPTED, LAST_REFUSAL, NO_ROOM, PROJECT, SECOND_PLACE, SPENT, TAG_PLACE, TO_VALUE};
+    use super::{Answer, Joined, RunAnswer, Which};
+    use super::{ACCEPTED, LARGEST, LAST_REFUSAL, NO_ROOM, PROJECT, SECOND_PLACE, SPENT, TAG_PLACE, TO_VALUE};
 
     fn packed(second: u64, tag: u8, value: u32) -> u64 {
         second << SECOND_PLACE | u64::from(tag) << TAG_PLACE | u64::from(value)
@@ -273,22 +312,35 @@ mod tests {
 
     #[test]
     fn every_tag_is_unpacked() {
-        let unpacked = |tag, value| Answer::unpacked(packed(0, tag, value));
+        let [checked, ran] = [0, 4_095].map(|second| move |tag, value| packed(second, tag, value));
         for tag in 1..=LAST_REFUSAL {
-            assert_eq!(unpacked(tag, 4_094), Answer::Refused { number: tag, cell: 4_094 });
+            assert_eq!(Answer::unpacked(checked(tag, 4_094)), Answer::Refused { number: tag, cell: 4_094 });
+            assert_eq!(RunAnswer::unpacked(checked(tag, 4_094)), RunAnswer::Refused { number: tag, cell: 4_094 });
         }
-        assert_eq!(unpacked(ACCEPTED, 4_095), Answer::Accepted { size: 4_095 });
-        assert_eq!(unpacked(TO_VALUE, 0), Answer::Value { steps: 0 });
-        assert_eq!(unpacked(SPENT, u32::MAX), Answer::Spent { steps: u32::MAX });
-        assert_eq!(unpacked(NO_ROOM, 2_046), Answer::Room { steps: 2_046 });
+        assert_eq!(Answer::unpacked(checked(ACCEPTED, 4_095)), Answer::Accepted { size: 4_095 });
+        assert_eq!(RunAnswer::unpacked(packed(1, TO_VALUE, 0)), RunAnswer::Value { steps: 0, mark: 1 });
+        assert_eq!(RunAnswer::unpacked(ran(SPENT, u32::MAX)), RunAnswer::Spent { steps: u32::MAX, mark: 4_095 });
+        assert_eq!(RunAnswer::unpacked(ran(NO_ROOM, 2_046)), RunAnswer::Room { steps: 2_046, mark: 4_095 });
     }
 
     #[test]
-    fn another_tag_or_a_second_figure_is_unknown() {
+    fn what_no_check_says_is_unknown() {
         let tags = [0, NO_ROOM + 1, 255].map(|tag| packed(0, tag, 7));
+        let runs = [TO_VALUE, SPENT, NO_ROOM].map(|tag| packed(0, tag, 7));
         let seconds = [1, LAST_REFUSAL, ACCEPTED, TO_VALUE, SPENT, NO_ROOM].map(|tag| packed(1, tag, 7));
-        for packed in tags.into_iter().chain(seconds).chain([u64::MAX]) {
+        for packed in [&tags[..], &runs, &seconds, &[u64::MAX]].into_iter().flatten().copied() {
             assert_eq!(Answer::unpacked(packed), Answer::Unknown { packed });
+        }
+    }
+
+    #[test]
+    fn what_no_run_says_is_unknown() {
+        let others = [0, ACCEPTED, NO_ROOM + 1, 255].map(|tag| [packed(0, tag, 7), packed(7, tag, 7)]);
+        let marked = [1, LAST_REFUSAL].map(|tag| [packed(1, tag, 7), packed(4_095, tag, 0)]);
+        let marks = [TO_VALUE, SPENT, NO_ROOM].map(|tag| [packed(0, tag, 7), packed(u64::from(LARGEST) + 1, tag, 7)]);
+        let all = [&others[..], &marked, &marks, &[[0, u64::MAX]]];
+        for packed in all.into_iter().flatten().flatten().copied() {
+            assert_eq!(RunAnswer::unpacked(packed), RunAnswer::Unknown { packed }, "{packed:#x}");
         }
     }
 

@@ -94,3 +94,11 @@ pub fn answered(arguments: &[&str], input: &[u8]) -> (String, i32) {
     let status = output.status.code().unwrap_or_else(|| panic!("{arguments:?}: {:?}", output.status));
     (String::from_utf8_lossy(&output.stdout).into_owned() + &complaint, status)
 }
+
+/// What the program prints on a terminal, where there is `script` to be one.
+pub fn on_terminal(arguments: &str, no_color: &str) -> Option<String> {
+    let command = format!("{} {arguments}", env!("CARGO_BIN_EXE_cerealbank"));
+    let mut script = Command::new("script");
+    script.args(["-qec", &command, "/dev/null"]).env("NO_COLOR", no_color).current_dir(at(".")).stdin(Stdio::null());
+    Some(String::from_utf8_lossy(&script.output().ok()?.stdout).replace("\r\n", "\n"))
+}
