@@ -315,7 +315,7 @@ fn a_spent_run_continues_from_the_term_it_left() {
     let (first, half) = asked(|work| run(&book, work, 5));
     let (second, twice) = asked(|work| run(cut(&half), work, 5));
     let (whole, once) = asked(|work| run(&book, work, 10));
-    assert_eq!([first, second, whole], [(5, 18), (5, 20), (10, 20)].map(|(steps, mark)| RunAnswer::Spent { steps, mark }));
+    assert_eq!([first, second, whole], [(5, 68), (5, 64), (10, 68)].map(|(steps, mark)| RunAnswer::Spent { steps, mark }));
     assert!(twice == once, "the same bytes");
 }
 
