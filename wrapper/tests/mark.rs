@@ -1,4 +1,5 @@
-//! The mark of a run is the greatest size of any term so far: no more, no less. The sizes are counted in what runs with lower limits leave.
+//! The mark of a run is the greatest size of any term so far: no more, no less. The sizes are counted in what runs with lower limits leave, and in
+//! the terms that the evaluator's rules give one after another.
 
 #![cfg(not(library_missing))]
 
@@ -10,7 +11,7 @@ use compare::extremes::times;
 use compare::families::families;
 use compare::loops::triangular;
 use compare::samples::{doubled, hidden_field, identity, own_fixpoint};
-use evaluator::{encode_term, kind, restamped, Cell, Term, Type, Version, CELL};
+use evaluator::{decode, encode_term, kind, on_large_stack, restamped, successors, Cell, Term, Type, Version, CELL, DESK_LIMIT};
 use pages::blocks::{blocks, format};
 use pages::{asked, at, books_in, cut, ran};
 use std::fs;
@@ -221,16 +222,21 @@ fn a_refused_book_has_no_mark() {
 const LIMITS: u32 = 40;
 const OF_A_FAMILY: usize = 12;
 
-/// The sample books, those of FORMAT.md, the cases, and books that compare makes: each in both versions.
-fn books() -> Vec<Vec<u8>> {
+/// The books of the repository, by name.
+fn files() -> impl Iterator<Item = (String, Vec<u8>)> {
     let folders = ["books", "books/refusals", "books/merging", "books/joining"];
-    let of_folder = |folder| books_in(folder).into_iter().map(move |name| fs::read(at(folder).join(name)).expect("a book"));
+    let read = |folder, name: String| (name.clone(), fs::read(at(folder).join(name)).expect("a book"));
+    folders.into_iter().flat_map(move |folder| books_in(folder).into_iter().map(move |name| read(folder, name)))
+}
+
+/// Those, the books of FORMAT.md, the cases, and books that compare makes: each in both versions.
+fn books() -> Vec<Vec<u8>> {
     let (before, sections) = format();
     let pages = [before].into_iter().chain(sections.into_iter().map(|(_, section)| section));
     let shown = pages.flat_map(|page| blocks(&page)).map(|block| block.book);
     let random = families().into_iter().filter(|family| family.share > 0);
     let made = random.flat_map(|family| family.books(8, OF_A_FAMILY));
-    let all = folders.into_iter().flat_map(of_folder).chain(shown).chain(cases().into_iter().map(|case| case.book)).chain(made);
+    let all = files().map(|(_, book)| book).chain(shown).chain(cases().into_iter().map(|case| case.book)).chain(made);
     all.flat_map(|book| [restamped(&book), Some(book)]).flatten().collect()
 }
 
@@ -266,6 +272,32 @@ fn the_mark_is_the_greatest_size_of_what_lower_limits_leave() {
         places[place] += 1;
     }
     assert!(places.iter().all(|&count| count >= 50), "{places:?}");
+}
+
+/// The greatest size of the root and the terms that so many steps by the evaluator's rules give.
+fn in_the_calculus(book: &[u8], steps: u32) -> u64 {
+    on_large_stack(|| {
+        let (mut term, version) = decode(book).expect("a term");
+        let mut greatest = term.size();
+        for _ in 0..steps {
+            term = successors(&term, version).pop().expect("a successor");
+            greatest = greatest.max(term.size());
+        }
+        greatest
+    })
+}
+
+#[test]
+fn the_mark_is_that_of_the_terms_of_the_calculus() {
+    let known = [("revision_counter", 71), ("ignored_argument", 474), ("spent_loop", 2_288), ("growing_loop", 4_095)];
+    let mut found = Vec::new();
+    for (name, book) in files() {
+        let answer = asked(|work| run(&book, work, DESK_LIMIT)).0;
+        let Some((_, steps, mark)) = stop(answer) else { continue };
+        assert_eq!(u64::from(mark), in_the_calculus(&book, steps), "{name}: {answer:?}");
+        found.push((name, mark));
+    }
+    assert!(known.iter().all(|(name, mark)| found.contains(&(format!("{name}.book"), *mark))), "{found:?}");
 }
 
 #[test]
