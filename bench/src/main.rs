@@ -13,10 +13,10 @@ use books::Named;
 use compare::engines::Call;
 use compare::extremes::times;
 use compare::samples::sample_books;
-use evaluator::{decode, encode_term, on_large_stack, successors, Answer, Term, Version, CELL};
+use evaluator::{decode, encode_term, on_large_stack, successors, Term, Version, CELL};
 use std::process::ExitCode;
 use std::sync::atomic::Ordering::Relaxed;
-use timing::{engine, evaluator, from_the_root, race, steps_alone, Side, Timed, QUICK};
+use timing::{engine, evaluator, from_the_root, race, steps_alone, Said, Side, Timed, QUICK};
 
 const DESK: Call = Call::Run { limit: 10_000 };
 const TWO: [Side; 2] = [engine, evaluator];
@@ -31,13 +31,11 @@ fn head(title: &str, columns: &str) {
     println!("\n### {title}\n\n| {} |\n|{}", columns.join(" | "), "---|".repeat(columns.len()));
 }
 
-fn shown(answer: Answer) -> String {
+fn shown(answer: Said) -> String {
     match answer {
-        Answer::Refused { number, cell } => format!("refused {number} {cell}"),
-        Answer::Accepted { size } => format!("accepted {size}"),
-        Answer::Value { steps } => format!("value {steps}"),
-        Answer::Spent { steps } => format!("spent {steps}"),
-        Answer::Room { steps } => format!("room {steps}"),
+        Said::Refused { number, cell } => format!("refused {number} {cell}"),
+        Said::Accepted { size } => format!("accepted {size}"),
+        Said::Stopped { why, steps } => format!("{why} {steps}"),
     }
 }
 
@@ -102,11 +100,9 @@ fn long_runs(title: &str) {
 }
 
 /// The steps of a run over its time, which has the check in it; nothing if there are none.
-fn steps_a_second(answer: Answer, seconds: f64) -> String {
+fn steps_a_second(answer: Said, seconds: f64) -> String {
     match answer {
-        Answer::Value { steps } | Answer::Spent { steps } | Answer::Room { steps } if steps > 0 => {
-            format!("{:.0}", f64::from(steps) / seconds)
-        }
+        Said::Stopped { steps, .. } if steps > 0 => format!("{:.0}", f64::from(steps) / seconds),
         _ => "-".to_string(),
     }
 }

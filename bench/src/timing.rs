@@ -8,50 +8,71 @@ use std::time::Instant;
 /// Few rounds, to see the order of a time while working.
 pub static QUICK: AtomicBool = AtomicBool::new(false);
 
-/// A call, answered in some way.
-pub type Side = fn(Call, &[u8], &mut [u8]) -> Answer;
-
-pub fn engine(call: Call, book: &[u8], work: &mut [u8]) -> Answer {
-    Library.call(call, book, work).expect("an answer")
+/// What a side says, as the tables show it: of a run why it stopped and after how many steps, without its mark.
+#[derive(Clone, Copy, PartialEq, Eq, Debug)]
+pub enum Said {
+    Refused { number: u8, cell: usize },
+    Accepted { size: usize },
+    Stopped { why: &'static str, steps: u32 },
 }
 
-pub fn evaluator(call: Call, book: &[u8], work: &mut [u8]) -> Answer {
-    Evaluator(None).call(call, book, work).expect("an answer")
+impl Said {
+    fn of(answer: Answer) -> Said {
+        let stopped = |why, steps| Said::Stopped { why, steps };
+        match answer {
+            Answer::Refused { number, cell } => Said::Refused { number, cell },
+            Answer::Accepted { size } => Said::Accepted { size },
+            Answer::Value { steps, .. } => stopped("value", steps),
+            Answer::Spent { steps, .. } => stopped("spent", steps),
+            Answer::Room { steps, .. } => stopped("room", steps),
+        }
+    }
+}
+
+/// A call, answered in some way.
+pub type Side = fn(Call, &[u8], &mut [u8]) -> Said;
+
+pub fn engine(call: Call, book: &[u8], work: &mut [u8]) -> Said {
+    Said::of(Library.call(call, book, work).expect("an answer"))
+}
+
+pub fn evaluator(call: Call, book: &[u8], work: &mut [u8]) -> Said {
+    Said::of(Evaluator(None).call(call, book, work).expect("an answer"))
 }
 
 /// The evaluator's rules with each step taken from the root, by `successors`.
-pub fn from_the_root(call: Call, book: &[u8], work: &mut [u8]) -> Answer {
+pub fn from_the_root(call: Call, book: &[u8], work: &mut [u8]) -> Said {
     let Call::Run { limit } = call else { return evaluator(call, book, work) };
-    let refused = |Refusal { number, cell }| (Answer::Refused { number, cell }, Vec::new());
+    let refused = |Refusal { number, cell }| (Said::Refused { number, cell }, Vec::new());
     let (answer, encoded) = stepped(book, limit).unwrap_or_else(refused);
     work.fill(0);
     work[..encoded.len()].copy_from_slice(&encoded);
     answer
 }
 
-fn stepped(book: &[u8], limit: u32) -> Result<(Answer, Vec<u8>), Refusal> {
+fn stepped(book: &[u8], limit: u32) -> Result<(Said, Vec<u8>), Refusal> {
     let (mut term, version) = decode(book)?;
     infer(&mut Vec::new(), &term)?;
     let mut steps = 0;
-    let answer = loop {
+    let why = loop {
         if term.is_value() {
-            break Answer::Value { steps };
+            break "value";
         }
         if steps == limit {
-            break Answer::Spent { steps };
+            break "spent";
         }
         let next = successors(&term, version).pop().expect("a successor");
         if next.size() > SIZE_LIMIT {
-            break Answer::Room { steps };
+            break "room";
         }
         (term, steps) = (next, steps + 1);
     };
-    Ok((answer, encode_term(&term, version)))
+    Ok((Said::Stopped { why, steps }, encode_term(&term, version)))
 }
 
 /// The answer, the same of each side, and each side's least seconds.
 pub struct Timed {
-    pub answer: Answer,
+    pub answer: Said,
     pub seconds: Vec<f64>,
 }
 
@@ -111,7 +132,7 @@ pub fn steps_alone(sides: &[Side], book: &[u8], limit: u32) -> Vec<f64> {
 }
 
 /// Each side once, another first each round, over buffers filled alike. What they say and leave must be the same.
-fn one_turn(sides: &[Side], call: Call, book: &[u8], round: usize, buffers: &mut [Vec<u8>], sums: &mut [f64]) -> Answer {
+fn one_turn(sides: &[Side], call: Call, book: &[u8], round: usize, buffers: &mut [Vec<u8>], sums: &mut [f64]) -> Said {
     let mut answers = Vec::new();
     for turn in 0..sides.len() {
         let side = (turn + round) % sides.len();

@@ -141,10 +141,19 @@ fn answered(answer: cerealbank::Answer) -> Reply {
     Ok(match answer {
         cerealbank::Answer::Refused { number, cell } => Answer::Refused { number, cell: cell as usize },
         cerealbank::Answer::Accepted { size } => Answer::Accepted { size: size as usize },
-        cerealbank::Answer::Value { steps } => Answer::Value { steps },
-        cerealbank::Answer::Spent { steps } => Answer::Spent { steps },
-        cerealbank::Answer::Room { steps } => Answer::Room { steps },
         cerealbank::Answer::Unknown { packed } => return Err(format!("an unknown answer, {packed:#x}")),
+    })
+}
+
+/// The same of a run.
+#[cfg(feature = "engine")]
+fn ran(answer: cerealbank::RunAnswer) -> Reply {
+    Ok(match answer {
+        cerealbank::RunAnswer::Refused { number, cell } => Answer::Refused { number, cell: cell as usize },
+        cerealbank::RunAnswer::Value { steps, .. } => Answer::Value { steps },
+        cerealbank::RunAnswer::Spent { steps, .. } => Answer::Spent { steps },
+        cerealbank::RunAnswer::Room { steps, .. } => Answer::Room { steps },
+        cerealbank::RunAnswer::Unknown { packed } => return Err(format!("an unknown answer, {packed:#x}")),
     })
 }
 
@@ -166,10 +175,10 @@ impl Engine for Library {
     }
 
     fn call(&self, call: Call, book: &[u8], work: &mut [u8]) -> Reply {
-        answered(match call {
-            Call::Check => cerealbank::check(book, work),
-            Call::Run { limit } => cerealbank::run(book, work, limit),
-        })
+        match call {
+            Call::Check => answered(cerealbank::check(book, work)),
+            Call::Run { limit } => ran(cerealbank::run(book, work, limit)),
+        }
     }
 
     fn join(&self, lent: &mut [u8], length: usize, part: &[u8], work: &mut [u8]) -> JoinReply {

@@ -1,4 +1,5 @@
-/* Checks the book in the file that is named, runs it for at most 10,000 steps, and prints both answers and the cells of the term reached. */
+/* Checks the book in the file that is named, runs it for at most 10,000 steps, and prints both answers and the cells of the term reached: the desk
+   program's lines, and one more with the run's mark, the greatest size of any term on the way. */
 
 #include <inttypes.h>
 #include <stdio.h>
@@ -61,7 +62,9 @@ int main(int argc, char **argv)
     uint64_t answer = cerealbank_check(book, length, work, sizeof work);
     print_answer(answer);
     if (CEREALBANK_TAG(answer) == CEREALBANK_ACCEPTED) {
-        print_answer(cerealbank_run(book, length, work, sizeof work, 10000));
+        answer = cerealbank_run(book, length, work, sizeof work, 10000);
+        print_answer(answer);
+        printf("mark %" PRIu32 "\n", CEREALBANK_MARK(answer));
         print_cells();
     }
     return 0;

@@ -1,17 +1,24 @@
 //! Checks the book in the file that is named, runs it for at most 10,000 steps, and prints both answers and the cells of the term
-//! reached.
+//! reached: the desk program's lines, and one more with the run's mark, the greatest size of any term on the way.
 
-use cerealbank::{check, run, Answer, WORK};
+use cerealbank::{check, run, Answer, RunAnswer, WORK};
 use std::{env, fs, io};
 
 fn print_answer(answer: Answer) {
     match answer {
         Answer::Refused { number, cell } => println!("refused {number} {cell}"),
         Answer::Accepted { size } => println!("accepted {size}"),
-        Answer::Value { steps } => println!("value {steps}"),
-        Answer::Spent { steps } => println!("spent {steps}"),
-        Answer::Room { steps } => println!("room {steps}"),
         Answer::Unknown { packed } => unreachable!("{packed:#x} is no answer"),
+    }
+}
+
+fn print_run_answer(answer: RunAnswer) {
+    match answer {
+        RunAnswer::Refused { number, cell } => println!("refused {number} {cell}"),
+        RunAnswer::Value { steps, mark } => println!("value {steps}\nmark {mark}"),
+        RunAnswer::Spent { steps, mark } => println!("spent {steps}\nmark {mark}"),
+        RunAnswer::Room { steps, mark } => println!("room {steps}\nmark {mark}"),
+        RunAnswer::Unknown { packed } => unreachable!("{packed:#x} is no answer"),
     }
 }
 
@@ -31,7 +38,7 @@ fn main() -> io::Result<()> {
     let answer = check(&book, &mut work);
     print_answer(answer);
     if let Answer::Accepted { .. } = answer {
-        print_answer(run(&book, &mut work, 10_000));
+        print_run_answer(run(&book, &mut work, 10_000));
         print_cells(&work);
     }
     Ok(())

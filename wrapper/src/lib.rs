@@ -324,6 +324,11 @@ mod tests {
     }
 
     #[test]
+    fn the_greatest_mark_is_the_size_that_a_term_may_have() {
+        assert_eq!(u64::from(LARGEST), evaluator::SIZE_LIMIT);
+    }
+
+    #[test]
     fn what_no_check_says_is_unknown() {
         let tags = [0, NO_ROOM + 1, 255].map(|tag| packed(0, tag, 7));
         let runs = [TO_VALUE, SPENT, NO_ROOM].map(|tag| packed(0, tag, 7));

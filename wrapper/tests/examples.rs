@@ -1,9 +1,9 @@
-//! The desk program, and the example programs in C and in Rust, print the same lines. The lines that they are compared with are the evaluator's
-//! (`evaluator::desk`); those of a join and of its preview are the wrapper's.
+//! The desk program, and the example programs in C and in Rust, print the same lines, the examples with the run's mark in one more. The lines that
+//! they are compared with are the evaluator's (`evaluator::desk`); the mark, and the lines of a join and of its preview, are the wrapper's.
 
 #![cfg(not(library_missing))]
 
-use cerealbank::{join, preview, Answer, Joined, PROJECT, WORK};
+use cerealbank::{join, preview, run, Answer, Joined, RunAnswer, PROJECT, WORK};
 use std::ffi::OsStr;
 use std::path::{Path, PathBuf};
 use std::process::{Command, Output};
@@ -93,13 +93,26 @@ fn books() -> Vec<PathBuf> {
     books
 }
 
+/// The desk program's lines of a book, and behind why the run stopped the mark. A refused book has none.
+fn with_mark(book: &[u8]) -> String {
+    let lines = evaluator::desk(book);
+    match run(book, &mut vec![0; WORK], evaluator::DESK_LIMIT) {
+        RunAnswer::Value { mark, .. } | RunAnswer::Spent { mark, .. } | RunAnswer::Room { mark, .. } => {
+            let mut lines: Vec<String> = lines.lines().map(str::to_string).collect();
+            lines.insert(2, format!("mark {mark}"));
+            lines.join("\n") + "\n"
+        }
+        _ => lines,
+    }
+}
+
 #[test]
-fn both_examples_print_the_lines_of_the_desk_program() {
+fn both_examples_print_the_lines_of_the_desk_program_and_the_mark() {
     for program in [in_c("book"), in_rust("book")] {
         let hidden = printed(&program, &[&Path::new(REPOSITORY).join(BOOK)]);
-        assert_eq!(hidden, "accepted 1\nvalue 4\n0 17 0 0 2 0\n");
+        assert_eq!(hidden, "accepted 1\nvalue 4\nmark 18\n0 17 0 0 2 0\n");
         for book in books() {
-            let expected = evaluator::desk(&fs::read(&book).expect("a book"));
+            let expected = with_mark(&fs::read(&book).expect("a book"));
             assert!(printed(&program, &[&book]) == expected, "{} {}", program.display(), book.display());
         }
     }

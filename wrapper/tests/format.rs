@@ -1,15 +1,16 @@
 //! What docs/FORMAT.md and books/README.md say of books is what the engine answers and leaves. A block of FORMAT.md that is marked `book` has a
-//! line a cell, in hexadecimal, and then each answer with the bytes that it leaves; what follows a `;` is for people. One that is marked `join` has
-//! a project and a part, and then the answer with the joint; its preview is asked first.
+//! book, and then each answer, of a run with its mark, and the bytes that it leaves. One that is marked `join` has a project and a part, and then
+//! the answer with the joint; its preview is asked first.
 
 #![cfg(not(library_missing))]
 
 mod pages;
 mod previewing;
 
-use cerealbank::{check, join, preview, run, Answer, Joined, Which, PROJECT, WORK};
+use cerealbank::{check, join, preview, run, Answer, Joined, RunAnswer, Which, PROJECT, WORK};
 use evaluator::{Cell, Field, Row, Sort, Version, CELL, TABLE};
-use pages::{answer, asked, at, books_in, cut, number, padded, quoted, text, LIMIT};
+use pages::blocks::{blocks, format, marked, Block};
+use pages::{answer, asked, at, books_in, cut, number, on_the_desk, padded, quoted, ran, stopped, text, LIMIT};
 use previewing::join_as_previewed;
 use std::collections::BTreeSet;
 use std::fs;
@@ -19,52 +20,6 @@ const REFUSALS: std::ops::RangeInclusive<u8> = 1..=16;
 const OF_A_BOOK: std::ops::RangeInclusive<u8> = 1..=15;
 /// The limit of the desk program.
 const DESK_LIMIT: u32 = 10_000;
-
-/// A book, and each answer with the bytes that it leaves at the start of the work buffer.
-struct Block {
-    book: Vec<u8>,
-    answers: Vec<(Answer, Vec<u8>)>,
-}
-
-fn block(lines: &str) -> Block {
-    let mut block = Block { book: Vec::new(), answers: Vec::new() };
-    for line in lines.lines().map(|line| line.split(';').next().expect("a part").trim()) {
-        if let Some(answer) = answer(line) {
-            block.answers.push((answer, Vec::new()));
-            continue;
-        }
-        let (times, row) = line.split_once(" × ").map_or((1, line), |(times, row)| (number(times), row));
-        let bytes = row.split_whitespace().map(|byte| {
-            assert_eq!(byte.len(), 2, "{line}");
-            u8::from_str_radix(byte, 16).unwrap_or_else(|_| panic!("{line}"))
-        });
-        let bytes: Vec<u8> = bytes.collect();
-        block.answers.last_mut().map_or(&mut block.book, |(_, left)| left).extend(bytes.repeat(times));
-    }
-    block
-}
-
-/// The blocks of a text that are marked so.
-fn marked(mark: &str, text: &str) -> Vec<Block> {
-    let start = format!("```{mark}\n");
-    text.split(&start).skip(1).map(|text| block(text.split_once("```").expect("the end of the block").0)).collect()
-}
-
-fn blocks(text: &str) -> Vec<Block> {
-    marked("book", text)
-}
-
-/// FORMAT.md before the refusals, and the section of each refusal with the number that it begins with.
-fn format() -> (String, Vec<(u8, String)>) {
-    let text = text("docs/FORMAT.md");
-    let (before, after) = text.split_once("\n## Where a book is refused\n").expect("the refusals");
-    let (refusals, _) = after.split_once("\n## ").expect("the end of the refusals");
-    let sections = refusals.split("\n### ").skip(1).map(|section| {
-        let (head, rest) = section.split_once(": ").expect("a number and a condition");
-        (number(head), rest.to_string())
-    });
-    (before.to_string(), sections.collect())
-}
 
 #[test]
 fn every_refusal_has_its_section() {
@@ -81,12 +36,13 @@ fn every_refusal_has_its_section() {
 fn every_refused_book_is_refused_as_its_section_says() {
     for (number, section) in format().1.into_iter().filter(|(number, _)| *number > 1 && OF_A_BOOK.contains(number)) {
         let [Block { book, answers }] = &blocks(&section)[..] else { panic!("{number} has no single book") };
-        let [(answer @ Answer::Refused { number: shown, .. }, left)] = &answers[..] else { panic!("{number}: {answers:?}") };
-        assert_eq!((number, &Vec::new()), (*shown, left));
+        let [(words, left)] = &answers[..] else { panic!("{number}: {answers:?}") };
+        assert!(words.starts_with(&format!("refused {number} ")) && left.is_empty(), "{number}: {words}");
+        let (checked, ran) = (answer(words).expect("an answer"), ran(words).expect("an answer"));
         let file = format!("books/refusals/{number:02}.book");
         assert_eq!(book, &fs::read(at(&file)).expect("the book's file"), "{file}");
-        assert_eq!(asked(|work| check(book, work)), (*answer, padded(&[])), "{file}, checked");
-        assert_eq!(asked(|work| run(book, work, LIMIT)), (*answer, padded(&[])), "{file}, run");
+        assert_eq!(asked(|work| check(book, work)), (checked, padded(&[])), "{file}, checked");
+        assert_eq!(asked(|work| run(book, work, LIMIT)), (ran, padded(&[])), "{file}, run");
     }
 }
 
@@ -129,14 +85,30 @@ fn the_refused_books_are_those_of_the_definitions() {
     let defined = samples.map(|sample| checked_sample(sample, &definitions));
     let shown = OF_A_BOOK.zip(format().1).skip(1).map(|(number, (_, section))| {
         let Block { book, answers } = blocks(&section).remove(0);
-        assert!(matches!(answers[0].0, Answer::Refused { number: shown, .. } if shown == number), "{number}");
-        (book, answers[0].0)
+        assert!(answers[0].0.starts_with(&format!("refused {number} ")), "{number}");
+        (book, answer(&answers[0].0).expect("an answer"))
     });
     assert_eq!(defined.collect::<Vec<_>>(), shown.collect::<Vec<_>>());
 }
 
-/// A sample of Samples.antt: its book, the limit if it is run, its answer, and the bytes that it leaves.
-fn sample(line: &str, definitions: &str) -> (Vec<u8>, Option<u32>, Answer, Vec<u8>) {
+/// What is asked about a sample, and the answer.
+enum Said {
+    Check(Answer),
+    Run(u32, RunAnswer),
+}
+
+/// The answer of a run in Samples.antt's words: `stopped value 4 18`, or a refusal.
+fn ran_sample(words: &str) -> RunAnswer {
+    let parts: Vec<&str> = words.split(' ').collect();
+    let ran = match parts[..] {
+        ["stopped", stop, steps, mark] => stopped([stop, steps, mark]),
+        _ => ran(words),
+    };
+    ran.unwrap_or_else(|| panic!("{words} is no answer of a run"))
+}
+
+/// A sample of Samples.antt: its book, what is asked and answered, and the bytes that are left.
+fn sample(line: &str, definitions: &str) -> (Vec<u8>, Said, Vec<u8>) {
     let (_, line) = line.rsplit_once("\" ").expect("a name");
     let (book, line) = line.split_once(' ').expect("a book");
     let (limit, line) = match line.strip_prefix("(run ") {
@@ -145,24 +117,27 @@ fn sample(line: &str, definitions: &str) -> (Vec<u8>, Option<u32>, Answer, Vec<u
     };
     let (shown, left) = line.split_once(") ").expect("an answer");
     let left = left.strip_prefix('(').and_then(|left| left.strip_suffix(')')).map_or(Vec::new(), |left| bytes(left, definitions));
-    (bytes(book, definitions), limit, answer(shown.trim_start_matches("stopped ")).expect("an answer"), left)
+    let said = match limit {
+        Some(limit) => Said::Run(limit, ran_sample(shown)),
+        None => Said::Check(answer(shown).expect("an answer")),
+    };
+    (bytes(book, definitions), said, left)
 }
 
 #[test]
 fn the_samples_of_the_definitions_are_answered_as_they_say() {
     let definitions = text("crates/answers/specs/Samples.antt");
-    for list in ["samples", "fieldReads", "sumsAndChoices", "bodies", "wideNumbers", "orders"] {
+    for list in ["samples", "fieldReads", "sumsAndChoices", "bodies", "wideNumbers", "orders", "marks"] {
         let (_, lines) = definitions.split_once(&format!("\n{list} =\n")).expect("the list");
         let lines: Vec<&str> =
             lines.lines().map_while(|line| line.trim().trim_start_matches("∷ ").strip_prefix("sample ")).collect();
         assert!(lines.len() > 10, "{list}");
         for line in lines {
-            let (book, limit, shown, left) = sample(line, &definitions);
-            let got = asked(|work| match limit {
-                Some(limit) => run(&book, work, limit),
-                None => check(&book, work),
-            });
-            assert_eq!(got, (shown, padded(&left)), "{line}");
+            let (book, said, left) = sample(line, &definitions);
+            match said {
+                Said::Check(answer) => assert_eq!(asked(|work| check(&book, work)), (answer, padded(&left)), "{line}"),
+                Said::Run(limit, answer) => assert_eq!(asked(|work| run(&book, work, limit)), (answer, padded(&left)), "{line}"),
+            }
         }
     }
 }
@@ -215,13 +190,14 @@ fn the_sample_joins_of_the_definition_are_answered_as_they_say() {
 fn refusal_1_is_of_another_length_and_touches_nothing() {
     let section = format().1.remove(0).1;
     let [Block { book, answers }] = &blocks(&section)[..] else { panic!("no single book") };
-    assert_eq!(answers, &[(Answer::Refused { number: 1, cell: 0 }, Vec::new())]);
+    assert_eq!(answers, &[("refused 1 0".to_string(), Vec::new())]);
+    let refused = Answer::Refused { number: 1, cell: 0 };
     for length in [0, 1, 8, WORK - 1, WORK + 1, 2 * WORK] {
         let mut work = vec![9; length];
         for book in [&book[..], &[]] {
-            assert_eq!(check(book, &mut work), answers[0].0);
-            assert_eq!(run(book, &mut work, LIMIT), answers[0].0);
-            let of_joint = Joined { which: Which::Joint, answer: answers[0].0, bytes: 0 };
+            assert_eq!(check(book, &mut work), refused);
+            assert_eq!(run(book, &mut work, LIMIT), RunAnswer::Refused { number: 1, cell: 0 });
+            let of_joint = Joined { which: Which::Joint, answer: refused, bytes: 0 };
             assert_eq!(join(&mut [], 0, book, &mut work), of_joint);
             assert_eq!(preview(&[], 0, book, &mut work), of_joint);
         }
@@ -235,10 +211,10 @@ fn the_examples_are_answered_as_shown() {
     let examples = blocks(&format().0);
     assert!(!examples.is_empty());
     for Block { book, answers } in examples {
-        let checked = asked(|work| check(&book, work));
-        let ran = asked(|work| run(&book, work, LIMIT));
-        assert_eq!([checked, ran].map(Some), [0, 1].map(|n| answers.get(n).map(|(answer, left)| (*answer, padded(left)))));
-        assert_eq!(answers.len(), 2);
+        let [(checked, shown), (stopped, left)] = &answers[..] else { panic!("{answers:?}") };
+        let (checked, stopped) = (answer(checked).expect("an answer"), ran(stopped).expect("an answer with its mark"));
+        assert_eq!(asked(|work| check(&book, work)), (checked, padded(shown)));
+        assert_eq!(asked(|work| run(&book, work, LIMIT)), (stopped, padded(left)));
     }
 }
 
@@ -249,14 +225,15 @@ fn the_joins_are_answered_as_shown() {
     let joins = marked("join", &page);
     assert_eq!(joins.len(), 2);
     for Block { book, answers } in joins {
-        let [(answer, joint)] = &answers[..] else { panic!("{answers:?}") };
+        let [(words, joint)] = &answers[..] else { panic!("{answers:?}") };
+        let answer = answer(words).expect("an answer");
         let (project, part) = book.split_at(cut(&book).len());
         assert_eq!(cut(part), part);
         let (mut lent, mut work) = (project.to_vec(), vec![9; WORK]);
         lent.resize(PROJECT, 9);
         let before = lent.clone();
         let joined = join_as_previewed(&mut lent, project.len(), part, &mut work);
-        assert_eq!(joined, Joined { which: Which::Joint, answer: *answer, bytes: joint.len() });
+        assert_eq!(joined, Joined { which: Which::Joint, answer, bytes: joint.len() });
         match answer {
             Answer::Accepted { .. } => {
                 assert!(lent[..joint.len()] == joint[..] && lent[joint.len()..].iter().all(|&byte| byte == 0));
@@ -266,7 +243,7 @@ fn the_joins_are_answered_as_shown() {
         }
         assert_eq!(asked(|work| check(&lent[..joined.bytes], work)).1, work);
     }
-    assert!(matches!(marked("join", &format().1[15].1)[0].answers[0].0, Answer::Refused { number: 16, cell: 0 }));
+    assert_eq!(marked("join", &format().1[15].1)[0].answers[0].0, "refused 16 0");
 }
 
 /// The numbers of 64 bits that the page shows, taken apart.
@@ -275,7 +252,7 @@ fn the_packed_answers_are_what_the_page_says() {
     let (before, _) = format();
     for (packed, words) in [
         (0x0000_000E_0000_0002_u64, "0x0000000E00000002 is refused 14, cell 2"),
-        (0x0000_0021_0000_0004, "0x0000002100000004 is a value after 4 steps"),
+        (0x0000_1221_0000_0004, "0x0000122100000004 is a value after 4 steps with the mark 18"),
         (0x0000_030E_0000_0004, "0x0000030E00000004 is refused 14, cell 4 of the joint"),
         (0x0028_0320_0000_0004, "0x0028032000000004 is accepted with a type of size 4 and a joint of 40 bytes"),
     ] {
@@ -291,10 +268,45 @@ fn the_packed_answers_are_what_the_page_says() {
 fn the_example_is_the_book_that_it_names() {
     let (before, _) = format();
     let (_, example) = before.split_once("\n### An example\n").expect("the example");
+    let (example, _) = example.split_once("\n## ").expect("its end");
     let [Block { book, .. }] = &blocks(example)[..] else { panic!("no single book") };
     let file = quoted(example)[0];
     assert_eq!(file, "books/first_number.book");
     assert_eq!(book, &fs::read(at(file)).expect("the book's file"));
+}
+
+/// The limits of a row: `2 and more` are several.
+fn limits(words: &str) -> Vec<u32> {
+    match words.strip_suffix(" and more").map(number::<u32>) {
+        Some(first) => vec![first, first + 1, 10_000, u32::MAX],
+        None => vec![number(words)],
+    }
+}
+
+/// The example of the mark has a table below it, a row a limit.
+#[test]
+fn the_table_of_the_mark_is_what_the_engine_answers() {
+    let (before, _) = format();
+    let (_, section) = before.split_once("\n**The mark** ").expect("the mark");
+    let (section, _) = section.split_once("\n### ").expect("its end");
+    let [Block { book, .. }] = &blocks(section)[..] else { panic!("no single book") };
+    let rows = section.lines().filter(|line| line.starts_with("| ") && line.contains('`'));
+    let mut sizes: Vec<usize> = Vec::new();
+    for row in rows {
+        let [limit, said, reached] = row.trim_matches('|').split(" | ").map(str::trim).collect::<Vec<_>>()[..] else {
+            panic!("{row}")
+        };
+        let cells = number(reached.split(':').next().expect("a number"));
+        for limit in limits(limit) {
+            let (got, work) = asked(|work| run(book, work, limit));
+            assert_eq!(Some(got), ran(quoted(said)[0]), "{row}");
+            assert_eq!(cut(&work).len(), CELL * (cells + 1), "{row}");
+        }
+        sizes.push(cells);
+    }
+    let [first, second, last] = sizes[..] else { panic!("{sizes:?}") };
+    assert!(second > first && second > last, "the largest term is neither the first nor the last");
+    assert!(section.contains(&format!("which is {} cells in the book", book.len() / CELL - 1)));
 }
 
 #[test]
@@ -303,7 +315,7 @@ fn a_spent_run_continues_from_the_term_it_left() {
     let (first, half) = asked(|work| run(&book, work, 5));
     let (second, twice) = asked(|work| run(cut(&half), work, 5));
     let (whole, once) = asked(|work| run(&book, work, 10));
-    assert_eq!([first, second, whole], [5, 5, 10].map(|steps| Answer::Spent { steps }));
+    assert_eq!([first, second, whole], [(5, 68), (5, 64), (10, 68)].map(|(steps, mark)| RunAnswer::Spent { steps, mark }));
     assert!(twice == once, "the same bytes");
 }
 
@@ -404,7 +416,7 @@ fn every_sample_book_is_answered_as_its_table_says() {
         let reached = line.trim_end_matches(" |").rsplit(" | ").next().expect("a column");
         let book = fs::read(at("books").join(name)).expect("the book's file");
         let (got, work) = asked(|work| run(&book, work, DESK_LIMIT));
-        assert_eq!(Some(got), answer(shown), "{name}");
+        assert_eq!(on_the_desk(got), shown, "{name}");
         let version = Version::of(book[book.len() - CELL + 1]).expect("a version");
         assert!(is_reached(reached, version, &work), "{name} does not reach {reached}");
         named.insert(name.to_string());

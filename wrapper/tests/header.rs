@@ -1,6 +1,6 @@
 //! The header, the wrapper's own declarations and the engine's exported functions say the same: names, parameters and results. The
-//! header and the wrapper have the same lengths, and the tags, the places and the numbers of a join's books of the definitions;
-//! docs/FORMAT.md has the functions and the tags. Nothing else compares them.
+//! header and the wrapper have the same lengths, and the tags, the places, the mark and the numbers of a join's books of the definitions;
+//! docs/FORMAT.md has the functions, the tags and the places. Nothing else compares them.
 
 use std::collections::{BTreeMap, BTreeSet};
 use std::fs;
@@ -229,6 +229,43 @@ fn the_header_and_the_wrapper_have_the_places_of_the_definition() {
     assert_eq!(in_macro("TAG", "& ") + 1, in_header["second"] / in_header["tag"], "the mask of the tag");
     assert_eq!(in_header["which"], in_header["second"]);
     assert_eq!(in_macro("WHICH", "& ") + 1, in_header["bytes"] / in_header["which"], "the mask of the book");
+}
+
+/// Which figure of an answer the definition puts in a place, case by case: none, for 0, or the one at this position.
+fn figures(place: &str) -> BTreeMap<String, Option<usize>> {
+    let definition = definition();
+    let cases = definition.lines().filter_map(|line| line.strip_prefix(place)?.strip_prefix(" (")?.split_once(") = "));
+    let figure = |(case, figure): (&str, &str)| {
+        let mut words = case.split(' ');
+        let name = words.next().expect("a case").to_string();
+        let at = words.position(|word| word == figure);
+        assert!(at.is_some() || figure == "0", "{place} of {case}: {figure}");
+        (name, at)
+    };
+    cases.map(figure).collect()
+}
+
+/// A stop has its steps for the value and its mark for the second figure, which no other answer has.
+#[test]
+fn the_mark_is_the_second_figure_of_the_definition() {
+    let in_order = |[accepted, refused, stopped]: [Option<usize>; 3]| {
+        let cases = [("accepted", accepted), ("refused", refused), ("stopped", stopped)];
+        BTreeMap::from(cases.map(|(case, figure)| (case.to_string(), figure)))
+    };
+    assert_eq!(figures("valueOf"), in_order([Some(0), Some(1), Some(1)]));
+    assert_eq!(figures("secondOf"), in_order([None, None, Some(2)]));
+    assert!(read("cerealbank.h").contains("\n#define CEREALBANK_MARK(answer) CEREALBANK_SECOND(answer)\n"));
+}
+
+/// The table of bits: the value, the tag, the mark of a run, and of a join the book and the bytes.
+#[test]
+fn the_format_has_the_places_of_the_header() {
+    let format = read("../docs/FORMAT.md");
+    let (_, table) = format.split_once("\n| bits | what stands there |\n|---|---|\n").expect("the table of bits");
+    let shown = table.lines().map_while(|line| Some(line.strip_prefix("| ")?.split_once(" | ")?.0));
+    let [tag, second, which, bytes] = ["TAG", "SECOND", "WHICH", "BYTES"].map(|name| in_macro(name, ">> "));
+    let bits = [(0, tag), (tag, second), (second, 64), (which, bytes), (bytes, 64)];
+    assert_eq!(shown.collect::<Vec<_>>(), bits.map(|(first, past)| format!("{first}-{}", past - 1)));
 }
 
 #[test]

@@ -7,7 +7,7 @@ mod previewing;
 
 use cerealbank::{check, run, Answer, Joined, Which, PROJECT, WORK};
 use evaluator::{decode, infer, Term, TermShape};
-use pages::{answer, asked, at, books_in, cut, number, padded, quoted, text, LIMIT};
+use pages::{answer, asked, at, books_in, cut, number, on_the_desk, padded, quoted, text, LIMIT};
 use previewing::join_as_previewed;
 use std::collections::BTreeSet;
 use std::fs;
@@ -199,7 +199,7 @@ fn a_sum_is_held_to_the_joints_numbers() {
     for row in rows {
         let [name, said, content] = &row[..] else { panic!("{row:?}") };
         let (got, work) = asked(|work| run(&file(word(name)), work, LIMIT));
-        assert_eq!(Some(got), answer(word(said)), "{name}");
+        assert_eq!(on_the_desk(got), word(said), "{name}");
         let (reached, _) = decode(cut(&work)).expect("a term");
         assert_eq!(field(&reached, 6).as_deref(), Some(word(content)), "{name}");
     }

@@ -5,9 +5,9 @@
 
 mod pages;
 
-use cerealbank::{check, run, Answer};
-use evaluator::{decode, encode_term, encode_type, infer, Term, TermShape, Version};
-use pages::{answer, asked, at, books_in, padded, quoted, text, LIMIT};
+use cerealbank::{check, run, Answer, RunAnswer};
+use evaluator::{decode, encode_term, encode_type, infer, Term, TermShape, Version, CELL};
+use pages::{answer, asked, at, books_in, padded, quoted, ran, text, LIMIT};
 use std::collections::BTreeSet;
 use std::fs;
 
@@ -17,18 +17,19 @@ struct Row {
     bytes: Vec<u8>,
     book: String,
     check: (Answer, Option<String>),
-    run: (Answer, Option<String>),
+    run: (RunAnswer, Option<String>),
 }
 
 fn row(line: &str) -> Row {
     let columns: Vec<&str> = line.trim_matches('|').split(" | ").map(str::trim).collect();
-    let [name, book, checked, shown, ran, left] = columns[..] else { panic!("{line}") };
+    let [name, book, checked, shown, stopped, left] = columns[..] else { panic!("{line}") };
     let word = |column: &str| quoted(column).first().unwrap_or_else(|| panic!("{line}")).to_string();
-    let said = |column: &str| answer(&word(column)).unwrap_or_else(|| panic!("{line}"));
+    let checked = answer(&word(checked)).unwrap_or_else(|| panic!("{line}"));
+    let stopped = ran(&word(stopped)).unwrap_or_else(|| panic!("{line}"));
     let leaves = |column: &str| (column != "-").then(|| word(column));
     let name = word(name);
     let bytes = fs::read(at(&format!("books/merging/{name}.book"))).expect("the book's file");
-    Row { name, bytes, book: word(book), check: (said(checked), leaves(shown)), run: (said(ran), leaves(left)) }
+    Row { name, bytes, book: word(book), check: (checked, leaves(shown)), run: (stopped, leaves(left)) }
 }
 
 /// The tables below a heading of the page, each of two rows.
@@ -129,7 +130,8 @@ fn before_a_step_the_answers_are_alike_and_the_bytes_are_not() {
     assert_eq!(pairs.len(), 3);
     for [one, other] in &pairs {
         let [(answer, work), (other_answer, other_work)] = [one, other].map(|row| asked(|work| run(&row.bytes, work, 0)));
-        assert_eq!([answer, other_answer], [Answer::Spent { steps: 0 }; 2], "{}", one.name);
+        let cells = (one.bytes.len() / CELL - 1) as u32;
+        assert_eq!([answer, other_answer], [RunAnswer::Spent { steps: 0, mark: cells }; 2], "{}", one.name);
         assert!(work == padded(&one.bytes) && other_work == padded(&other.bytes) && work != other_work, "{}", one.name);
     }
 }

@@ -2,7 +2,7 @@
 
 #![cfg(not(library_missing))]
 
-use cerealbank::{check, join, preview, run, Answer, Joined, PROJECT, STACK, WORK};
+use cerealbank::{check, join, preview, run, Answer, Joined, RunAnswer, PROJECT, STACK, WORK};
 use compare::deepest::{deepest, Deep};
 use compare::extremes::{extremes, times};
 use compare::stack::{in_stack, taken};
@@ -43,8 +43,8 @@ fn check_and_run(book: &[u8]) {
     }
     for limit in LIMITS {
         match run(book, &mut work, limit) {
-            Answer::Spent { steps } => assert_eq!(steps, limit),
-            Answer::Value { steps } | Answer::Room { steps } => return assert!(steps <= limit),
+            RunAnswer::Spent { steps, .. } => assert_eq!(steps, limit),
+            RunAnswer::Value { steps, .. } | RunAnswer::Room { steps, .. } => return assert!(steps <= limit),
             other => panic!("{other:?}"),
         }
     }

@@ -1,6 +1,10 @@
-//! What the tests of the pages share: the words of an answer as the pages write them, and a call with its work buffer.
+//! What the tests of the pages share, each a part of it: the words of an answer as the pages write them, and a call with its work buffer.
 
-use cerealbank::{Answer, WORK};
+#![allow(dead_code)]
+
+pub mod blocks;
+
+use cerealbank::{Answer, RunAnswer, WORK};
 use evaluator::{CELL, TRAILER};
 use std::collections::BTreeSet;
 use std::fs;
@@ -27,17 +31,44 @@ pub fn number<T: std::str::FromStr>(word: &str) -> T {
     word.replace(',', "").parse().unwrap_or_else(|_| panic!("{word} is no number here"))
 }
 
-/// An answer in the desk program's words; None if it is something else.
+/// An answer of a check, a join or a preview in the desk program's words; None if it is something else.
 pub fn answer(words: &str) -> Option<Answer> {
-    let words: Vec<&str> = words.split_whitespace().collect();
-    Some(match words[..] {
-        ["refused", n, cell] => Answer::Refused { number: number(n), cell: number(cell) },
-        ["accepted", size] => Answer::Accepted { size: number(size) },
-        ["value", steps] => Answer::Value { steps: number(steps) },
-        ["spent", steps] => Answer::Spent { steps: number(steps) },
-        ["room", steps] => Answer::Room { steps: number(steps) },
-        _ => return None,
-    })
+    match words.split_whitespace().collect::<Vec<_>>()[..] {
+        ["refused", n, cell] => Some(Answer::Refused { number: number(n), cell: number(cell) }),
+        ["accepted", size] => Some(Answer::Accepted { size: number(size) }),
+        _ => None,
+    }
+}
+
+/// Why a run stopped, after how many steps, and with which mark.
+pub fn stopped([stop, steps, mark]: [&str; 3]) -> Option<RunAnswer> {
+    let (steps, mark) = (number(steps), number(mark));
+    match stop {
+        "value" => Some(RunAnswer::Value { steps, mark }),
+        "spent" => Some(RunAnswer::Spent { steps, mark }),
+        "room" => Some(RunAnswer::Room { steps, mark }),
+        _ => None,
+    }
+}
+
+/// An answer of a run in the desk program's words, and its mark: `value 4, mark 18`. None if it is something else.
+pub fn ran(words: &str) -> Option<RunAnswer> {
+    match words.split_whitespace().collect::<Vec<_>>()[..] {
+        ["refused", n, cell] => Some(RunAnswer::Refused { number: number(n), cell: number(cell) }),
+        [stop, steps, "mark", mark] => stopped([stop, steps.strip_suffix(',')?, mark]),
+        _ => None,
+    }
+}
+
+/// What a run says in the desk program's words, which have no mark.
+pub fn on_the_desk(answer: RunAnswer) -> String {
+    match answer {
+        RunAnswer::Refused { number, cell } => format!("refused {number} {cell}"),
+        RunAnswer::Value { steps, .. } => format!("value {steps}"),
+        RunAnswer::Spent { steps, .. } => format!("spent {steps}"),
+        RunAnswer::Room { steps, .. } => format!("room {steps}"),
+        RunAnswer::Unknown { packed } => panic!("{packed:#x} is no answer"),
+    }
 }
 
 /// The answer, and the work buffer after it.
