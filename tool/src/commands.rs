@@ -383,7 +383,15 @@ fn ending(ran: &Ran) -> String {
         Stop::Spent => format!("stopped for steps after {steps}: the term is no value yet"),
         Stop::Room => format!("stopped for room after {steps}: the next term has more than {MOST_CELLS} cells"),
     };
-    format!("{why}\nlargest term: {} of {MOST_CELLS} cells\n", ran.mark)
+    format!("{why}\nlargest term: {} of {} cells\n", grouped(ran.mark), grouped(MOST_CELLS as u32))
+}
+
+/// A count of cells as the pages write it.
+fn grouped(cells: u32) -> String {
+    match cells {
+        0..=999 => cells.to_string(),
+        _ => format!("{},{:03}", cells / 1_000, cells % 1_000),
+    }
 }
 
 /// Every term with its number of steps before it.

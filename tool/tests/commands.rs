@@ -67,7 +67,7 @@ fn exit_status() {
 fn books_from_anywhere() {
     let book = bytes("books/hidden_field.book");
     let notation = text("books/hidden_field.txt");
-    let expected = ("value after 4 steps\nlargest term: 18 of 4095 cells\n2\n".to_owned(), 0);
+    let expected = ("value after 4 steps\nlargest term: 18 of 4,095 cells\n2\n".to_owned(), 0);
     assert_eq!(answered(&["run", "books/hidden_field.book"], b""), expected);
     assert_eq!(answered(&["run", "books/hidden_field.txt"], b""), expected);
     assert_eq!(answered(&["run"], &book), expected);
@@ -373,7 +373,7 @@ fn flags_are_heeded() {
 fn labels_are_shown_by_name() {
     let text = b"label size = 7 {size = 1 + 2}";
     assert_eq!(answered(&["check"], text).0, "accepted: {size : Int}\n");
-    assert_eq!(answered(&["run"], text).0, "value after 1 step\nlargest term: 4 of 4095 cells\n{size = 3}\n");
+    assert_eq!(answered(&["run"], text).0, "value after 1 step\nlargest term: 4 of 4,095 cells\n{size = 3}\n");
     assert_eq!(answered(&["show"], text).0, "label size = 7\n{size = 1 + 2}\n");
     assert!(answered(&["run", "--trace"], text).0.starts_with("    0  {size = 1 + 2}\n               ^^^^^\n    1  {size = 3}\n"));
 }
@@ -443,7 +443,10 @@ fn progress_on_a_terminal() {
     assert!(told[told.len() - 2].trim().is_empty() && last.starts_with("stopped for steps after 16000000 steps: "), "{printed:?}");
     assert!(!printed.contains('\x1b'), "{printed:?}");
     // The largest term so far never shrinks, and the run's is no smaller.
-    let largest = |told: &str| told.split("largest ").nth(1)?.trim_start_matches("term: ").split_whitespace().next()?.parse().ok();
+    let largest = |told: &str| {
+        let figure = told.split("largest ").nth(1)?.trim_start_matches("term: ").split_whitespace().next()?;
+        figure.replace(',', "").parse().ok()
+    };
     let marks: Vec<u32> = told.iter().filter_map(|told| largest(told)).collect();
     assert!(marks.len() == told.len() - 2 && marks.windows(2).all(|pair| pair[0] <= pair[1]), "{printed:?}");
     // What does not take long says nothing of how far it is.

@@ -77,7 +77,7 @@ fn the_joint_is_written_and_can_be_joined_to() {
     assert_eq!(answered(&["show", file], b"").0, "version 2\n{1 = 12} ,, {2 = 34} ,, {3 = 1099511627776}\n");
     assert_eq!(
         answered(&["run", file], b"").0,
-        "value after 0 steps\nlargest term: 8 of 4095 cells\n{1 = 12} ,, {2 = 34} ,, {3 = 1099511627776}\n"
+        "value after 0 steps\nlargest term: 8 of 4,095 cells\n{1 = 12} ,, {2 = 34} ,, {3 = 1099511627776}\n"
     );
     // A text stays a text until the joint takes its place.
     let text = scratch("folder.txt", b"{1 = 12}");
@@ -90,12 +90,12 @@ fn the_joint_is_written_and_can_be_joined_to() {
 fn a_sum_of_version_1_in_a_joint_of_version_2() {
     assert_eq!(
         answered(&["run", "books/joining/counter.book"], b"").0,
-        "value after 1 step\nlargest term: 4 of 4095 cells\n{6 = 2147483647}\n"
+        "value after 1 step\nlargest term: 4 of 4,095 cells\n{6 = 2147483647}\n"
     );
     let joint = called(&["join", "books/joining/counter.book", "books/joining/register.book", "-o", "-"], b"").stdout;
     assert_eq!(
         answered(&["run"], &joint).0,
-        "value after 1 step\nlargest term: 7 of 4095 cells\n{6 = 2147483648} ,, {3 = 1099511627776}\n"
+        "value after 1 step\nlargest term: 7 of 4,095 cells\n{6 = 2147483648} ,, {3 = 1099511627776}\n"
     );
 }
 

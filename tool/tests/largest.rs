@@ -28,8 +28,13 @@ fn sizes(book: &[u8], limit: u32) -> Result<Vec<usize>, Refusal> {
     Ok(sizes)
 }
 
+/// A count below 10,000 has at most one group of three digits behind the first.
 fn line(cells: usize) -> String {
-    format!("largest term: {cells} of 4095 cells")
+    let mut digits = cells.to_string();
+    if digits.len() == 4 {
+        digits.insert(1, ',');
+    }
+    format!("largest term: {digits} of 4,095 cells")
 }
 
 /// The one line about the largest term, which stands right below the stop.

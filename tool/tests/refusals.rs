@@ -613,7 +613,7 @@ fn traces_end_at_the_limit_and_progress_counts_cells() {
     assert_eq!(
         printed,
         "    0  1 + 2 + 3\n       ^^^^^\n    1  3 + 3\n       ^^^^^\nstopped for steps after 1 step: the term is no value yet\n\
-         largest term: 5 of 4095 cells\n"
+         largest term: 5 of 4,095 cells\n"
     );
     let loops = bytes("books/spent_loop.book");
     let _ = tool::running::watched(&loops, 50, |so_far| {
