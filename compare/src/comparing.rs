@@ -179,8 +179,8 @@ impl Execution {
         let mut work = vec![0; WORK];
         let answer = Evaluator(None).call(Call::Run { limit: ENOUGH }, book, &mut work).ok()?;
         let (steps, ends) = match answer {
-            Answer::Value { steps } | Answer::Room { steps } => (steps, true),
-            Answer::Spent { steps } => (steps, false),
+            Answer::Value { steps, .. } | Answer::Room { steps, .. } => (steps, true),
+            Answer::Spent { steps, .. } => (steps, false),
             _ => return None,
         };
         Some(Execution { answer, steps, ends, cells: decode(book).ok()?.0.size() })

@@ -31,6 +31,26 @@ pub enum Answer {
     Room { steps: u32, mark: u64 },
 }
 
+impl Answer {
+    /// The steps and the mark of a run that is not refused.
+    pub fn ran(self) -> Option<(u32, u64)> {
+        match self {
+            Answer::Value { steps, mark } | Answer::Spent { steps, mark } | Answer::Room { steps, mark } => Some((steps, mark)),
+            Answer::Refused { .. } | Answer::Accepted { .. } => None,
+        }
+    }
+
+    /// The same with other steps and another mark, of such a run; any other answer as it is.
+    pub fn with(self, steps: u32, mark: u64) -> Answer {
+        match self {
+            Answer::Value { .. } => Answer::Value { steps, mark },
+            Answer::Spent { .. } => Answer::Spent { steps, mark },
+            Answer::Room { .. } => Answer::Room { steps, mark },
+            other => other,
+        }
+    }
+}
+
 /// The root, its type and the book's version, or the first refusal of 2 to 15.
 pub(crate) fn accept(book: &[u8]) -> Result<(Term, Type, Version), Refusal> {
     let (root, version) = decode(book)?;

@@ -53,10 +53,7 @@ fn room(steps: u32, mark: u64) -> Answer {
 }
 
 fn mark(answer: Answer) -> u64 {
-    match answer {
-        Answer::Value { mark, .. } | Answer::Spent { mark, .. } | Answer::Room { mark, .. } => mark,
-        other => panic!("no stop: {other:?}"),
-    }
+    answer.ran().expect("a run that is not refused").1
 }
 
 fn own_fixpoint() -> Term {
