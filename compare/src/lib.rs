@@ -9,6 +9,7 @@ pub mod digests;
 pub mod engines;
 pub mod extremes;
 pub mod families;
+pub mod heavy;
 pub mod joining;
 pub mod loops;
 pub mod maker;

@@ -96,8 +96,8 @@ fn even(of: i64) -> Term {
     Term::application(Term::projection(1, Term::fixpoint(both, Type::intersection(at(1), at(2)))), number(of))
 }
 
-/// Calls itself twice a turn.
-fn fibonacci(of: i64) -> Term {
+/// Calls itself twice a turn: many steps, and small terms.
+pub fn fibonacci(of: i64) -> Term {
     let rest = Term::sum(call(less(variable(0), 1)), call(less(variable(0), 2)));
     looped(Term::choice(variable(0), number(0), Term::choice(less(variable(0), 1), number(1), rest)), number(of))
 }

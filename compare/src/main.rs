@@ -29,8 +29,8 @@ use std::thread;
 use std::time::Instant;
 
 /// The random books of a comparison, and of each fault's search, unless asked for otherwise.
-const COUNT: usize = 117_800;
-const SELF_TEST_COUNT: usize = 7_070;
+const COUNT: usize = 118_917;
+const SELF_TEST_COUNT: usize = 7_138;
 /// A fault is not searched in books of so many bytes, but for random ones.
 const LARGE: usize = 8_192;
 /// A fault that so many families have found is searched no further.
