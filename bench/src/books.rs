@@ -54,7 +54,7 @@ pub fn small_typed(count: usize) -> Vec<Vec<u8>> {
     for family in families().into_iter().filter(|family| names.contains(&family.name)) {
         let small = |book: &Vec<u8>| {
             decode(book).is_ok_and(|(root, _)| root.size() <= 200)
-                && Execution::of(book).is_some_and(|execution| matches!(execution.answer, Answer::Value { steps: 1..=50 }))
+                && Execution::of(book).is_some_and(|execution| matches!(execution.answer, Answer::Value { steps: 1..=50, .. }))
         };
         books.extend(family.books(1, 10 * count).filter(small).take(count / names.len()));
     }

@@ -35,9 +35,9 @@ fn shown(answer: Answer) -> String {
     match answer {
         Answer::Refused { number, cell } => format!("refused {number} {cell}"),
         Answer::Accepted { size } => format!("accepted {size}"),
-        Answer::Value { steps } => format!("value {steps}"),
-        Answer::Spent { steps } => format!("spent {steps}"),
-        Answer::Room { steps } => format!("room {steps}"),
+        Answer::Value { steps, .. } => format!("value {steps}"),
+        Answer::Spent { steps, .. } => format!("spent {steps}"),
+        Answer::Room { steps, .. } => format!("room {steps}"),
     }
 }
 
@@ -104,7 +104,7 @@ fn long_runs(title: &str) {
 /// The steps of a run over its time, which has the check in it; nothing if there are none.
 fn steps_a_second(answer: Answer, seconds: f64) -> String {
     match answer {
-        Answer::Value { steps } | Answer::Spent { steps } | Answer::Room { steps } if steps > 0 => {
+        Answer::Value { steps, .. } | Answer::Spent { steps, .. } | Answer::Room { steps, .. } if steps > 0 => {
             format!("{:.0}", f64::from(steps) / seconds)
         }
         _ => "-".to_string(),

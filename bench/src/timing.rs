@@ -32,19 +32,19 @@ pub fn from_the_root(call: Call, book: &[u8], work: &mut [u8]) -> Answer {
 fn stepped(book: &[u8], limit: u32) -> Result<(Answer, Vec<u8>), Refusal> {
     let (mut term, version) = decode(book)?;
     infer(&mut Vec::new(), &term)?;
-    let mut steps = 0;
+    let (mut steps, mut mark) = (0, term.size());
     let answer = loop {
         if term.is_value() {
-            break Answer::Value { steps };
+            break Answer::Value { steps, mark };
         }
         if steps == limit {
-            break Answer::Spent { steps };
+            break Answer::Spent { steps, mark };
         }
         let next = successors(&term, version).pop().expect("a successor");
         if next.size() > SIZE_LIMIT {
-            break Answer::Room { steps };
+            break Answer::Room { steps, mark };
         }
-        (term, steps) = (next, steps + 1);
+        (mark, term, steps) = (mark.max(next.size()), next, steps + 1);
     };
     Ok((answer, encode_term(&term, version)))
 }
