@@ -1,6 +1,7 @@
 //! Comparing two engines on one book.
 
 use crate::engines::{Both, Call, Engine, Evaluator, Reply};
+use crate::marks::{self, Ran};
 use crate::random::Random;
 use crate::{ordering, restamping, theory};
 use evaluator::{decode, Answer, WORK};
@@ -19,6 +20,8 @@ pub enum Question {
     Call(Call, usize),
     /// What the calculus promises of the terms that the book reaches.
     Theory,
+    /// That its marks are those of the terms that its runs leave.
+    Marks,
     /// That the book is the same as the version 1 book that it is restamped from.
     Restamping,
     /// That the book is the same as others with its parts in another order.
@@ -75,6 +78,7 @@ impl<'a> Comparison<'a> {
         match question {
             Question::Call(call, length) => self.answered(book, call, length).err(),
             Question::Theory => theory::holds(self.engine, book).err().map(Difference::Broken),
+            Question::Marks => marks::holds(self.engine, book).err().map(Difference::Broken),
             Question::Restamping => self.restamped(book).err().map(Difference::Broken),
             Question::Order => self.reordered(book).err().map(Difference::Broken),
         }
@@ -130,6 +134,9 @@ impl<'a> Comparison<'a> {
         let seen = self.calls_of(book, random)?;
         if !matches!(seen.check, Answer::Refused { .. }) {
             self.promised(book, Question::Theory)?;
+            if random.once_in(MARKED) {
+                self.promised(book, Question::Marks)?;
+            }
         }
         self.promised(book, Question::Restamping)?;
         self.promised(book, Question::Order)?;
@@ -153,12 +160,20 @@ impl<'a> Comparison<'a> {
             // The evaluator gives no answer; asked, it fails.
             return self.call(book, Call::Run { limit: ENOUGH }, WORK).map(|run| Seen { check, run });
         };
+        let mut runs = Vec::new();
         for limit in execution.limits(random) {
-            self.call(book, Call::Run { limit }, WORK)?;
+            let answer = self.call(book, Call::Run { limit }, WORK)?;
+            runs.extend(Ran::of(limit, answer, &self.buffers.borrow()[1]));
         }
-        Ok(Seen { check, run: execution.answer })
+        match marks::hold(&runs) {
+            Err(words) if self.theory => Err((Question::Marks, Difference::Broken(words))),
+            _ => Ok(Seen { check, run: execution.answer }),
+        }
     }
 }
+
+/// So many times fewer books are asked about their marks under every limit.
+const MARKED: usize = 100;
 
 /// Limits are tried up to this one; a run that ends within it is tried with the greatest limit too.
 const ENOUGH: u32 = 10_000;
@@ -179,8 +194,8 @@ impl Execution {
         let mut work = vec![0; WORK];
         let answer = Evaluator(None).call(Call::Run { limit: ENOUGH }, book, &mut work).ok()?;
         let (steps, ends) = match answer {
-            Answer::Value { steps } | Answer::Room { steps } => (steps, true),
-            Answer::Spent { steps } => (steps, false),
+            Answer::Value { steps, .. } | Answer::Room { steps, .. } => (steps, true),
+            Answer::Spent { steps, .. } => (steps, false),
             _ => return None,
         };
         Some(Execution { answer, steps, ends, cells: decode(book).ok()?.0.size() })

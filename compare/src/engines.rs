@@ -135,26 +135,32 @@ impl Engine for Both<'_> {
 #[cfg(feature = "engine")]
 pub struct Library;
 
-/// An answer of the wrapper.
+/// What the wrapper says of a check.
 #[cfg(feature = "engine")]
 fn answered(answer: cerealbank::Answer) -> Reply {
     Ok(match answer {
         cerealbank::Answer::Refused { number, cell } => Answer::Refused { number, cell: cell as usize },
         cerealbank::Answer::Accepted { size } => Answer::Accepted { size: size as usize },
-        cerealbank::Answer::Unknown { packed } => return Err(format!("an unknown answer, {packed:#x}")),
+        cerealbank::Answer::Unknown { packed } => return unknown(packed),
     })
 }
 
-/// The same of a run.
+/// What the wrapper says of a run.
 #[cfg(feature = "engine")]
 fn ran(answer: cerealbank::RunAnswer) -> Reply {
+    use cerealbank::RunAnswer;
     Ok(match answer {
-        cerealbank::RunAnswer::Refused { number, cell } => Answer::Refused { number, cell: cell as usize },
-        cerealbank::RunAnswer::Value { steps, .. } => Answer::Value { steps },
-        cerealbank::RunAnswer::Spent { steps, .. } => Answer::Spent { steps },
-        cerealbank::RunAnswer::Room { steps, .. } => Answer::Room { steps },
-        cerealbank::RunAnswer::Unknown { packed } => return Err(format!("an unknown answer, {packed:#x}")),
+        RunAnswer::Refused { number, cell } => Answer::Refused { number, cell: cell as usize },
+        RunAnswer::Value { steps, mark } => Answer::Value { steps, mark: u64::from(mark) },
+        RunAnswer::Spent { steps, mark } => Answer::Spent { steps, mark: u64::from(mark) },
+        RunAnswer::Room { steps, mark } => Answer::Room { steps, mark: u64::from(mark) },
+        RunAnswer::Unknown { packed } => return unknown(packed),
     })
+}
+
+#[cfg(feature = "engine")]
+fn unknown(packed: u64) -> Reply {
+    Err(format!("an unknown answer, {packed:#x}"))
 }
 
 /// What the wrapper says of a join or a preview.

@@ -5,6 +5,7 @@ use crate::cells::{alike, encode, encode_in, is_labelled, unknown_kinds, zeroed,
 use crate::contexts;
 use crate::deepest::deepest;
 use crate::extremes::extremes;
+use crate::heavy;
 use crate::loops::{counting_loops, triangular};
 use crate::maker::{Maker, Weights, EVEN, LABELS};
 use crate::numbers;
@@ -79,6 +80,7 @@ fn whole_families() -> Vec<Family> {
             stated.chain(bodies::one_cell_apart().into_iter().map(|pair| pair.book.bytes())).collect()
         }),
         whole("every order", 20, orders::every_order),
+        whole("heavy", 40, heavy::heavy),
     ]
 }
 
@@ -87,6 +89,7 @@ fn random_families() -> Vec<Family> {
     vec![
         random("nearly equal bodies", 10, bodies::nearly_equal_bodies),
         random("reordered merges", 5, orders::reordered_merges),
+        random("rising and falling", 2, heavy::rising_and_falling),
         random("merges", 12, |r| typed(r, Weights { merge: 8, ..EVEN }.of_type(kind::INTERSECTION, 6), 30)),
         random("hidden fields", 6, hidden_fields),
         random("reads of merges", 12, reads_of_merges),

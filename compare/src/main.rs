@@ -1,14 +1,16 @@
 //! Compares the engine with the evaluator on many books, and on many pairs of books that are previewed and then joined.
 //!
-//! `compare [--seed N] [--count N] [--family NAME] [--version N] [--self-test]`
+//! `compare [--seed N] [--count N] [--family NAME] [--version N] [--digests FILE] [--write-digests FILE] [--self-test]`
 //!
 //! With `--version 2`, only the books whose trailer has version 2 are compared, and the pairs with such a book; with `--version 1`, only the others.
-//! Built with the feature `engine`, the engine of the static library is compared; without it, the evaluator with itself. With `--self-test`, the
+//! With `--digests`, all that the engine says and leaves, but for marks, must have the digests in this file, a family each; with `--write-digests`,
+//! such a file is written, and the marks are not compared: the engine may have none. Built with the feature `engine`, the engine of the static library is compared; without it, the evaluator with itself. With `--self-test`, the
 //! evaluator is compared with faulty copies of itself, and each fault must be found: those of joins in pairs, planted in the joins and again in the
 //! previews, all others in books. The exit status is 0, and the last line starts with what passed - families, or faults found - only if nothing
 //! failed.
 
 use compare::comparing::{Comparison, Question};
+use compare::digests::{Digested, Digests, Remarked};
 use compare::engines::{Engine, Evaluator, FaultyPreviews};
 use compare::families::{families, Family};
 use compare::joining::{as_stated, Asked};
@@ -19,6 +21,7 @@ use compare::restamping::is_version_2;
 use compare::{samples, shrinking};
 use evaluator::{decode, on_large_stack, Fault, WORK};
 use std::fmt::Write;
+use std::fs;
 use std::process::ExitCode;
 use std::sync::atomic::{AtomicUsize, Ordering::Relaxed};
 use std::sync::Mutex;
@@ -26,8 +29,8 @@ use std::thread;
 use std::time::Instant;
 
 /// The random books of a comparison, and of each fault's search, unless asked for otherwise.
-const COUNT: usize = 117_800;
-const SELF_TEST_COUNT: usize = 7_070;
+const COUNT: usize = 118_917;
+const SELF_TEST_COUNT: usize = 7_138;
 /// A fault is not searched in books of so many bytes, but for random ones.
 const LARGE: usize = 8_192;
 /// A fault that so many families have found is searched no further.
@@ -46,13 +49,24 @@ struct Options {
     count: Option<usize>,
     family: Option<String>,
     version: Option<u8>,
+    digests: Option<String>,
+    write_digests: Option<String>,
     self_test: bool,
 }
 
-const USAGE: &str = "usage: compare [--seed N] [--count N] [--family NAME] [--version N] [--self-test]";
+impl Options {
+    /// So many random books are compared.
+    fn compared(&self) -> usize {
+        self.count.unwrap_or(COUNT)
+    }
+}
+
+const USAGE: &str =
+    "usage: compare [--seed N] [--count N] [--family NAME] [--version N] [--digests FILE] [--write-digests FILE] [--self-test]";
 
 fn options() -> Result<Options, String> {
-    let mut options = Options { seed: 1, count: None, family: None, version: None, self_test: false };
+    let (digests, write_digests) = (None, None);
+    let mut options = Options { seed: 1, count: None, family: None, version: None, digests, write_digests, self_test: false };
     let mut words = std::env::args().skip(1);
     while let Some(word) = words.next() {
         let mut value = || words.next().ok_or(format!("{word} needs a value"));
@@ -61,10 +75,18 @@ fn options() -> Result<Options, String> {
             "--count" => options.count = Some(value()?.parse().map_err(|_| "--count needs a number")?),
             "--family" => options.family = Some(value()?),
             "--version" => options.version = Some(value()?.parse().map_err(|_| "--version needs a number")?),
+            "--digests" => options.digests = Some(value()?),
+            "--write-digests" => options.write_digests = Some(value()?),
             "--self-test" => options.self_test = true,
             _ => return Err(format!("{word} is unknown; {USAGE}")),
         }
     }
+    known_family(&options)?;
+    digests_possible(&options)?;
+    Ok(options)
+}
+
+fn known_family(options: &Options) -> Result<(), String> {
     if let Some(name) = &options.family {
         let mut names = families().into_iter().map(|family| family.name).collect::<Vec<_>>();
         names.extend(pair_families().iter().map(|family| family.name));
@@ -72,12 +94,36 @@ fn options() -> Result<Options, String> {
             return Err(format!("no family {name}; there are: {}", names.join(", ")));
         }
     }
-    Ok(options)
+    Ok(())
+}
+
+/// Digests are those of whole families, and all of them are written.
+fn digests_possible(options: &Options) -> Result<(), String> {
+    let Options { digests, write_digests, version, family, self_test, .. } = options;
+    let asked = digests.is_some() || write_digests.is_some();
+    match () {
+        () if asked && (*self_test || version.is_some()) => Err("digests go with neither --version nor --self-test".to_string()),
+        () if digests.is_some() && write_digests.is_some() => Err("digests are compared or written, not both".to_string()),
+        () if write_digests.is_some() && family.is_some() => Err("digests are written of all families".to_string()),
+        () => Ok(()),
+    }
+}
+
+/// The digests that are stored, if some are asked for: those of other books are of no use.
+fn stored_digests(options: &Options) -> Result<Option<Digests>, String> {
+    let Some(path) = &options.digests else { return Ok(None) };
+    let text = fs::read_to_string(path).map_err(|error| format!("{path}: {error}"))?;
+    let stored = Digests::of(&text).map_err(|words| format!("{path}: {words}"))?;
+    if (stored.seed, stored.count) != (options.seed, options.compared()) {
+        return Err(format!("{path} has the digests of seed {}, {} random books", stored.seed, stored.count));
+    }
+    Ok(Some(stored))
 }
 
 fn main() -> ExitCode {
-    let options = match options() {
-        Ok(options) => options,
+    let asked = options().and_then(|options| Ok((stored_digests(&options)?, options)));
+    let (stored, options) = match asked {
+        Ok(asked) => asked,
         Err(words) => {
             eprintln!("{words}");
             return ExitCode::from(2);
@@ -85,19 +131,23 @@ fn main() -> ExitCode {
     };
     // Panics of either side are caught and reported as answers.
     std::panic::set_hook(Box::new(|_| {}));
-    if if options.self_test { self_test(&options) } else { compare(&options) } {
+    if if options.self_test { self_test(&options) } else { compare(&options, stored) } {
         ExitCode::SUCCESS
     } else {
         ExitCode::FAILURE
     }
 }
 
-/// The engine that is compared with the evaluator.
-fn engine() -> Box<dyn Engine> {
+/// The engine that is compared with the evaluator: with the evaluator's marks where digests are written.
+fn engine(options: &Options) -> Box<dyn Engine> {
     #[cfg(feature = "engine")]
-    return Box::new(compare::engines::Library);
+    let engine = Box::new(compare::engines::Library);
     #[cfg(not(feature = "engine"))]
-    return Box::new(Evaluator(None));
+    let engine = Box::new(Evaluator(None));
+    match options.write_digests {
+        Some(_) => Box::new(Remarked(engine)),
+        None => engine,
+    }
 }
 
 /// How many random books of the whole count fall to a family.
@@ -114,51 +164,101 @@ fn side_by_side<T: Send>(items: Vec<T>, work: impl Fn(T) + Sync) {
     thread::scope(|scope| (0..THREADS).for_each(|_| drop(scope.spawn(worker))));
 }
 
-fn compare(options: &Options) -> bool {
-    let count = options.count.unwrap_or(COUNT);
-    let name = engine().name();
-    println!("evaluator against {name}, seed {}, {count} random books", options.seed);
-    let failed = AtomicUsize::new(on_large_stack(|| stated_samples(options.version) + stated_joins()));
-    let (passed, books) = (AtomicUsize::new(0), AtomicUsize::new(0));
+/// What has been compared, and what has failed.
+struct Tally {
+    families: AtomicUsize,
+    books: AtomicUsize,
+    pairs: AtomicUsize,
+    previews: AtomicUsize,
+    failed: AtomicUsize,
+    digests: Mutex<Digests>,
+}
+
+impl Tally {
+    fn of(options: &Options) -> Tally {
+        let [families, books, pairs, previews, failed] = [(); 5].map(|()| AtomicUsize::new(0));
+        let digests = Mutex::new(Digests::new(options.seed, options.compared()));
+        Tally { families, books, pairs, previews, failed, digests }
+    }
+
+    /// So much has failed that no more is compared.
+    fn ended(&self) -> bool {
+        self.failed.load(Relaxed) >= FAILURES
+    }
+
+    fn fail(&self, count: usize) {
+        self.failed.fetch_add(count, Relaxed);
+    }
+
+    /// A family has been compared.
+    fn enter(&self, family: &str, digest: u64) {
+        self.families.fetch_add(1, Relaxed);
+        self.digests.lock().expect("no panic holds it").enter(family, digest);
+    }
+}
+
+fn compare(options: &Options, stored: Option<Digests>) -> bool {
+    println!("evaluator against {}, seed {}, {} random books", engine(options).name(), options.seed, options.compared());
+    let tally = Tally::of(options);
+    tally.fail(on_large_stack(|| stated_samples(options) + stated_joins(options)));
     println!("{}", Figures::HEAD);
     let asked = |family: &Family| options.family.as_ref().is_none_or(|name| name == family.name);
     side_by_side(families().into_iter().filter(asked).collect(), |family| {
-        if failed.load(Relaxed) >= FAILURES {
-            return;
+        if !tally.ended() {
+            one_family(&family, options, &tally);
         }
-        let figures = one_family(&family, options, count, &failed);
-        passed.fetch_add(1, Relaxed);
-        books.fetch_add(figures.books, Relaxed);
     });
-    let [pairs, previews] = compare_pairs(options, count, &passed, &failed);
-    let (passed, books, failed) = (passed.into_inner(), books.into_inner(), failed.into_inner());
+    compare_pairs(options, &tally);
+    let Tally { families, books, pairs, previews, failed, digests } = tally;
+    let digests = digests.into_inner().expect("no panic has held it");
+    let failed = failed.into_inner() + digested(options, &digests, stored);
+    let [families, books, pairs, previews] = [families, books, pairs, previews].map(AtomicUsize::into_inner);
     match failed {
-        0 => println!("{passed} families of {books} books and {pairs} pairs compared, {previews} of them previewed, no difference"),
+        0 => {
+            println!("{families} families of {books} books and {pairs} pairs compared, {previews} of them previewed, no difference")
+        }
         _ => println!("FAILED: {failed} differences, after {books} books and {pairs} pairs without one"),
     }
-    failed == 0
+    failed == 0 && written(options, &digests)
 }
 
-/// Compares the families of pairs. How many pairs, and how many of them were previewed.
-fn compare_pairs(options: &Options, count: usize, passed: &AtomicUsize, failed: &AtomicUsize) -> [usize; 2] {
+/// How many digests are not as they are stored.
+fn digested(options: &Options, digests: &Digests, stored: Option<Digests>) -> usize {
+    let Some(stored) = stored else { return 0 };
+    let differences = digests.differences(&stored, options.family.is_none());
+    differences.iter().for_each(|words| println!("FAILED: digest of {words}"));
+    if differences.is_empty() {
+        println!("all but the marks as stored, in {} digests", digests.text().lines().skip(1).count());
+    }
+    differences.len()
+}
+
+/// Writes the digests, if that is asked for. No if they cannot be written.
+fn written(options: &Options, digests: &Digests) -> bool {
+    let Some(path) = &options.write_digests else { return true };
+    match fs::write(path, digests.text()) {
+        Ok(()) => true,
+        Err(error) => {
+            println!("FAILED: {path}: {error}");
+            false
+        }
+    }
+}
+
+/// Compares the families of pairs.
+fn compare_pairs(options: &Options, tally: &Tally) {
     let asked = |family: &PairFamily| options.family.as_ref().is_none_or(|name| name == family.name);
     let families: Vec<PairFamily> = pair_families().into_iter().filter(asked).collect();
-    if families.is_empty() || failed.load(Relaxed) >= FAILURES {
-        return [0, 0];
+    if families.is_empty() || tally.ended() {
+        return;
     }
     println!("{}", PairFigures::HEAD);
     let pool = on_large_stack(|| Pool::of(options.seed, EACH));
-    let (pairs, previews) = (AtomicUsize::new(0), AtomicUsize::new(0));
     side_by_side(families, |family| {
-        if failed.load(Relaxed) >= FAILURES {
-            return;
+        if !tally.ended() {
+            one_pair_family(&family, options, &pool, tally);
         }
-        let figures = one_pair_family(&family, options, (&pool, count / FEWER), failed);
-        passed.fetch_add(1, Relaxed);
-        pairs.fetch_add(figures.pairs, Relaxed);
-        previews.fetch_add(figures.previews, Relaxed);
     });
-    [pairs.into_inner(), previews.into_inner()]
 }
 
 /// The book has this version, for 1 whatever is not version 2; or none is asked for.
@@ -167,22 +267,22 @@ fn of_version(book: &[u8], version: Option<u8>) -> bool {
 }
 
 /// Compares a family's books, until too many have failed in all families.
-fn one_family(family: &Family, options: &Options, count: usize, failed: &AtomicUsize) -> Figures {
-    let seed = options.seed;
-    let engine = engine();
-    let comparison = Comparison::new(engine.as_ref(), true);
-    let start = Instant::now();
+fn one_family(family: &Family, options: &Options, tally: &Tally) {
+    let (seed, start) = (options.seed, Instant::now());
+    let engine = engine(options);
+    let digested = Digested::of(engine.as_ref());
+    let comparison = Comparison::new(&digested, true);
     let mut figures = Figures::default();
-    let books = family.in_both_versions(seed, share(family.share, count));
+    let books = family.in_both_versions(seed, share(family.share, options.compared()));
     for (place, book) in books.enumerate().filter(|(_, book)| of_version(book, options.version)) {
-        if failed.load(Relaxed) >= FAILURES {
+        if tally.ended() {
             break;
         }
         let mut random = Random::of(seed, "limits", place as u64);
         match comparison.book(&book, &mut random) {
             Ok(seen) => figures.enter(seen, is_version_2(&book)),
             Err((question, difference)) => {
-                failed.fetch_add(1, Relaxed);
+                tally.fail(1);
                 let mut text = format!("FAILED: {}, book {place}\n", family.name);
                 text += &described(&book, question, &difference, engine.as_ref());
                 println!("{text}{}", smaller(&comparison, book, question));
@@ -191,7 +291,8 @@ fn one_family(family: &Family, options: &Options, count: usize, failed: &AtomicU
     }
     (figures.calls, figures.pairs, figures.orders) = (comparison.calls.get(), comparison.pairs.get(), comparison.orders.get());
     println!("{}", figures.line(family.name, start.elapsed().as_secs_f64()));
-    figures
+    tally.enter(family.name, digested.digest());
+    tally.books.fetch_add(figures.books, Relaxed);
 }
 
 /// A smaller book on which the sides still differ, described.
@@ -213,13 +314,14 @@ fn share_of_pairs(of: u32, count: usize) -> usize {
 }
 
 /// Compares a family's pairs, until too many have failed in all families.
-fn one_pair_family(family: &PairFamily, options: &Options, (pool, count): (&Pool, usize), failed: &AtomicUsize) -> PairFigures {
-    let engine = engine();
-    let comparison = Comparison::new(engine.as_ref(), true);
+fn one_pair_family(family: &PairFamily, options: &Options, pool: &Pool, tally: &Tally) {
+    let engine = engine(options);
+    let digested = Digested::of(engine.as_ref());
+    let comparison = Comparison::new(&digested, true);
     let (start, mut figures) = (Instant::now(), PairFigures::default());
-    let pairs = family.pairs(pool, options.seed, share_of_pairs(family.share, count));
+    let pairs = family.pairs(pool, options.seed, share_of_pairs(family.share, options.compared() / FEWER));
     for (place, pair) in pairs.enumerate().filter(|(_, pair)| pair_of_version(pair, options.version)) {
-        if failed.load(Relaxed) >= FAILURES {
+        if tally.ended() {
             break;
         }
         let random = &mut Random::of(options.seed, "joints", place as u64);
@@ -234,13 +336,15 @@ fn one_pair_family(family: &PairFamily, options: &Options, (pool, count): (&Pool
             }
         };
         if let Some(text) = failure {
-            failed.fetch_add(1, Relaxed);
+            tally.fail(1);
             println!("FAILED: {}, pair {place}\n{text}", family.name);
         }
     }
     figures.previews = comparison.previews.get();
     println!("{}", figures.line(family.name, start.elapsed().as_secs_f64()));
-    figures
+    tally.enter(family.name, digested.digest());
+    tally.pairs.fetch_add(figures.pairs, Relaxed);
+    tally.previews.fetch_add(figures.previews, Relaxed);
 }
 
 /// All about the joint as a book, at times; the difference described, if there is one.
@@ -258,10 +362,10 @@ fn smaller_pair(comparison: &Comparison, pair: Pair, asked: Asked) -> String {
 }
 
 /// Both sides on the joins of which the documents' words give the answer and the joint, and on their previews. How many failed.
-fn stated_joins() -> usize {
+fn stated_joins(options: &Options) -> usize {
     let mut failed = 0;
     for stated in stated() {
-        for side in [&Evaluator(None) as &dyn Engine, engine().as_ref()] {
+        for side in [&Evaluator(None) as &dyn Engine, engine(options).as_ref()] {
             if let Err(words) = as_stated(side, &stated, &[0xAA; 2 * WORK]) {
                 failed += 1;
                 println!("FAILED: {}: {words}", stated.name);
@@ -272,10 +376,10 @@ fn stated_joins() -> usize {
 }
 
 /// Both sides on the samples and the refused parts, against what the documents state of them. How many failed.
-fn stated_samples(version: Option<u8>) -> usize {
+fn stated_samples(options: &Options) -> usize {
     let mut failed = 0;
-    for sample in samples::stated().into_iter().filter(|sample| of_version(&sample.book, version)) {
-        for side in [&Evaluator(None) as &dyn Engine, engine().as_ref()] {
+    for sample in samples::stated().into_iter().filter(|sample| of_version(&sample.book, options.version)) {
+        for side in [&Evaluator(None) as &dyn Engine, engine(options).as_ref()] {
             let mut work = vec![0xA5; WORK];
             let reply = side.call(sample.call, &sample.book, &mut work);
             let other_bytes = sample.left().is_some_and(|left| !work.starts_with(&left));

@@ -123,15 +123,15 @@ impl Asked<'_> {
         }
     }
 
-    /// The call refuses both, or says of both the same. It then leaves the same of both, but each its own root where no step was taken.
+    /// The call refuses both, or says of both the same, the mark included. It then leaves the same of both, but each its own root where no step was taken.
     fn same(&self, asked: Call, terms: &[Term; 2], random: &mut Random) -> Result<Answer, String> {
         let (one, left) = self.call(asked, &terms[0], random)?;
         let (other, right) = self.call(asked, &terms[1], random)?;
         let own = |term: &Term, work: &[u8]| encoded(work) == encode_term(term, self.version);
         let same = match (one, other) {
             (Answer::Refused { .. }, Answer::Refused { .. }) => true,
-            (Answer::Accepted { .. } | Answer::Value { steps: 1 }, _) => one == other && left == right,
-            (Answer::Spent { steps: 0 } | Answer::Room { steps: 0 }, _) => {
+            (Answer::Accepted { .. } | Answer::Value { steps: 1, .. }, _) => one == other && left == right,
+            (Answer::Spent { steps: 0, .. } | Answer::Room { steps: 0, .. }, _) => {
                 one == other && own(&terms[0], &left) && own(&terms[1], &right)
             }
             _ => false,

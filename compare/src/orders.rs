@@ -186,12 +186,13 @@ pub fn stated() -> Vec<Sample> {
     list
 }
 
-/// A value read under the types of a number and a field, in both orders.
+/// A value read under the types of a number and a field, in both orders. A reading without functions has fewer cells than the annotation.
 fn readings(value: &Term, expected: [&Term; 2]) -> Vec<Sample> {
     let by = |reading: &Term| Term::annotation(value.clone(), type_of_value(reading));
     let run = |reading: &Term| {
-        let (call, answer) = (Call::Run { limit: 1 }, Answer::Value { steps: 1 });
-        let book = encode_term(&by(reading), Version::One);
+        let root = by(reading);
+        let (call, answer) = (Call::Run { limit: 1 }, Answer::Value { steps: 1, mark: root.size() });
+        let book = encode_term(&root, Version::One);
         Sample { name: "the order of the type", book, call, answer, value: Some(reading.clone()) }
     };
     expected.map(run).into()
@@ -201,13 +202,13 @@ fn readings(value: &Term, expected: [&Term; 2]) -> Vec<Sample> {
 fn without_a_step() -> Vec<Sample> {
     let as_function = Type::function(int(), int());
     let cases = [
-        (field(3, number(2)), number(1), field_type(3), 0, Answer::Spent { steps: 0 }),
+        (field(3, number(2)), number(1), field_type(3), 0, Answer::Spent { steps: 0, mark: 7 }),
         (
             field(3, number(1)),
             long_function(2_764),
             Type::intersection(as_function.clone(), as_function),
             1,
-            Answer::Room { steps: 0 },
+            Answer::Room { steps: 0, mark: 2_775 },
         ),
     ];
     let both = cases.into_iter().flat_map(|(one, other, by, limit, answer)| {

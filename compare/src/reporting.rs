@@ -167,6 +167,7 @@ pub fn described(book: &[u8], question: Question, difference: &Difference, engin
         Question::Call(Call::Run { limit }, WORK) => format!("run, limit {limit}"),
         Question::Call(call, length) => format!("{call:?} with a work buffer of {length} bytes"),
         Question::Theory => "what the calculus promises".to_string(),
+        Question::Marks => "its marks under several limits".to_string(),
         Question::Restamping => "the same as of the version 1 book that it is restamped from".to_string(),
         Question::Order => "the same as of its parts in another order".to_string(),
     };

@@ -32,7 +32,7 @@ fn has_sum(term: &Term) -> bool {
     matches!(term.shape(), TermShape::Sum(..)) || term.node().terms().any(|(.., part)| has_sum(part))
 }
 
-/// The call says of both books the same, and leaves the same restamped.
+/// The call says of both books the same, of a run with the same mark, and leaves the same restamped.
 fn same(side: &dyn Engine, asked: Call, one: &[u8], two: &[u8]) -> Result<Answer, String> {
     let (answer, left) = call(side, asked, one)?;
     let (other, right) = call(side, asked, two)?;
@@ -57,9 +57,7 @@ pub fn holds(side: &dyn Engine, book: &[u8]) -> Result<bool, String> {
     }
     same(side, Call::Check, &one, book)?;
     let run = |limit: u32| same(side, Call::Run { limit }, &one, book);
-    let (Answer::Value { steps } | Answer::Spent { steps } | Answer::Room { steps }) = run(ENOUGH)? else {
-        return Err("a run of an accepted book is no run".to_string());
-    };
+    let (steps, _) = run(ENOUGH)?.ran().ok_or("a run of an accepted book is refused")?;
     let mut limits = vec![0, 1, steps / 2, steps.saturating_sub(1), steps];
     limits.sort_unstable();
     limits.dedup();

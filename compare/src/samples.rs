@@ -118,7 +118,7 @@ pub fn samples() -> Vec<Sample> {
         name: "the desk example",
         book: desk_example(),
         call: Call::Run { limit: 10_000 },
-        answer: Answer::Value { steps: 1 },
+        answer: Answer::Value { steps: 1, mark: 6 },
         value,
     });
     all
@@ -140,9 +140,9 @@ fn samples_by_answer() -> Vec<Sample> {
     let variables = Term::merge(Term::variable(0), Term::variable(0));
     add("a variable merged with itself", unshared(&Term::function(variables, int(), int())), Call::Check, refused(14, 2));
     add("3 applied to 4", unshared(&Term::application(number(3), number(4))), Call::Check, refused(12, 2));
-    add("the fixpoint, limit 0", unshared(&own_fixpoint()), run(0), Answer::Spent { steps: 0 });
-    add("the fixpoint, limit 2,046", unshared(&own_fixpoint()), run(2_046), Answer::Spent { steps: 2_046 });
-    add("the fixpoint, limit 2,047", unshared(&own_fixpoint()), run(2_047), Answer::Room { steps: 2_046 });
+    add("the fixpoint, limit 0", unshared(&own_fixpoint()), run(0), Answer::Spent { steps: 0, mark: 3 });
+    add("the fixpoint, limit 2,046", unshared(&own_fixpoint()), run(2_046), Answer::Spent { steps: 2_046, mark: 4_095 });
+    add("the fixpoint, limit 2,047", unshared(&own_fixpoint()), run(2_047), Answer::Room { steps: 2_046, mark: 4_095 });
     let top = zeroed(kind::TOP_VALUE);
     add("the top value merged 11 times", doubled(top, 11), Call::Check, Answer::Accepted { size: 4_095 });
     add("the top value merged 12 times", doubled(top, 12), Call::Check, refused(10, 12));
@@ -154,20 +154,20 @@ fn samples_by_answer() -> Vec<Sample> {
 /// Samples of which document 01 states the value and the steps.
 fn samples_by_value() -> Vec<Sample> {
     let mut list = Vec::new();
-    let mut add = |name, term: Term, value: Term, steps| {
-        let (call, answer) = (Call::Run { limit: 10_000 }, Answer::Value { steps });
+    let mut add = |name, term: Term, value: Term, (steps, mark)| {
+        let (call, answer) = (Call::Run { limit: 10_000 }, Answer::Value { steps, mark });
         list.push(Sample { name, book: unshared(&term), call, answer, value: Some(value) });
     };
     let ones = Term::merge(number(1), number(1));
-    add("1 merged with 1", ones.clone(), ones, 0);
+    add("1 merged with 1", ones.clone(), ones, (0, 3));
     let twice = Term::annotation(Term::annotation(number(1), Type::intersection(int(), int())), int());
-    add("1 under Int and Int, then under Int", twice, number(1), 2);
+    add("1 under Int and Int, then under Int", twice, number(1), (2, 7));
     let argument = Term::merge(number(1), Term::record(7, number(5)));
-    add("the identity on a merge", Term::application(identity(), argument), number(1), 2);
+    add("the identity on a merge", Term::application(identity(), argument), number(1), (2, 9));
     let to_top = Type::function(int(), Type::top());
-    add("the identity annotated Int to Top", Term::annotation(identity(), to_top), Term::top(), 1);
-    add("the top value applied to 3", Term::application(Term::top(), number(3)), Term::top(), 1);
-    add("the hidden field", hidden_field(), number(2), 4);
+    add("the identity annotated Int to Top", Term::annotation(identity(), to_top), Term::top(), (1, 8));
+    add("the top value applied to 3", Term::application(Term::top(), number(3)), Term::top(), (1, 3));
+    add("the hidden field", hidden_field(), number(2), (4, 18));
     list
 }
 
@@ -194,24 +194,24 @@ fn refused_reads() -> Vec<Sample> {
 /// Field reads of merges that run.
 fn reads_by_value() -> Vec<Sample> {
     let mut list = Vec::new();
-    let mut add = |name, term: Term, value: Term, steps| {
-        let (call, answer) = (Call::Run { limit: 10_000 }, Answer::Value { steps });
+    let mut add = |name, term: Term, value: Term, (steps, mark)| {
+        let (call, answer) = (Call::Run { limit: 10_000 }, Answer::Value { steps, mark });
         list.push(Sample { name, book: unshared(&term), call, answer, value: Some(value) });
     };
     let read = |label: u8, one: Term, other: Term| Term::projection(label, Term::merge(one, other));
     let to_top = |input: Type| Term::function(Term::variable(0), input, Type::top());
     let nothing = || field(1, Term::top());
-    add("the second of two fields", read(2, field(1, number(5)), field(2, number(6))), number(6), 1);
-    add("a field behind a top-like one", read(1, nothing(), field(1, number(5))), number(5), 1);
-    add("two top-like fields", read(1, nothing(), nothing()), Term::top(), 1);
-    add("a top-like field", read(1, field(1, to_top(Type::top())), field(2, number(3))), Term::top(), 1);
-    add("the same field alone", Term::projection(1, field(1, to_top(Type::top()))), to_top(Type::top()), 1);
-    add("a field beside a top-like function", read(9, number(3), to_top(int())), Term::top(), 1);
+    add("the second of two fields", read(2, field(1, number(5)), field(2, number(6))), number(6), (1, 6));
+    add("a field behind a top-like one", read(1, nothing(), field(1, number(5))), number(5), (1, 6));
+    add("two top-like fields", read(1, nothing(), nothing()), Term::top(), (1, 6));
+    add("a top-like field", read(1, field(1, to_top(Type::top())), field(2, number(3))), Term::top(), (1, 9));
+    add("the same field alone", Term::projection(1, field(1, to_top(Type::top()))), to_top(Type::top()), (1, 6));
+    add("a field beside a top-like function", read(9, number(3), to_top(int())), Term::top(), (1, 7));
     let (left, right) = (Term::merge(number(3), field(1, number(4))), Term::merge(Term::top(), field(2, number(5))));
-    add("a field one level down", read(1, left, right), number(4), 1);
-    add("the hidden field, not annotated", hidden_field_read(|merge| merge), number(2), 3);
+    add("a field one level down", read(1, left, right), number(4), (1, 10));
+    add("the hidden field, not annotated", hidden_field_read(|merge| merge), number(2), (3, 15));
     let annotated = Term::annotation(field(1, number(4)), Type::record(1, int()));
-    add("a field that steps first", read(1, annotated, number(2)), number(4), 2);
+    add("a field that steps first", read(1, annotated, number(2)), number(4), (2, 8));
     list
 }
 
@@ -228,26 +228,26 @@ pub fn stated() -> Vec<Sample> {
 /// Sums and choices that run.
 fn numbers_by_value() -> Vec<Sample> {
     let mut list = Vec::new();
-    let mut add = |name, term: Term, value: i32, steps| {
-        let (call, answer) = (Call::Run { limit: 10_000 }, Answer::Value { steps });
+    let mut add = |name, term: Term, value: i32, (steps, mark)| {
+        let (call, answer) = (Call::Run { limit: 10_000 }, Answer::Value { steps, mark });
         list.push(Sample { name, book: unshared(&term), call, answer, value: Some(number(value)) });
     };
     let sum = |one: i32, other: i32| Term::sum(number(one), number(other));
     let choice = |test: Term| Term::choice(test, number(8), number(9));
     let merge = |n: i32| Term::merge(number(n), field(7, number(5)));
-    add("a sum", sum(2, 3), 5, 1);
-    add("a sum held above", sum(i32::MAX, 1), i32::MAX, 1);
-    add("a sum held below", sum(i32::MIN, -1), i32::MIN, 1);
-    add("a sum of both ends", sum(i32::MIN, i32::MAX), -1, 1);
-    add("a merge in a sum", Term::sum(merge(1), number(2)), 3, 1);
-    add("a choice for zero", choice(number(0)), 8, 2);
-    add("a choice for minus one", choice(number(-1)), 9, 2);
-    add("a choice for 65,536", choice(number(65_536)), 9, 2);
-    add("a choice for a merge with zero", choice(merge(0)), 8, 2);
-    add("a choice for a sum", choice(sum(1, -1)), 8, 3);
-    add("a branch that does not end", Term::choice(number(1), own_fixpoint(), number(9)), 9, 2);
-    add("the triangular number of 4", triangular(4), 10, 38);
-    add("the same, carried along", accumulated(4), 10, 48);
-    add("a loop of a thousand turns", countdown(1_000, 1, 7), 7, 7_006);
+    add("a sum", sum(2, 3), 5, (1, 3));
+    add("a sum held above", sum(i32::MAX, 1), i32::MAX, (1, 3));
+    add("a sum held below", sum(i32::MIN, -1), i32::MIN, (1, 3));
+    add("a sum of both ends", sum(i32::MIN, i32::MAX), -1, (1, 3));
+    add("a merge in a sum", Term::sum(merge(1), number(2)), 3, (1, 6));
+    add("a choice for zero", choice(number(0)), 8, (2, 4));
+    add("a choice for minus one", choice(number(-1)), 9, (2, 4));
+    add("a choice for 65,536", choice(number(65_536)), 9, (2, 4));
+    add("a choice for a merge with zero", choice(merge(0)), 8, (2, 7));
+    add("a choice for a sum", choice(sum(1, -1)), 8, (3, 6));
+    add("a branch that does not end", Term::choice(number(1), own_fixpoint(), number(9)), 9, (2, 6));
+    add("the triangular number of 4", triangular(4), 10, (38, 61));
+    add("the same, carried along", accumulated(4), 10, (48, 75));
+    add("a loop of a thousand turns", countdown(1_000, 1, 7), 7, (7_006, 4_033));
     list
 }

@@ -1,6 +1,6 @@
 //! What the calculus promises of an accepted book: each term reached is a value without a successor or has exactly one, is typed below
-//! the first type and is accepted as a book; and any two limits agree. Successors and types are the evaluator's, with both halves
-//! of every merge open; the calls are those of the side that is compared.
+//! the first type and is accepted as a book; the mark is the greatest size among them; and any two limits agree. Successors and types are
+//! the evaluator's, with both halves of every merge open; the calls are those of the side that is compared.
 
 use crate::engines::{Call, Engine};
 use crate::random::Random;
@@ -45,13 +45,13 @@ pub fn holds(side: &dyn Engine, book: &[u8]) -> Result<(), String> {
     if first.size() > root.size() {
         return Err(format!("the type's size {} passes the book's {}", first.size(), root.size()));
     }
-    let (mut term, mut steps) = (root, 0);
+    let (mut mark, mut term, mut steps) = (root.size(), root, 0);
     while term.size() <= SMALL && steps < STEPS {
         let next = follow(side, &term, version, &first).map_err(|words| format!("after {steps} steps, of {term}: {words}"))?;
         let Some(next) = next else { break };
-        (term, steps) = (next, steps + 1);
+        (mark, term, steps) = (mark.max(next.size()), next, steps + 1);
     }
-    let reached = if term.is_value() { Answer::Value { steps } } else { Answer::Spent { steps } };
+    let reached = if term.is_value() { Answer::Value { steps, mark } } else { Answer::Spent { steps, mark } };
     expect(side, Call::Run { limit: steps }, book, reached, &encode_term(&term, version))?;
     let mut random = Random::of(u64::from(steps), "limits", book.len() as u64);
     let one = random.lower(steps as usize + 3) as u32;
@@ -71,33 +71,29 @@ fn follow(side: &dyn Engine, term: &Term, version: Version, first: &Type) -> Res
     let alone = encode_term(term, version);
     let size = inferred.size() as usize;
     expect(side, Call::Check, &alone, Answer::Accepted { size }, &encode_type(&inferred, version))?;
-    let one_step = Call::Run { limit: 1 };
+    let (one_step, mark) = (Call::Run { limit: 1 }, term.size());
     let Some(next) = next.pop() else {
-        return expect(side, one_step, &alone, Answer::Value { steps: 0 }, &alone).map(|()| None);
+        return expect(side, one_step, &alone, Answer::Value { steps: 0, mark }, &alone).map(|()| None);
     };
     if next.size() > SIZE_LIMIT {
-        return expect(side, one_step, &alone, Answer::Room { steps: 0 }, &alone).map(|()| None);
+        return expect(side, one_step, &alone, Answer::Room { steps: 0, mark }, &alone).map(|()| None);
     }
-    let after = if next.is_value() { Answer::Value { steps: 1 } } else { Answer::Spent { steps: 1 } };
+    let mark = mark.max(next.size());
+    let after = if next.is_value() { Answer::Value { steps: 1, mark } } else { Answer::Spent { steps: 1, mark } };
     expect(side, one_step, &alone, after, &encode_term(&next, version)).map(|()| Some(next))
 }
 
 /// The run with the lower limit either ended, and the other says the same; or it was spent, and its term, run for the steps
-/// between, comes to what the other leaves.
+/// between, comes to what the other leaves, with the larger of both marks.
 fn two_limits(side: &dyn Engine, book: &[u8], lower: u32, higher: u32) -> Result<(), String> {
     let (one, one_work) = call(side, Call::Run { limit: lower }, book)?;
     let (other, other_work) = call(side, Call::Run { limit: higher }, book)?;
-    let Answer::Spent { .. } = one else {
+    let Answer::Spent { mark: before, .. } = one else {
         let same = one == other && one_work == other_work;
         return if same { Ok(()) } else { Err(format!("limit {lower}: {one:?}, limit {higher}: {other:?}")) };
     };
     let (rest, rest_work) = call(side, Call::Run { limit: higher - lower }, encoded(&one_work))?;
-    let whole = match rest {
-        Answer::Value { steps } => Answer::Value { steps: steps + lower },
-        Answer::Spent { steps } => Answer::Spent { steps: steps + lower },
-        Answer::Room { steps } => Answer::Room { steps: steps + lower },
-        other => other,
-    };
+    let whole = rest.ran().map_or(rest, |(steps, mark)| rest.with(steps + lower, mark.max(before)));
     if whole == other && rest_work == other_work {
         Ok(())
     } else {

@@ -404,24 +404,24 @@ pub fn stated() -> Vec<Sample> {
 /// Those that run, in each version that is meant.
 fn values() -> Vec<Sample> {
     let mut list = Vec::new();
-    let mut add = |name, version, term: Term, value: i64, steps| {
-        let (call, answer) = (Call::Run { limit: 10_000 }, Answer::Value { steps });
+    let mut add = |name, version, term: Term, value: i64, (steps, mark)| {
+        let (call, answer) = (Call::Run { limit: 10_000 }, Answer::Value { steps, mark });
         list.push(Sample { name, book: encode_term(&term, version), call, answer, value: Some(number(value)) });
     };
     let sum = |m: i64, n: i64| Term::sum(number(m), number(n));
     let [least, most] = [One.least(), One.most()];
-    add("a number of 41 bits", Two, number(1 << 40), 1 << 40, 0);
-    add("minus one", Two, number(-1), -1, 0);
-    add("a sum held above", Two, sum(MOST, 1), MOST, 1);
-    add("a sum held below", Two, sum(LEAST, -1), LEAST, 1);
-    add("a sum past 32 bits", Two, sum(most, 1), most + 1, 1);
-    add("a sum past 32 bits, below", Two, sum(least, -1), least - 1, 1);
-    add("a sum held above, version 1", One, sum(most, 1), most, 1);
-    add("a sum held below, version 1", One, sum(least, -1), least, 1);
-    add("a sum of a wide number", Two, sum(1 << 40, -1), (1 << 40) - 1, 1);
+    add("a number of 41 bits", Two, number(1 << 40), 1 << 40, (0, 1));
+    add("minus one", Two, number(-1), -1, (0, 1));
+    add("a sum held above", Two, sum(MOST, 1), MOST, (1, 3));
+    add("a sum held below", Two, sum(LEAST, -1), LEAST, (1, 3));
+    add("a sum past 32 bits", Two, sum(most, 1), most + 1, (1, 3));
+    add("a sum past 32 bits, below", Two, sum(least, -1), least - 1, (1, 3));
+    add("a sum held above, version 1", One, sum(most, 1), most, (1, 3));
+    add("a sum held below, version 1", One, sum(least, -1), least, (1, 3));
+    add("a sum of a wide number", Two, sum(1 << 40, -1), (1 << 40) - 1, (1, 3));
     for tested in [1 << 32, 65_536, 1] {
-        add("a choice for a number with zeros in it", Two, Term::choice(number(tested), number(1), number(2)), 2, 2);
+        add("a choice for a number with zeros in it", Two, Term::choice(number(tested), number(1), number(2)), 2, (2, 4));
     }
-    add("the hidden field", Two, hidden_field(), 2, 4);
+    add("the hidden field", Two, hidden_field(), 2, (4, 18));
     list
 }

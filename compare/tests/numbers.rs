@@ -108,11 +108,11 @@ impl Shares {
         let mut work = vec![0; WORK];
         match run(book, &mut work, 10_000) {
             Answer::Refused { .. } => return self.refused += 1,
-            Answer::Value { steps } | Answer::Spent { steps } | Answer::Room { steps } => {
+            answer => {
+                let (steps, _) = answer.ran().expect("a run");
                 self.long += usize::from(steps > 100);
                 self.thousands += usize::from(steps > 1_000);
             }
-            other => panic!("{other:?}"),
         }
         self.accepted += 1;
         let (root, version) = decode(book).expect("a term");

@@ -78,7 +78,7 @@ impl Shares {
         let Some((value, by)) = ordered(&root) else { return };
         let count = value_parts(value).len();
         self.annotated += usize::from(by.is_some());
-        self.room += usize::from(run(book, &mut vec![0; WORK], 1) == Answer::Room { steps: 0 });
+        self.room += usize::from(matches!(run(book, &mut vec![0; WORK], 1), Answer::Room { steps: 0, .. }));
         self.three += usize::from(count == 3);
         self.many += usize::from(count > 10);
         self.within_records += usize::from(has_merge_within(value));

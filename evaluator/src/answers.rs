@@ -2,6 +2,7 @@
 
 use crate::book::{decode, encode_term, encode_type, Cell, Refusal, CELL, SIZE_LIMIT, TRAILER};
 use crate::faults::{asked, planted, Fault};
+use crate::marks::{Marks, Stop};
 use crate::running::Machine;
 use crate::stack::on_large_stack;
 use crate::terms::{Term, TermShape, Type};
@@ -14,7 +15,8 @@ pub const WORK: usize = 65_536;
 /// "The desk program reads a book on standard input, limit 10,000."
 pub const DESK_LIMIT: u32 = 10_000;
 
-/// What a call says.
+/// What a call says. Of a run that is not refused also the mark, "the greatest size of any term so far, the first included": "each run
+/// answer reports it".
 #[derive(Clone, Copy, PartialEq, Eq, Debug)]
 pub enum Answer {
     /// "Answer: number and cell (0 for 1 to 4)."
@@ -22,11 +24,31 @@ pub enum Answer {
     /// "A check lays down the type and gives its size."
     Accepted { size: usize },
     /// "A run says value when the term is one"
-    Value { steps: u32 },
+    Value { steps: u32, mark: u64 },
     /// "else spent when exactly the limit has been taken"
-    Spent { steps: u32 },
+    Spent { steps: u32, mark: u64 },
     /// "else no room when the successor's size exceeds 4,095."
-    Room { steps: u32 },
+    Room { steps: u32, mark: u64 },
+}
+
+impl Answer {
+    /// The steps and the mark of a run that is not refused.
+    pub fn ran(self) -> Option<(u32, u64)> {
+        match self {
+            Answer::Value { steps, mark } | Answer::Spent { steps, mark } | Answer::Room { steps, mark } => Some((steps, mark)),
+            Answer::Refused { .. } | Answer::Accepted { .. } => None,
+        }
+    }
+
+    /// The same with other steps and another mark, of such a run; any other answer as it is.
+    pub fn with(self, steps: u32, mark: u64) -> Answer {
+        match self {
+            Answer::Value { .. } => Answer::Value { steps, mark },
+            Answer::Spent { .. } => Answer::Spent { steps, mark },
+            Answer::Room { .. } => Answer::Room { steps, mark },
+            other => other,
+        }
+    }
 }
 
 /// The root, its type and the book's version, or the first refusal of 2 to 15.
@@ -37,22 +59,27 @@ pub(crate) fn accept(book: &[u8]) -> Result<(Term, Type, Version), Refusal> {
     Ok((root, inferred, version))
 }
 
-/// Where a run stops, and the term reached: "A run says value when the term is one; else spent when exactly the limit has been
-/// taken; else no room when the successor's size exceeds 4,095."
-fn evaluate(root: Term, version: Version, limit: u32) -> (Answer, Term) {
-    let room = match () {
+/// The size beyond which there is no room.
+fn room() -> u64 {
+    match () {
         () if planted(Fault::RoomOneEarly) => SIZE_LIMIT - 1,
         () if planted(Fault::RoomOneLate) => SIZE_LIMIT + 1,
         () => SIZE_LIMIT,
-    };
+    }
+}
+
+/// Where a run of this book's root stops, and the term reached: "A run says value when the term is one; else spent when exactly the
+/// limit has been taken; else no room when the successor's size exceeds 4,095."
+fn evaluate(book: &[u8], root: Term, version: Version, limit: u32) -> (Answer, Term) {
+    let (room, mut steps) = (room(), 0);
     let mut machine = Machine::from(root, version);
-    let mut steps = 0;
+    let mut marks = Marks::of(&machine, book);
     let stop = loop {
         if machine.is_value() && !(planted(Fault::SpentBeforeValue) && steps == limit) {
-            break Answer::Value { steps };
+            break Stop::Value;
         }
         if steps == limit && !planted(Fault::SpentAfterStep) && !planted(Fault::RoomBeforeSpent) {
-            break Answer::Spent { steps };
+            break Stop::Spent;
         }
         let mut next = machine.next();
         if next.len() != 1 {
@@ -60,20 +87,22 @@ fn evaluate(root: Term, version: Version, limit: u32) -> (Answer, Term) {
         }
         let next = next.remove(0);
         if machine.size_with(&next) > room {
-            break Answer::Room { steps };
+            break Stop::Room;
         }
         if steps == limit && planted(Fault::RoomBeforeSpent) {
-            break Answer::Spent { steps };
+            break Stop::Spent;
         }
         let depth = machine.depth();
         let right_half = planted(Fault::RightHalfCounted) && machine.reads_right_half();
+        marks.step(&machine, &next.0);
         machine.step(next);
+        marks.enter(&machine);
         steps += if right_half || planted(Fault::DescentCounted) && machine.depth() > depth { 2 } else { 1 };
         if steps >= limit && planted(Fault::SpentAfterStep) {
-            break Answer::Spent { steps };
+            break Stop::Spent;
         }
     };
-    (stop, machine.term())
+    (marks.answer(stop, steps, &machine), machine.term())
 }
 
 /// Leaves the outcome in the work buffer: "Refusal 1 touches nothing; all others zero the work buffer. After an acceptance or a
@@ -102,12 +131,12 @@ pub fn check(book: &[u8], work: &mut [u8]) -> Answer {
     })
 }
 
-/// "Runs it for at most a given number of steps": the term reached encoded, with the steps taken. "The step limit is any unsigned
-/// 32-bit number."
+/// "Runs it for at most a given number of steps": the term reached encoded, with the steps taken and the mark. "The step limit is any
+/// unsigned 32-bit number."
 pub fn run(book: &[u8], work: &mut [u8], limit: u32) -> Answer {
     answer(work, || {
         let (root, _, version) = accept(book)?;
-        let (stop, reached) = evaluate(root, version, limit);
+        let (stop, reached) = evaluate(book, root, version, limit);
         Ok((stop, encode_reached(&reached, version)))
     })
 }
@@ -130,7 +159,7 @@ fn smaller_half_first(e: &Term) -> Term {
     }
 }
 
-/// What the desk program prints. "Line 1: type size. Line 2: value, spent or room, and steps. Then a line a cell: number, kind,
+/// What the desk program prints, the mark not among it: "the desk program's lines are compared as before". "Line 1: type size. Line 2: value, spent or room, and steps. Then a line a cell: number, kind,
 /// label, a, b, c unsigned. A book turned back prints one line, `refused 14 4` for number and cell."
 pub fn desk(input: &[u8]) -> String {
     let mut work = vec![0; WORK];
@@ -141,9 +170,9 @@ pub fn desk(input: &[u8]) -> String {
         other => unreachable!("no answer of a check: {other:?}"),
     };
     let (word, steps) = match run(input, &mut work, DESK_LIMIT) {
-        Answer::Value { steps } => ("value", steps),
-        Answer::Spent { steps } => ("spent", steps),
-        Answer::Room { steps } => ("room", steps),
+        Answer::Value { steps, .. } => ("value", steps),
+        Answer::Spent { steps, .. } => ("spent", steps),
+        Answer::Room { steps, .. } => ("room", steps),
         other => unreachable!("no answer of a run on an accepted book: {other:?}"),
     };
     let _ = writeln!(lines, "accepted {size}\n{word} {steps}");

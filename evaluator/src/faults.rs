@@ -304,6 +304,80 @@ pub enum Fault {
     SmallerHalfFirst,
     /// The reading of a merge from its right half alone counted as two steps.
     RightHalfCounted,
+    /// The mark is the size of the term reached.
+    MarkOfLast,
+    /// The larger of the first term's size and that of the term reached.
+    MarkOfEnds,
+    /// The first term's size.
+    MarkOfFirst,
+    /// The first term's size in version 2.
+    WideMarkOfFirst,
+    /// The first term not counted once a step is taken.
+    FirstUnmarked,
+    /// The term at which the limit is spent not counted once a step is taken.
+    LastUnmarked,
+    /// A value not counted once a step is taken.
+    ValueUnmarked,
+    /// The last two terms counted alone.
+    LastTwoMarked,
+    /// Every other term counted alone, the first included.
+    EveryOtherMarked,
+    /// Only the terms after at most a hundred steps counted.
+    HundredMarked,
+    /// Only the terms counted since the last that has less than half of the one before.
+    MarkBegunAgain,
+    /// The least size in place of the greatest.
+    LeastMarked,
+    /// The size that found no room counted.
+    RoomlessMarked,
+    /// 4,095 where there is no room.
+    RoomlessFull,
+    /// The successor of the term at which the limit is spent counted.
+    OneBeyondMarked,
+    /// All terms counted that the book reaches beyond the limit.
+    ChainMarked,
+    /// The cells of the book in place of the first term's size.
+    MarkOfBook,
+    /// The cells that the root reaches, sharing not opened, in place of the first term's size.
+    MarkOfReached,
+    /// The part that a step makes counted without what is around it.
+    MarkOfPart,
+    /// The part that steps counted beside the term that its step gives.
+    MarkOfBothParts,
+    /// What is left of the part that steps not counted.
+    MarkWithoutLeft,
+    /// What comes right of the part that steps not counted.
+    MarkWithoutRight,
+    /// Types not counted.
+    MarkWithoutTypes,
+    /// A term that the step of a fixpoint gives not counted.
+    FixpointsUnmarked,
+    /// A term that the step of an application gives not counted.
+    ApplicationsUnmarked,
+    /// A term that the step of an annotation gives not counted.
+    ReadingsUnmarked,
+    /// A term that steps by a choice not counted, but for the first.
+    ChoicesUnmarked,
+    /// A run that comes to a value reports 1.
+    ValueMarkedOne,
+    /// A run that is spent reports 1.
+    SpentMarkedOne,
+    /// A run without room reports 1.
+    RoomMarkedOne,
+    /// Each run reports 0.
+    MarkNothing,
+    /// One more than the greatest size.
+    MarkOneMore,
+    /// One less where the greatest size is that of the term reached, and not the first's.
+    MarkOneLess,
+    /// The mark held to 4,094.
+    MarkHeldShort,
+    /// The low byte of the mark.
+    MarkLowByte,
+    /// The bytes of the greatest term's book in place of its cells.
+    MarkInBytes,
+    /// Steps and mark exchanged.
+    MarkAsSteps,
     /// A join raises what the part's variables skip.
     SkipsRaised,
     /// A join raises the part's labels.
@@ -453,7 +527,7 @@ pub enum Fault {
 }
 
 impl Fault {
-    pub const ALL: [Fault; 223] = [
+    pub const ALL: [Fault; 260] = [
         Fault::CovariantInputs,
         Fault::ArgumentUncast,
         Fault::RoomOneEarly,
@@ -604,6 +678,43 @@ impl Fault {
         Fault::RoomWithLeftHalf,
         Fault::SmallerHalfFirst,
         Fault::RightHalfCounted,
+        Fault::MarkOfLast,
+        Fault::MarkOfEnds,
+        Fault::MarkOfFirst,
+        Fault::WideMarkOfFirst,
+        Fault::FirstUnmarked,
+        Fault::LastUnmarked,
+        Fault::ValueUnmarked,
+        Fault::LastTwoMarked,
+        Fault::EveryOtherMarked,
+        Fault::HundredMarked,
+        Fault::MarkBegunAgain,
+        Fault::LeastMarked,
+        Fault::RoomlessMarked,
+        Fault::RoomlessFull,
+        Fault::OneBeyondMarked,
+        Fault::ChainMarked,
+        Fault::MarkOfBook,
+        Fault::MarkOfReached,
+        Fault::MarkOfPart,
+        Fault::MarkOfBothParts,
+        Fault::MarkWithoutLeft,
+        Fault::MarkWithoutRight,
+        Fault::MarkWithoutTypes,
+        Fault::FixpointsUnmarked,
+        Fault::ApplicationsUnmarked,
+        Fault::ReadingsUnmarked,
+        Fault::ChoicesUnmarked,
+        Fault::ValueMarkedOne,
+        Fault::SpentMarkedOne,
+        Fault::RoomMarkedOne,
+        Fault::MarkNothing,
+        Fault::MarkOneMore,
+        Fault::MarkOneLess,
+        Fault::MarkHeldShort,
+        Fault::MarkLowByte,
+        Fault::MarkInBytes,
+        Fault::MarkAsSteps,
         Fault::SkipsRaised,
         Fault::LabelsRaised,
         Fault::NumbersRaised,
@@ -678,6 +789,11 @@ impl Fault {
         Fault::PreviewZeroesRest,
         Fault::PreviewAltersLast,
     ];
+
+    /// A fault of marks: all else that a run says and leaves is right.
+    pub fn is_of_marks(self) -> bool {
+        (Fault::MarkOfLast as usize..=Fault::MarkAsSteps as usize).contains(&(self as usize))
+    }
 
     /// A fault of joins, or of previews if it is planted in them: a check and a run are as ever.
     pub fn is_of_joins(self) -> bool {

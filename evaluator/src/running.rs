@@ -108,6 +108,7 @@ pub fn substitute(e: &Term, depth: u32, what: &Term) -> Term {
 }
 
 /// A term with a hole in place of one of its parts, the one that steps next.
+#[derive(Clone)]
 struct Frame {
     /// With the part as it was.
     around: Term,
@@ -214,6 +215,7 @@ fn left_half(e: &Term) -> u64 {
 
 /// A run: the part that steps, in focus, and the frames around it, outermost first. A step then costs nothing for what is around
 /// it; the term is the same as after `successors`.
+#[derive(Clone)]
 pub struct Machine {
     frames: Vec<Frame>,
     focus: Term,
@@ -248,6 +250,25 @@ impl Machine {
     /// The term is a value.
     pub fn is_value(&self) -> bool {
         self.focus.is_value()
+    }
+
+    /// The size of the whole term.
+    pub fn size(&self) -> u64 {
+        self.size
+    }
+
+    pub fn version(&self) -> Version {
+        self.version
+    }
+
+    /// The part that steps next, or the whole if it is a value.
+    pub fn focus(&self) -> &Term {
+        &self.focus
+    }
+
+    /// The size of the terms that stand left of that part, and right of it.
+    pub fn beside(&self) -> [u64; 2] {
+        [Frame::left, Frame::right].map(|side| self.frames.iter().map(side).sum())
     }
 
     /// What the part in focus can become, and the size that the whole would have with each.

@@ -267,7 +267,7 @@ fn sums_are_held_to_the_ends_of_the_joint() {
         for [one, other] in [[&project, &part], [&part, &project]] {
             let Left { joined, lent, .. } = joined(one, other);
             let mut work = vec![0; WORK];
-            assert_eq!(run(&lent[..joined.bytes], &mut work, 9), Answer::Value { steps: 1 });
+            assert_eq!(run(&lent[..joined.bytes], &mut work, 9), Answer::Value { steps: 1, mark: 7 });
             let halves = if one == &project { [field(1, expected), field(2, 3)] } else { [field(2, 3), field(1, expected)] };
             let [a, b] = halves;
             assert!(work.starts_with(&encode_term(&Term::merge(a, b), version)));

@@ -51,9 +51,10 @@ fn reads(value: &Term, under: &Type, reading: &Term) {
     assert_eq!(casts(value, under), [reading.clone()], "{value}");
     let annotated = Term::annotation(value.clone(), under.clone());
     assert_eq!(checked(&annotated), Answer::Accepted { size: under.size() as usize }, "{annotated}");
-    assert_eq!(ran(&annotated, 0), (Answer::Spent { steps: 0 }, laid_down(&annotated)), "{annotated}");
+    assert_eq!(ran(&annotated, 0), (Answer::Spent { steps: 0, mark: annotated.size() }, laid_down(&annotated)), "{annotated}");
     for limit in [1, 2, u32::MAX] {
-        assert_eq!(ran(&annotated, limit), (Answer::Value { steps: 1 }, laid_down(reading)), "{annotated}");
+        let mark = annotated.size().max(reading.size());
+        assert_eq!(ran(&annotated, limit), (Answer::Value { steps: 1, mark }, laid_down(reading)), "{annotated}");
     }
 }
 
@@ -117,7 +118,7 @@ fn without_a_step_the_roots_stay() {
     let as_function = Type::function(int(), int());
     for value in [merge(function.clone(), field(3, number(1))), merge(field(3, number(1)), function)] {
         let annotated = Term::annotation(value, both(as_function.clone(), as_function.clone()));
-        assert_eq!(ran(&annotated, 1), (Answer::Room { steps: 0 }, laid_down(&annotated)));
+        assert_eq!(ran(&annotated, 1), (Answer::Room { steps: 0, mark: annotated.size() }, laid_down(&annotated)));
     }
 }
 

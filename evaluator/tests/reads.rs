@@ -1,6 +1,9 @@
 //! Field reads, with document 02's rule for merges: "look at its parts that aren't themselves intersections."
 
+mod sizes;
+
 use evaluator::{check, decode, infer, on_large_stack, run, Answer, Term, Type, Version, WORK};
+use sizes::greatest;
 
 /// The version 1 book of a term.
 fn encode_term(term: &Term) -> Vec<u8> {
@@ -59,8 +62,9 @@ fn leaves(call: impl FnOnce(&mut [u8]) -> Answer, left: &[u8]) -> Answer {
 fn comes_to(term: &Term, of: Type, value: &Term, steps: u32) {
     let book = encode_term(term);
     assert_eq!(leaves(|work| check(&book, work), &encode_type(&of)), Answer::Accepted { size: of.size() as usize }, "{term}");
+    let mark = greatest(term, Version::One, steps);
     for limit in [steps, steps + 1, u32::MAX] {
-        assert_eq!(leaves(|work| run(&book, work, limit), &encode_term(value)), Answer::Value { steps }, "{term}");
+        assert_eq!(leaves(|work| run(&book, work, limit), &encode_term(value)), Answer::Value { steps, mark }, "{term}");
     }
 }
 

@@ -1,6 +1,9 @@
 //! Every sample book of document 01, the desk example, and a book for each refusal and each reading that has one.
 
+mod sizes;
+
 use evaluator::{check, desk, on_large_stack, run, Answer, Sort, Term, Type, Version, TABLE, WORK};
+use sizes::greatest;
 
 /// The version 1 book of a term.
 fn encode_term(term: &Term) -> Vec<u8> {
@@ -62,10 +65,12 @@ fn refused(number: u8, cell: usize) -> Answer {
 fn comes_to(term: Term, value: Term, steps: u32) {
     let book = encode_term(&term);
     assert!(matches!(checked(&book), Answer::Accepted { .. }));
-    assert_eq!(ran(&book, 10_000), (Answer::Value { steps }, encode_term(&value)), "{term}");
-    assert_eq!(ran(&book, steps), (Answer::Value { steps }, encode_term(&value)), "{term}");
-    if steps > 0 {
-        assert_eq!(ran(&book, steps - 1).0, Answer::Spent { steps: steps - 1 }, "{term}");
+    let mark = |steps: u32| greatest(&term, Version::One, steps);
+    let came = (Answer::Value { steps, mark: mark(steps) }, encode_term(&value));
+    assert_eq!(ran(&book, 10_000), came, "{term}");
+    assert_eq!(ran(&book, steps), came, "{term}");
+    if let Some(steps) = steps.checked_sub(1) {
+        assert_eq!(ran(&book, steps).0, Answer::Spent { steps, mark: mark(steps) }, "{term}");
     }
 }
 
@@ -135,7 +140,8 @@ fn a_run_reaches_the_successors_one_by_one() {
     let root = Term::record(9, Term::application(function, Term::merge(Term::top(), argument)));
     let (mut term, mut steps) = (root.clone(), 0);
     while !term.is_value() {
-        assert_eq!(ran(&encode_term(&root), steps), (Answer::Spent { steps }, encode_term(&term)));
+        let mark = greatest(&root, Version::One, steps);
+        assert_eq!(ran(&encode_term(&root), steps), (Answer::Spent { steps, mark }, encode_term(&term)));
         let next = successors(&term);
         assert_eq!(next.len(), 1);
         (term, steps) = (next[0].clone(), steps + 1);
@@ -147,11 +153,11 @@ fn a_run_reaches_the_successors_one_by_one() {
 #[test]
 fn the_fixpoint_at_int() {
     let book = encode_term(&Term::fixpoint(Term::variable(0), int()));
-    assert_eq!(ran(&book, 0), (Answer::Spent { steps: 0 }, book.clone()));
+    assert_eq!(ran(&book, 0), (Answer::Spent { steps: 0, mark: 3 }, book.clone()));
     let (answer, left) = ran(&book, 2_046);
-    assert_eq!((answer, left.len()), (Answer::Spent { steps: 2_046 }, 4_095 * 8 + 8));
-    assert_eq!(ran(&book, 2_047), (Answer::Room { steps: 2_046 }, left.clone()));
-    assert_eq!(ran(&book, u32::MAX), (Answer::Room { steps: 2_046 }, left));
+    assert_eq!((answer, left.len()), (Answer::Spent { steps: 2_046, mark: 4_095 }, 4_095 * 8 + 8));
+    assert_eq!(ran(&book, 2_047), (Answer::Room { steps: 2_046, mark: 4_095 }, left.clone()));
+    assert_eq!(ran(&book, u32::MAX), (Answer::Room { steps: 2_046, mark: 4_095 }, left));
 }
 
 #[test]
@@ -162,7 +168,7 @@ fn the_top_value_merged_with_itself_by_sharing() {
         book(&cells, n)
     };
     assert_eq!(checked(&times(11)), Answer::Accepted { size: 4_095 });
-    assert_eq!(ran(&times(11), 0).0, Answer::Value { steps: 0 });
+    assert_eq!(ran(&times(11), 0).0, Answer::Value { steps: 0, mark: 4_095 });
     assert_eq!(checked(&times(12)), refused(10, 12));
     assert_eq!(checked(&times(4_000)), refused(10, 4_000));
 }
@@ -304,5 +310,6 @@ fn only_the_successors_size_decides_room() {
     let used = Term::function(Term::variable(0), input.clone(), input.clone());
     let ignored = Term::function(number(7), input, int());
     comes_to(Term::application(ignored, argument.clone()), number(7), 2);
-    assert_eq!(ran(&encode_term(&Term::application(used, argument)), 5).0, Answer::Room { steps: 0 });
+    let used = Term::application(used, argument);
+    assert_eq!(ran(&encode_term(&used), 5).0, Answer::Room { steps: 0, mark: used.size() });
 }

@@ -1,7 +1,10 @@
 //! Sums and choices, which document 02 adds: "the sum is held to the ends of the 32-bit range"; "the choice becomes b for zero and c for
 //! anything else".
 
+mod sizes;
+
 use evaluator::{check, decode, infer, on_large_stack, run, Answer, Cell, Term, Type, Version, WORK};
+use sizes::greatest;
 use std::iter;
 
 /// The version 1 book of a term.
@@ -71,11 +74,13 @@ fn leaves(call: impl FnOnce(&mut [u8]) -> Answer, left: &[u8]) -> Answer {
 fn comes_to(term: &Term, value: i32, steps: u32) {
     let book = encode_term(term);
     assert_eq!(leaves(|work| check(&book, work), &encode_type(&int())), Answer::Accepted { size: 1 }, "{term}");
+    let mark = |steps: u32| greatest(term, Version::One, steps);
+    let came = Answer::Value { steps, mark: mark(steps) };
     for limit in [steps, steps + 1, u32::MAX] {
-        assert_eq!(leaves(|work| run(&book, work, limit), &encode_term(&number(value))), Answer::Value { steps }, "{term}");
+        assert_eq!(leaves(|work| run(&book, work, limit), &encode_term(&number(value))), came, "{term}");
     }
-    if steps > 0 {
-        assert_eq!(run(&book, &mut vec![0; WORK], steps - 1), Answer::Spent { steps: steps - 1 }, "{term}");
+    if let Some(steps) = steps.checked_sub(1) {
+        assert_eq!(run(&book, &mut vec![0; WORK], steps), Answer::Spent { steps, mark: mark(steps) }, "{term}");
     }
 }
 
@@ -91,8 +96,9 @@ fn goes_through(terms: &[Term]) {
     assert_eq!(followed, terms);
     let book = encode_term(&terms[0]);
     for (steps, term) in terms.iter().enumerate() {
+        let mark = terms[..=steps].iter().map(Term::size).fold(0, u64::max);
         let steps = steps as u32;
-        let answer = if term.is_value() { Answer::Value { steps } } else { Answer::Spent { steps } };
+        let answer = if term.is_value() { Answer::Value { steps, mark } } else { Answer::Spent { steps, mark } };
         assert_eq!(leaves(|work| run(&book, work, steps), &encode_term(term)), answer);
     }
 }
@@ -234,7 +240,7 @@ fn the_other_branch_is_not_run() {
     comes_to(&choice(number(7), endless(), number(2)), 2, 2);
     let book = encode_term(&choice(endless(), number(1), number(2)));
     // The size is 2 steps + 3, and 2 numbers and the choice besides.
-    assert_eq!(run(&book, &mut vec![0; WORK], u32::MAX), Answer::Room { steps: 2_044 });
+    assert_eq!(run(&book, &mut vec![0; WORK], u32::MAX), Answer::Room { steps: 2_044, mark: 4_094 });
 }
 
 /// A branch counts until it goes: the fixpoint that is tested has less room beside it.
@@ -244,7 +250,11 @@ fn branches_that_wait_count() {
         let test = Term::fixpoint(variable(0), int());
         let large = (0..500).fold(number(1), |e, _| as_int(e));
         let book = encode_term(&choice(test, large.clone(), large));
-        assert_eq!(run(&book, &mut vec![0; WORK], u32::MAX), Answer::Room { steps: (4_095 - 1 - 2 * 1_001 - 3) / 2 });
+        let steps = (4_095 - 1 - 2 * 1_001 - 3) / 2;
+        assert_eq!(
+            run(&book, &mut vec![0; WORK], u32::MAX),
+            Answer::Room { steps, mark: 1 + 2 * 1_001 + 3 + 2 * u64::from(steps) }
+        );
     });
 }
 
@@ -447,7 +457,7 @@ fn loops_of_thousands_of_steps() {
         };
         comes_to(&counting(1_000), 7, 6 + 7 * 1_000);
         let book = encode_term(&counting(-1));
-        assert!(matches!(run(&book, &mut vec![0; WORK], u32::MAX), Answer::Room { steps: 5_000..6_000 }));
+        assert!(matches!(run(&book, &mut vec![0; WORK], u32::MAX), Answer::Room { steps: 5_000..6_000, mark: 4_000..=4_095 }));
     });
 }
 
@@ -495,7 +505,10 @@ fn sums_doubled_by_sharing() {
     };
     for (first, value) in [(1, 2_048), (1 << 20, MOST), ((1 << 20) - 1, MOST - 2_047), (-(1 << 20), LEAST), (-(1 << 21), LEAST)] {
         let book = doubled(Cell::number(first, Version::One), 11);
-        assert_eq!(leaves(|work| run(&book, work, u32::MAX), &encode_term(&number(value))), Answer::Value { steps: 2_047 });
+        assert_eq!(
+            leaves(|work| run(&book, work, u32::MAX), &encode_term(&number(value))),
+            Answer::Value { steps: 2_047, mark: 4_095 }
+        );
     }
     assert_eq!(check(&doubled(Cell::number(1, Version::One), 12), &mut vec![0; WORK]), Answer::Refused { number: 10, cell: 12 });
 }

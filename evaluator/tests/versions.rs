@@ -1,10 +1,13 @@
 //! Document 02, (iv): "Version 2 in the trailer stores a number in bytes 2–7, signed." What is laid down has the version it came from, sums are
 //! held to its ends, and a version 1 book without sums is the same restamped.
 
+mod sizes;
+
 use evaluator::{
     check, decode, desk, encode_term, encode_type, kind, on_large_stack, restamped, row, run, successors, Answer, Cell, Field,
     Term, TermShape, Type, Version, TABLE, WORK,
 };
+use sizes::greatest;
 use Version::{One, Two};
 
 /// The least and the most of 48 bits and of 32.
@@ -68,11 +71,13 @@ fn comes_to(term: &Term, version: Version, steps: u32, line: Line) {
     let bytes = encode_term(term, version);
     let byte = version.byte();
     assert_eq!(checked(&bytes), (Answer::Accepted { size: 1 }, book(byte, &[[1, 0, 0, 0, 0]], 0)), "{term}");
+    let mark = |steps: u32| greatest(term, version, steps);
+    let came = (Answer::Value { steps, mark: mark(steps) }, book(byte, &[line], 0));
     for limit in [steps, steps + 1, u32::MAX] {
-        assert_eq!(ran(&bytes, limit), (Answer::Value { steps }, book(byte, &[line], 0)), "{term}, {version:?}");
+        assert_eq!(ran(&bytes, limit), came, "{term}, {version:?}");
     }
-    if steps > 0 {
-        assert_eq!(ran(&bytes, steps - 1).0, Answer::Spent { steps: steps - 1 }, "{term}, {version:?}");
+    if let Some(steps) = steps.checked_sub(1) {
+        assert_eq!(ran(&bytes, steps).0, Answer::Spent { steps, mark: mark(steps) }, "{term}, {version:?}");
     }
 }
 
@@ -119,7 +124,7 @@ fn every_sum_is_what_adding_gives() {
         }
         let held = number((m + n).clamp(least, most));
         let got = ran(&encode_term(&sum(m, n), version), 5);
-        assert_eq!(got, (Answer::Value { steps: 1 }, encode_term(&held, version)), "{m} + {n}, {version:?}");
+        assert_eq!(got, (Answer::Value { steps: 1, mark: 3 }, encode_term(&held, version)), "{m} + {n}, {version:?}");
         assert_eq!(successors(&sum(m, n), version), [held]);
     }
 }
@@ -129,7 +134,7 @@ fn field_a_of_a_number_is_named_in_version_2_alone() {
     for bit in 0..16 {
         let cells = [[17, 0, 1 << bit, 5, 0]];
         refused(&book(1, &cells, 0), 6, 0);
-        assert_eq!(ran(&book(2, &cells, 0), 9), (Answer::Value { steps: 0 }, book(2, &cells, 0)));
+        assert_eq!(ran(&book(2, &cells, 0), 9), (Answer::Value { steps: 0, mark: 1 }, book(2, &cells, 0)));
     }
     // Also in a cell that the root does not reach.
     refused(&book(1, &[[18, 0, 0, 0, 0], [17, 0, 1, 5, 0]], 0), 6, 1);
@@ -286,7 +291,7 @@ fn without_sums() -> Vec<Term> {
     ]
 }
 
-/// The term's book restamped has the same type, and under every limit the same stop and steps, and leaves the same restamped.
+/// The term's book restamped has the same type, and under every limit the same stop, steps and mark, and leaves the same restamped.
 fn is_the_same_restamped(term: &Term) {
     let one = encode_term(term, One);
     let two = restamped(&one).expect("version 1");
@@ -319,11 +324,11 @@ fn a_laid_down_book_has_the_version_it_came_from() {
         assert_eq!((answer, of), (Answer::Accepted { size: 2 }, book(byte, &[[1, 0, 0, 0, 0], [5, 2, 0, 0, 0]], 1)));
         refused(&encode_type(&Type::record(2, int()), version), 9, 1);
         let (spent, half) = ran(&bytes, 1_000);
-        assert_eq!((spent, half[half.len() - 7]), (Answer::Spent { steps: 1_000 }, byte));
+        assert_eq!((spent, half[half.len() - 7]), (Answer::Spent { steps: 1_000, mark: 2_006 }, byte));
         let (room, last) = ran(&bytes, u32::MAX);
-        assert_eq!((room, last[last.len() - 7]), (Answer::Room { steps: 2_044 }, byte));
+        assert_eq!((room, last[last.len() - 7]), (Answer::Room { steps: 2_044, mark: 4_094 }, byte));
         // What was left goes on in its version.
-        assert_eq!(ran(&half, u32::MAX), (Answer::Room { steps: 1_044 }, last));
+        assert_eq!(ran(&half, u32::MAX), (Answer::Room { steps: 1_044, mark: 4_094 }, last));
     }
 }
 
@@ -333,8 +338,8 @@ fn a_run_that_was_spent_goes_on_in_its_version() {
     let term = Term::sum(Term::annotation(number(MOST_32), int()), number(1));
     for (version, n) in [(One, MOST_32), (Two, 1 << 31)] {
         let (answer, half) = ran(&encode_term(&term, version), 1);
-        assert_eq!(answer, Answer::Spent { steps: 1 });
-        assert_eq!(ran(&half, 9), (Answer::Value { steps: 1 }, encode_term(&number(n), version)));
+        assert_eq!(answer, Answer::Spent { steps: 1, mark: 5 });
+        assert_eq!(ran(&half, 9), (Answer::Value { steps: 1, mark: 3 }, encode_term(&number(n), version)));
     }
 }
 
