@@ -15,7 +15,7 @@ use Rattle.format.specs.Version.{halfOf}
 use Rattle.format.specs.Book.{sizeLimit}
 use Rattle.answers.specs.declared.Stop.the-variants.{Value, Spent, Room}
 use Rattle.running.specs.Contexts.{Around, whole}
-use Rattle.running.specs.Places.{Standing, placeOf, GapWithin, cellsAt, Runnable, FocusReady, Settled, Settles, Contracts, ContractsTo, c-to, c-full}
+use Rattle.running.specs.Places.{Standing, focusPlace, GapWithin, standingCells, Runnable, FocusReady, Settled, Settles, Contracts, ContractsTo, c-to, c-full}
 use Rattle.running.specs.Turns.{TurnOf, t-value, t-spent, t-room, t-next, Steps}
 use Rattle.running.specs.declared.Place.{Place}
 use Rattle.running.specs.declared.Focus.{Focus}
@@ -69,7 +69,7 @@ module _ {w : List ℕ} {y : Focus} {p : Place} (q : y ≡ Redex p) where
         by g n (c-full u k t) = let z : _≡_ {A = ℕ} 0 1 = cc in absurd (omega arith)
 
     -- where it has settled, its cells can be counted
-    pub settled-gap : {z x : Focus} {a : List ℕ} → FocusReady w y → o ≡ To z → Settles v a z x → GapWithin (placeOf x)
+    pub settled-gap : {z x : Focus} {a : List ℕ} → FocusReady w y → o ≡ To z → Settles v a z x → GapWithin (focusPlace x)
     settled-gap h f t =
         let r = contracted-ready h f in
         gap-within (record { term = r .term; standing = t .moves .says (r .term) (r .standing) (r .runnable); runnable = r .runnable })
@@ -92,7 +92,7 @@ module _ (u : Version) {w v : List ℕ} {x : State} {l : ℕ} {p : Place} {o : C
           by g n (c-full u z y) =
               t-room (redex-none (at q s)) (below le ne) n (lt-ltb sizeLimit (size g) u) (ap (Ended (Room (x .steps))) (sym q)) (subst (λ (d : List ℕ). Standing d (x .focus) e) (sym y) s)
 
-  pub turn-next : {y z : Focus} {a : List ℕ} {n m : ℕ} → o ≡ To y → Settles v a y z → n ≡ cellsAt (placeOf z) → m ≡ max (x .mark) n →
+  pub turn-next : {y z : Focus} {a : List ℕ} {n m : ℕ} → o ≡ To y → Settles v a y z → n ≡ standingCells (focusPlace z) → m ≡ max (x .mark) n →
       Steps u w a x l (Next (record { focus = z; steps = x .steps + 1; mark = m }))
   turn-next {y} {z} {a} {n} {m} f t i j = record { says = go }
     where

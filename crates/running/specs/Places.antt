@@ -97,11 +97,11 @@ pub record Standing (w : List ℕ) (x : Focus) (e : Term) : Type 0 where
   pub at : FocusIs w x around focus
 
 -- The place of a focus.
-abbrev pub placeOf : Focus → Place
-placeOf (Ahead p) = p
-placeOf (Done p) = p
-placeOf (Redex p) = p
-placeOf (Whole p) = p
+abbrev pub focusPlace : Focus → Place
+focusPlace (Ahead p) = p
+focusPlace (Done p) = p
+focusPlace (Redex p) = p
+focusPlace (Whole p) = p
 
 -- The gap of a place lies in the work buffer.
 pub record GapWithin (p : Place) : Type 0 where
@@ -109,8 +109,8 @@ pub record GapWithin (p : Place) : Type 0 where
   pub right : p .right ≤ 8192
 
 -- The cells left of the gap and right of it: as many as the term has that stands there (proofs/Sizes).
-abbrev pub cellsAt : Place → ℕ
-cellsAt p = p .left + (8192 - p .right)
+abbrev pub standingCells : Place → ℕ
+standingCells p = p .left + (8192 - p .right)
 
 -- A typed term within the limit, whose labels, indices and numbers fit.
 pub record Runnable (e : Term) : Type 0 where

@@ -23,7 +23,7 @@ ghost use Prim.Native.Nat.{_<_, max};
 ghost use Rattle.format.specs.Version.{halfOf};
 ghost use Rattle.cells.specs.Coded.{asCell};
 ghost use Rattle.running.specs.Places.{Taking, thirdOf, Descending, Entering, Enters, Leaving, Leaves, WaitingOne, WaitingFirst, WaitingSecond, FocusReady, Settles};
-ghost use Rattle.running.specs.Places.{placeOf, GapWithin, cellsAt};
+ghost use Rattle.running.specs.Places.{focusPlace, GapWithin, standingCells};
 ghost use Rattle.running.specs.Places.{doneAt, Becomes, BecomesAny, AtRedex, SingleReady, BecomesSingle, BecomesTop, RedexAt, MergeAt, TopAt, FunctionAt, CastsInPlace};
 ghost use Rattle.running.specs.Places.{Installing, Halving, Installs, Contracting, ContractingAnno, Emitting, Contracts, ContractsAny};
 ghost use Rattle.running.specs.Places.{Unwinding, Unwinds, RestoreReady, Restores, Rebuilds};
@@ -547,23 +547,23 @@ fn contract(s: &mut [u8], w: &mut [u8], p: Place, version: Version) -> Contracte
 }
 
 // The cells on both sides of the gap.
-fn cells_at(p: Place) -> usize
+fn standing_cells(p: Place) -> usize
     requires { ⌜ GapWithin p ⌝ }
-    ensures { λ r. ⌜ r ≡ cellsAt p ⌝ }
+    ensures { λ r. ⌜ r ≡ standingCells p ⌝ }
 {
     p.left + (8192 - p.right)
 }
 
 // The size of the term, wherever the focus is.
 fn count_cells(focus: Focus) -> usize
-    requires { ⌜ GapWithin (placeOf focus) ⌝ }
-    ensures { λ r. ⌜ r ≡ cellsAt (placeOf focus) ⌝ }
+    requires { ⌜ GapWithin (focusPlace focus) ⌝ }
+    ensures { λ r. ⌜ r ≡ standingCells (focusPlace focus) ⌝ }
 {
     match focus {
-        Focus::Ahead(p) => cells_at(p),
-        Focus::Done(p) => cells_at(p),
-        Focus::Redex(p) => cells_at(p),
-        Focus::Whole(p) => cells_at(p),
+        Focus::Ahead(p) => standing_cells(p),
+        Focus::Done(p) => standing_cells(p),
+        Focus::Redex(p) => standing_cells(p),
+        Focus::Whole(p) => standing_cells(p),
     }
 }
 

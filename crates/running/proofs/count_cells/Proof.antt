@@ -9,26 +9,26 @@ use Rattle.running.proofs.count_cells.Tie as tie
 enum-known-focus : tie.Need-enum-known-focus
 enum-known-focus c = search needs
 
-cells-at-requires : tie.Need-cells-at-requires
-cells-at-requires c κs = search (gap-of Ahead (λ p. refl))
+standing-cells-requires : tie.Need-standing-cells-requires
+standing-cells-requires c κs = search (gap-of Ahead (λ p. refl))
 
 enum-known-focus-2 : tie.Need-enum-known-focus-2
 enum-known-focus-2 c = search needs
 
-cells-at-requires-2 : tie.Need-cells-at-requires-2
-cells-at-requires-2 c κs = search (gap-of Done (λ p. refl))
+standing-cells-requires-2 : tie.Need-standing-cells-requires-2
+standing-cells-requires-2 c κs = search (gap-of Done (λ p. refl))
 
 enum-known-focus-3 : tie.Need-enum-known-focus-3
 enum-known-focus-3 c = search needs
 
-cells-at-requires-3 : tie.Need-cells-at-requires-3
-cells-at-requires-3 c κs = search (gap-of Redex (λ p. refl))
+standing-cells-requires-3 : tie.Need-standing-cells-requires-3
+standing-cells-requires-3 c κs = search (gap-of Redex (λ p. refl))
 
 enum-known-focus-4 : tie.Need-enum-known-focus-4
 enum-known-focus-4 c = search needs
 
-cells-at-requires-4 : tie.Need-cells-at-requires-4
-cells-at-requires-4 c κs = search (gap-of Whole (λ p. refl))
+standing-cells-requires-4 : tie.Need-standing-cells-requires-4
+standing-cells-requires-4 c κs = search (gap-of Whole (λ p. refl))
 
 returns : tie.Need-returns
 returns c = search (count-of Ahead (λ p. refl))
@@ -47,13 +47,13 @@ count-cells-spec =
     tie.close
     (tie.spec
     enum-known-focus
-    cells-at-requires
+    standing-cells-requires
     enum-known-focus-2
-    cells-at-requires-2
+    standing-cells-requires-2
     enum-known-focus-3
-    cells-at-requires-3
+    standing-cells-requires-3
     enum-known-focus-4
-    cells-at-requires-4
+    standing-cells-requires-4
     returns
     returns-2
     returns-3
