@@ -4,9 +4,7 @@ use native.Mathlib.Nat.{zero-add}
 use native.Mathlib.Omega.{arith}
 use mathlib.Core.Path.{_≡_, refl, sym, ap, ap₂, subst, _∙_}
 use mathlib.Core.Logic.{_≢_, _⊎_}
-use mathlib.Core.Option.{none}
 use mathlib.Core.List.{List, _++_}
-use lib.Dec.{lit<}
 use lib.ListN.{length, take, drop, replicate, length-append, length-replicate}
 use lib.Seq.{sets, sets-eq, length-sets, take-at}
 use Rattle.format.specs.Cell.{IsBytes}
@@ -16,7 +14,7 @@ use Rattle.format.proofs.Joint.{joint-of}
 use Rattle.answers.specs.Answer.{Answer, refused, accepted, Result, result}
 use Rattle.answers.specs.Engine.{workLength, IsWork, zeros}
 use Rattle.answers.specs.Definition.{check, refusalResult, shown}
-use Rattle.answers.specs.Cases.{refusalAnswer, checkAnswer}
+use Rattle.answers.specs.Cases.{checkAnswer}
 use Rattle.answers.specs.declared.Refusal.{Refusal}
 use Rattle.answers.specs.declared.Refusal.the-variants.{Buffer, Length}
 use Rattle.answers.specs.declared.CheckOutcome.{CheckOutcome}
