@@ -4,11 +4,11 @@
 use crate::cells::{encode, zeroed, Cells, Sharing};
 use crate::contexts::{within_many, Typed};
 use crate::extremes::{left, number, times};
-use crate::families::one_book;
+use crate::families::one_book_in;
 use crate::loops::{countdown, fibonacci};
 use crate::random::Random;
 use crate::refusals::by_turns;
-use evaluator::{kind, Term, Type, SIZE_LIMIT};
+use evaluator::{kind, Term, Type, Version, SIZE_LIMIT};
 
 fn int() -> Type {
     Type::int()
@@ -206,7 +206,7 @@ fn risen(function: Term, random: &mut Random) -> Term {
     }
 }
 
-/// A function that is copied, read as several and read again, and then applied at times; within others, which step too.
+/// A function that is copied, read as several and read again, and then applied at times; within others, which step too. Of both versions.
 pub fn rising_and_falling(random: &mut Random) -> Vec<Vec<u8>> {
     let most = if random.once_in(30) { 1_500 } else { 60 };
     let cells = random.between(6, most) as u64;
@@ -224,5 +224,6 @@ pub fn rising_and_falling(random: &mut Random) -> Vec<Vec<u8>> {
     };
     let around = random.lower(4);
     let (term, _) = within_many(typed, around, random);
-    one_book(&term, random)
+    let version = *random.pick(&Version::ALL);
+    one_book_in(version, &term, random)
 }

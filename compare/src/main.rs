@@ -35,6 +35,8 @@ const SELF_TEST_COUNT: usize = 7_138;
 const LARGE: usize = 8_192;
 /// A fault that so many families have found is searched no further.
 const ENOUGH: usize = 2;
+/// A fault of marks is searched first in the families that are made for them.
+const OF_MARKS: [&str; 2] = ["rising and falling", "heavy"];
 /// The random pairs are so many times fewer than the random books, and are taken from so many books of each family.
 const FEWER: usize = 5;
 const EACH: usize = 100;
@@ -456,7 +458,8 @@ fn found_in(fault: Fault, seed: u64, searched: &[Searched]) -> Option<String> {
     let comparison = Comparison::new(&faulty, false);
     let (mut finders, mut found) = (String::new(), 0);
     let mut smallest: Option<(&Vec<u8>, Question)> = None;
-    for (name, books) in searched {
+    let made = |(name, _): &&Searched| fault.is_of_marks() && OF_MARKS.contains(name);
+    for (name, books) in searched.iter().filter(made).chain(searched.iter().filter(|family| !made(family))) {
         for (place, book) in books.iter().enumerate() {
             let mut random = Random::of(seed, "limits", place as u64);
             let Err((question, _)) = comparison.book(book, &mut random) else { continue };
