@@ -48,11 +48,11 @@ repeatsFirst = posing (λ b l. endResult (versionOf b) (repeating l (ending b (a
 unfoldable pub returnsBook : Engine
 returnsBook = posing (λ b l. result (stopped value 0 (size (rootTerm b))) (padded b))
 
--- The true run, but for its mark: k makes one from the book and the limit.
+-- The true run, but for its mark, which is m.
 unfoldable pub marked : ℕ → Ended → Ended
 marked m r = record { stop = r .stop; steps = r .steps; mark = m; term = r .term }
 
--- one whose mark is another
+-- Document 02, (viii): one whose mark is invented; k makes it from the book and the limit.
 unfoldable pub inventedMark : (List ℕ → ℕ → ℕ) → Engine
 inventedMark k = posing (λ b l. endResult (versionOf b) (marked (k b l) (ending b l)))
 
@@ -78,7 +78,7 @@ pub record Impostors : Type 0 where
   pub invented-3 : (k : ℕ → ℕ → ℕ) → k 1 1 ≢ 1 → ¬ Demand3 (inventedSteps k)
   pub repeats-2 : ¬ Demand2 repeatsFirst
   pub repeats-3 : ¬ Demand3 repeatsFirst
-  -- Document 02, (viii): demand 2 stops one whose mark is another, for any accepted book and limit.
+  -- One whose mark is invented is stopped by demand 2 if it is another than the definition's of any accepted book, under any limit.
   pub mark-2 : (k : List ℕ → ℕ → ℕ) (b : List ℕ) (l : ℕ) → IsBytes b → Accepts definition b → IsLimit l → k b l ≢ ending b l .mark → ¬ Demand2 (inventedMark k)
   -- "Demand 2 also shuts out one that hands the book back untouched, one with a fixed reply and one that turns every book away."
   pub returns-book-2 : ¬ Demand2 returnsBook
