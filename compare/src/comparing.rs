@@ -173,7 +173,7 @@ impl<'a> Comparison<'a> {
 }
 
 /// So many times fewer books are asked about their marks under every limit.
-const MARKED: usize = 100;
+const MARKED: usize = 200;
 
 /// Limits are tried up to this one; a run that ends within it is tried with the greatest limit too.
 const ENOUGH: u32 = 10_000;
