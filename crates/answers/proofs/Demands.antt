@@ -30,7 +30,7 @@ use Rattle.answers.specs.Definition.{definition, check, run, judge, afte
 use Rattle.answers.specs.Demands.{Accepts, TakesSteps, Agree, Demand2, Demand3For, Demand3}
 use Rattle.answers.proofs.AllSamples.{in-work}
 use Rattle.answers.proofs.Fits.{reaches-fits, half-positive}
-use Rattle.answers.proofs.Running.{Ran, greatest-first, ran}
+use Rattle.answers.proofs.Running.{Ran, so-far-first, ran}
 use Rattle.answers.proofs.Agreement.{end-result-alike, lesser-steps, same-mark, same-result}
 
 -- Two runs of a typed term, by whatever engines, agree.
@@ -158,16 +158,11 @@ typed-accepts b t =
       answers = ap (λ (y : Result). y .answer) (outcome b (zeros workLength) (shown (versionOf b)) (t .1 .0) work-at-hand (t .0) (t .1 .1));
     }
 
--- the term after no steps is the root
-first-small : (b : List ℕ) → IsBytes b → WellFormed b → (n : ℕ) (f : Term) → n ≤ 0 → Reaches (halfOf (versionOf b)) n (rootTerm b) f → size f ≤ sizeLimit
-first-small b bytes t n f h r-zero = rootTerm-small b bytes t
-first-small b bytes t n f h (r-suc q s) = absurd (omega arith)
-
 -- the executable run from the root
 pub root-ran : (b : List ℕ) (l : ℕ) {A : Ty} → IsBytes b → WellFormed b → Typed [] (rootTerm b) A → Ran (halfOf (versionOf b)) (rootTerm b) l (ending b l)
 root-ran b l bytes f t =
-    subst (λ (n : ℕ). Ran (halfOf (versionOf b)) (rootTerm b) n (ending b l)) (zero-add l) (ran (halfOf (versionOf b)) t l 0 (size (rootTerm b)) (rootTerm b)
-    (record { reached = r-zero; small = first-small b bytes f; greatest = greatest-first (halfOf (versionOf b)) t }))
+    let h = halfOf (versionOf b) in
+    subst (λ (n : ℕ). Ran h (rootTerm b) n (ending b l)) (zero-add l) (ran h t l 0 (size (rootTerm b)) (rootTerm b) (so-far-first h t (rootTerm-small b bytes f)))
 
 pub definition-runs : (b w : List ℕ) (l : ℕ) → IsBytes b → IsWork w → Accepts definition b → TakesSteps (versionOf b) (rootTerm b) l (run b w l)
 unfolding run endResult

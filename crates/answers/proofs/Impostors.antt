@@ -239,13 +239,35 @@ invented-steps-break-3 k n d =
 
 -- ---- another mark
 
--- demand 2 leaves no other, of any accepted book
+-- with the definition's it is the definitions' run
+true-mark : (b w : List ℕ) (l : ℕ) → inventedMark (λ b l. ending b l .mark) .run b w l ≡ definition .run b w l
+unfolding inventedMark posing marked run
+true-mark b w l = refl
+
+-- demand 2 leaves no other, of any accepted book,
 another-mark-breaks-2 : (k : List ℕ → ℕ → ℕ) (b : List ℕ) (l : ℕ) → IsBytes b → Accepts definition b → IsLimit l → k b l ≢ ending b l .mark → ¬ Demand2 (inventedMark k)
 unfolding inventedMark marked endResult
 another-mark-breaks-2 k b l bytes x h n d =
     let t = demand2 b bytes .accepts .0 x in
     let a : Accepted b (t .1 .0) = record { bytes = bytes; formed = t .0; typed = t .1 .1 } in
     n (ap secondOf (posing-2 _ a d l h))
+
+-- and demand 3 none that differs where the answer is to be the same
+two-marks-break-3 : (k : List ℕ → ℕ → ℕ) (b : List ℕ) (l m : ℕ) → IsBytes b → Accepts definition b → IsLimit l → IsLimit m → l ≤ m → ending b l .stop ≢ spent →
+    k b l ≢ k b m → ¬ Demand3 (inventedMark k)
+unfolding inventedMark marked endResult
+two-marks-break-3 k b l m bytes x h i j u n d =
+    let t = demand2 b bytes .accepts .0 x in
+    let a : Accepted b (t .1 .0) = record { bytes = bytes; formed = t .0; typed = t .1 .1 } in
+    let w = zeros workLength in
+    let p = posing-runs false-mark a w l work-at-hand in
+    let q = posing-runs false-mark a w m work-at-hand in
+    let g = d b bytes (posing-accepts false-mark a) .agree w w l m work-at-hand work-at-hand h i in
+    let e = g .same j (λ c f z. let y : stopped (ending b l .stop) (ending b l .steps) (k b l) ≡ stopped spent c f = sym (ap (λ (r : Result). r .answer) p) ∙ z in u (cc y)) in
+    n (ap (λ (r : Result). secondOf (r .answer)) (sym p ∙ e ∙ q))
+  where
+    false-mark : List ℕ → ℕ → Result
+    false-mark b l = endResult (versionOf b) (marked (k b l) (ending b l))
 
 -- ---- the first step, and then that term again
 
@@ -322,7 +344,9 @@ impostors =
       early-3 = early-obeys-3;
       invented-2 = invented-steps-break-2;
       invented-3 = invented-steps-break-3;
+      mark-true = true-mark;
       mark-2 = another-mark-breaks-2;
+      mark-3 = two-marks-break-3;
       repeats-2 = repeats-first-breaks-2;
       repeats-3 = repeats-first-breaks-3;
       returns-book-2 = returns-book-breaks-2;

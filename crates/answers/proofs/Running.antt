@@ -69,7 +69,7 @@ module _ (h : ℕ) {e₀ : Term} {A : Ty} (t : Typed [] e₀ A) where
   small-suc s r i k g l q = elim (within-suc r k g l q) [ inl a ↦ s k g a q | inr z ↦ omega (arith, z, i) ]
 
   -- of the first term alone its size is the greatest,
-  pub greatest-first : GreatestSize h 0 e₀ (size e₀)
+  greatest-first : GreatestSize h 0 e₀ (size e₀)
   greatest-first = record { bounds = first; attained = (0, e₀, omega arith, r-zero, refl) }
     where
       first : (k : ℕ) (f : Term) → k ≤ 0 → Reaches h k e₀ f → size f ≤ size e₀
@@ -105,6 +105,10 @@ module _ (h : ℕ) {e₀ : Term} {A : Ty} (t : Typed [] e₀ A) where
     pub reached : Reaches h n e₀ e
     pub small : Small n
     pub greatest : GreatestSize h n e₀ k
+
+  -- the first term alone
+  pub so-far-first : size e₀ ≤ sizeLimit → SoFar 0 (size e₀) e₀
+  so-far-first i = record { reached = r-zero; small = λ k f l r. omega (arith, greatest-first .bounds k f l r, i); greatest = greatest-first }
 
   further : {n k : ℕ} {e f : Term} → SoFar n k e → Step h e f → size f ≤ sizeLimit → SoFar (suc n) (max k (size f)) f
   further c s i =

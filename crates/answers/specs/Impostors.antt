@@ -1,5 +1,5 @@
 -- Document 01, "To the testers": the impostors, as engines, and which of demands 2 and 3 stops each; and one of document 02. Assumes nothing.
-use Prim.Native.Nat.{ℕ, zero, suc}
+use Prim.Native.Nat.{ℕ, zero, suc, _≤_}
 use mathlib.Core.Path.{_≡_}
 use mathlib.Core.Logic.{_≢_}
 use mathlib.Core.List.{List}
@@ -78,8 +78,12 @@ pub record Impostors : Type 0 where
   pub invented-3 : (k : ℕ → ℕ → ℕ) → k 1 1 ≢ 1 → ¬ Demand3 (inventedSteps k)
   pub repeats-2 : ¬ Demand2 repeatsFirst
   pub repeats-3 : ¬ Demand3 repeatsFirst
-  -- One whose mark is invented is stopped by demand 2 if it is another than the definition's of any accepted book, under any limit.
+  -- One whose mark is invented is the true engine if the mark is, and else is stopped by demand 2, whatever the accepted book and the limit;
+  pub mark-true : (b w : List ℕ) (l : ℕ) → inventedMark (λ b l. ending b l .mark) .run b w l ≡ definition .run b w l
   pub mark-2 : (k : List ℕ → ℕ → ℕ) (b : List ℕ) (l : ℕ) → IsBytes b → Accepts definition b → IsLimit l → k b l ≢ ending b l .mark → ¬ Demand2 (inventedMark k)
+  -- and by demand 3, if two laptops that should give the same answer give two marks.
+  pub mark-3 : (k : List ℕ → ℕ → ℕ) (b : List ℕ) (l m : ℕ) → IsBytes b → Accepts definition b → IsLimit l → IsLimit m → l ≤ m → ending b l .stop ≢ spent →
+      k b l ≢ k b m → ¬ Demand3 (inventedMark k)
   -- "Demand 2 also shuts out one that hands the book back untouched, one with a fixed reply and one that turns every book away."
   pub returns-book-2 : ¬ Demand2 returnsBook
   pub fixed-2 : (c r : Result) → ¬ Demand2 (fixedReply c r)

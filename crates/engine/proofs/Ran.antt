@@ -18,7 +18,7 @@ use Rattle.answers.specs.Engine.{IsWork}
 use Rattle.answers.specs.Definition.{definition, run, judge, Ended, ended, runFrom, endResult, reported}
 use Rattle.answers.specs.Demands as Demands
 use Rattle.answers.proofs.Fits.{reaches-fits, half-positive}
-use Rattle.answers.proofs.Running.{greatest-first, ran}
+use Rattle.answers.proofs.Running.{so-far-first, ran}
 use Rattle.answers.proofs.Restamping.{restamped}
 use Rattle.answers.proofs.Demands.{typed-accepts, definition-runs, runs-agree, demand2, demand3}
 use Rattle.answers.specs.Cases.{runAnswer}
@@ -44,12 +44,8 @@ use Rattle.engine.proofs.Rows.{judge-refuses}
 end-fits : (q : Version) {e : Term} {A : Ty} → Typed [] e A → size e ≤ sizeLimit → TermFits (halfOf q) e → (l : ℕ) {s : Stop} {n k : ℕ} {f : Term} →
     runFrom (halfOf q) sizeLimit l e ≡ ended s n k f → TermFits (halfOf q) f
 end-fits q {e} t k h l {f = f} m =
-    let a = ran (halfOf q) t l 0 (size e) e (record { reached = r-zero; small = first; greatest = greatest-first (halfOf q) t }) in
+    let a = ran (halfOf q) t l 0 (size e) e (so-far-first (halfOf q) t k) in
     reaches-fits (halfOf q) (half-positive q) (omega arith) (subst (λ (x : Ended). Reaches (halfOf q) (x .steps) e (x .term)) m (a .reached)) h
-  where
-    first : (i : ℕ) (g : Term) → i ≤ 0 → Reaches (halfOf q) i e g → size g ≤ sizeLimit
-    first i g o r-zero = k
-    first i g o (r-suc p s) = absurd (omega arith)
 
 module _ {q : Version} {w : List ℕ} {i : ℕ} (bytes : IsBytes w) where
   root-small : (e : Term) → RootAt q w i e → cells (fromTerm e) ≤ sizeLimit
