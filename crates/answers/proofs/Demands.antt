@@ -11,7 +11,7 @@ use lib.Dec.{eqb}
 use lib.ListN.{length, length-replicate}
 use Rattle.calculus.specs.Syntax.{Ty, size-type, Term, size, IsValue}
 use Rattle.calculus.specs.Typing.{Typed}
-use Rattle.calculus.specs.Step.{Step, Reaches, r-zero, r-suc}
+use Rattle.calculus.specs.Step.{Step, Reaches}
 use Rattle.calculus.specs.Infer.{Found, found, infer}
 use Rattle.calculus.specs.Infer as Infer
 use Rattle.calculus.proofs.Chain.{sound}

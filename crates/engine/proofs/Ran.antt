@@ -7,7 +7,7 @@ use mathlib.Core.List.{List, []}
 use native.Mathlib.Omega.{arith}
 use Rattle.calculus.specs.Syntax.{Ty, Term, size}
 use Rattle.calculus.specs.Typing.{Typed}
-use Rattle.calculus.specs.Step.{Reaches, r-zero, r-suc}
+use Rattle.calculus.specs.Step.{Reaches}
 use Rattle.format.specs.declared.Version.{Version}
 use Rattle.format.specs.declared.Version.the-variants.{Two}
 use Rattle.format.specs.Version.{halfOf}
