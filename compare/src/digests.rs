@@ -73,7 +73,7 @@ impl Digest {
 
 /// How many bytes there are up to the last that is not zero.
 fn filled(bytes: &[u8]) -> usize {
-    const CHUNK: usize = 1_024;
+    const CHUNK: usize = 64;
     let zero = |chunk: &[u8; CHUNK]| chunk.iter().fold(0, |all, &byte| all | byte) == 0;
     let (_, chunks) = bytes.as_rchunks::<CHUNK>();
     let zeros = chunks.iter().rev().take_while(|chunk| zero(chunk)).count() * CHUNK;

@@ -7,7 +7,8 @@ use compare::families::families;
 use compare::pairs::pair_families;
 use evaluator::{on_large_stack, Answer, Fault, Joined, Which, PROJECT, WORK};
 use std::fs;
-use std::path::Path;
+use std::path::{Path, PathBuf};
+use std::process::Command;
 
 /// Says this of each call, and leaves this byte at this place.
 #[derive(Clone)]
@@ -217,11 +218,58 @@ fn families_that_differ_or_are_missing_are_named() {
     assert!(matches!(&named(&[("two", 1)], false)[..], [words] if words.starts_with("two: other")));
 }
 
+fn stored_path() -> PathBuf {
+    Path::new(env!("CARGO_MANIFEST_DIR")).join("before_marks.txt")
+}
+
+/// The exit status of the program, and all that it prints.
+fn compared(options: &[&str]) -> (Option<i32>, String) {
+    let output = Command::new(env!("CARGO_BIN_EXE_compare")).args(options).output().expect("the program");
+    let text = [output.stdout, output.stderr].concat();
+    (output.status.code(), String::from_utf8(text).expect("words"))
+}
+
+/// The evaluator, compared with itself, says and leaves what the library did before it had marks, in a family; not with another digest.
+#[test]
+fn the_program_compares_with_the_stored_digests() {
+    let path = stored_path();
+    let asked = |path: &Path| compared(&["--family", "samples", "--digests", path.to_str().expect("a path")]);
+    let (code, text) = asked(&path);
+    assert!(code == Some(0) && text.contains("all but the marks as stored, in 1 digests"), "{text}");
+    let stored = fs::read_to_string(path).expect("the file");
+    let other = Path::new(env!("CARGO_TARGET_TMPDIR")).join("other.txt");
+    for (from, words) in [("samples ", "samples: other"), ("\nsamples ", "samples: no digest")] {
+        let to = if from == "samples " { "samples 0123456789abcdef\nanother " } else { "\nno samples " };
+        fs::write(&other, stored.replacen(from, to, 1)).expect("written");
+        let (code, text) = asked(&other);
+        assert!(code == Some(1) && text.contains(words), "{text}");
+    }
+}
+
+/// Digests of other books are of no use, nor those of a part of them.
+#[test]
+fn other_books_have_no_stored_digests() {
+    let path = stored_path();
+    let path = path.to_str().expect("a path");
+    for (options, words) in [
+        (&["--seed", "2", "--digests", path][..], "has the digests of seed 1"),
+        (&["--count", "5", "--digests", path], "has the digests of seed 1"),
+        (&["--version", "1", "--digests", path], "neither"),
+        (&["--self-test", "--digests", path], "neither"),
+        (&["--write-digests", "nowhere.txt", "--digests", path], "not both"),
+        (&["--write-digests", "nowhere.txt", "--family", "samples"], "of all families"),
+        (&["--digests", "nowhere.txt"], "nowhere.txt: "),
+        (&["--digests"], "needs a value"),
+    ] {
+        let (code, text) = compared(options);
+        assert!(code == Some(2) && text.contains(words), "{options:?}: {text}");
+    }
+}
+
 /// Of seed 1 and no other families than are compared.
 #[test]
 fn the_stored_digests_are_those_of_all_families() {
-    let path = Path::new(env!("CARGO_MANIFEST_DIR")).join("before_marks.txt");
-    let stored = Digests::of(&fs::read_to_string(path).expect("the file")).expect("digests");
+    let stored = Digests::of(&fs::read_to_string(stored_path()).expect("the file")).expect("digests");
     let mut names: Vec<&str> = families().iter().map(|family| family.name).collect();
     names.extend(pair_families().iter().map(|family| family.name));
     let mut same = Digests::new(1, stored.count);
