@@ -19,7 +19,7 @@ pub end-result-alike : (v : Version) {s t : Stop} {n m i j : ℕ} {f g : Term} �
     result (stopped s n i) (padded (termBook v f)) ≡ result (stopped t m j) (padded (termBook v g))
 end-result-alike v p q k o = rw (p, q, k, o)
 
--- the greatest of some sizes is one
+-- there is one greatest size
 pub greatest-unique : {h n : ℕ} {e : Term} {i j : ℕ} → GreatestSize h n e i → GreatestSize h n e j → i ≡ j
 greatest-unique x y =
     let (k, f, a, r, p) = x .attained in

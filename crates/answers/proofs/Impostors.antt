@@ -198,14 +198,17 @@ module _ (s : Stop) {b : List ℕ} {A : Ty} (a : Accepted b A) where
   early-same (suc l) zero h n = absurd (omega arith)
   early-same (suc l) (suc m) h n = refl
 
+-- a book that the definitions accept
+accepted-book : {b : List ℕ} → IsBytes b → Accepts definition b → (A : Ty) × Accepted b A
+accepted-book {b} bytes a = let t = demand2 b bytes .accepts .0 a in (t .1 .0, record { bytes = bytes; formed = t .0; typed = t .1 .1 })
+
 -- whatever reason it gives early, it obeys demand 3
 early-obeys-3 : (s : Stop) → Demand3 (early s)
 unfolding early posing endResult hurried
 early-obeys-3 s b bytes x =
     let y : Accepts definition b = record { work = x .work; is-work = x .is-work; size = x .size; answers = x .answers } in
     let d : Demand3For definition b = demand3 b bytes y in
-    let t = demand2 b bytes .accepts .0 y in
-    let a : Accepted b (t .1 .0) = record { bytes = bytes; formed = t .0; typed = t .1 .1 } in
+    let a = accepted-book bytes y .1 in
     record {
       only = d .only;
       ends = d .ends;
@@ -247,18 +250,14 @@ true-mark b w l = refl
 -- demand 2 leaves no other, of any accepted book,
 another-mark-breaks-2 : (k : List ℕ → ℕ → ℕ) (b : List ℕ) (l : ℕ) → IsBytes b → Accepts definition b → IsLimit l → k b l ≢ ending b l .mark → ¬ Demand2 (inventedMark k)
 unfolding inventedMark marked endResult
-another-mark-breaks-2 k b l bytes x h n d =
-    let t = demand2 b bytes .accepts .0 x in
-    let a : Accepted b (t .1 .0) = record { bytes = bytes; formed = t .0; typed = t .1 .1 } in
-    n (ap secondOf (posing-2 _ a d l h))
+another-mark-breaks-2 k b l bytes x h n d = n (ap secondOf (posing-2 _ (accepted-book bytes x .1) d l h))
 
 -- and demand 3 none that differs where the answer is to be the same
 two-marks-break-3 : (k : List ℕ → ℕ → ℕ) (b : List ℕ) (l m : ℕ) → IsBytes b → Accepts definition b → IsLimit l → IsLimit m → l ≤ m → ending b l .stop ≢ spent →
     k b l ≢ k b m → ¬ Demand3 (inventedMark k)
 unfolding inventedMark marked endResult
 two-marks-break-3 k b l m bytes x h i j u n d =
-    let t = demand2 b bytes .accepts .0 x in
-    let a : Accepted b (t .1 .0) = record { bytes = bytes; formed = t .0; typed = t .1 .1 } in
+    let a = accepted-book bytes x .1 in
     let w = zeros workLength in
     let p = posing-runs false-mark a w l work-at-hand in
     let q = posing-runs false-mark a w m work-at-hand in
