@@ -43,6 +43,9 @@ stays : {h : ℕ} {v f : Term} {A : Ty} → Value v A → ¬ Step h v f
 stays (v_merge v w) (s_merge_left s) = stays v s
 stays (v_merge v w) (s_merge_right u s) = stays w s
 stays (v_rcd v) (s_rcd s) = stays v s
+stays {h = h} {f = f} (v_lit {i = i}) x4 = elim x4 [ ]
+stays {h = h} {f = f} v_unit x5 = elim x5 [ ]
+stays {h = h} {f = f} (v_lam {e = e} {A = A} {B = B}) x6 = elim x6 [ ]
 
 -- ---- (1,,2) : Int
 
@@ -340,6 +343,7 @@ function_inside_only : {h : ℕ} (f : Term) → Step h (proj 1 function_inside) 
 function_inside_only f (s_proj s) = absurd (stays (v_merge (v_rcd v_lam) (v_rcd v_lit)) s)
 function_inside_only f (s_proj_part v (f_left (f_here v_lam n))) = absurd (n tt)
 function_inside_only f (s_proj_none v n t) = refl
+function_inside_only {h = h} f (s_proj_part {A = A} v (f_right x18)) = elim x18 [ ]
 
 -- ---- Sums and a choice: document 02, (ii).
 
@@ -468,6 +472,8 @@ unfolding hold
 of_merges_only f (s_sum_left s) = absurd (stays (v_merge v_lit (v_rcd v_lit)) s)
 of_merges_only f (s_sum_right v s) = absurd (stays (v_merge (v_rcd v_lit) v_lit) s)
 of_merges_only f (s_sum (c_left v o c_lit) (c_right w o' c_lit)) = refl
+of_merges_only _ (s_sum {j = j} (c_left {T = T} v o c_lit) (c_left _ _ x46)) = elim x46 [ ]
+of_merges_only _ (s_sum {i = i} {j = j} (c_right {T = T} _ _ x32) _) = elim x32 [ ]
 
 -- if 0,,{7=5} then 5 else a term that runs for ever becomes 5:Int, and nothing else.
 abbrev chooses_first : Term
@@ -481,6 +487,7 @@ chooses_first_only : {h : ℕ} (f : Term) → Step h chooses_first f → f ≡ a
 unfolding chosen
 chooses_first_only f (s_choice_first s) = absurd (stays (v_merge v_lit (v_rcd v_lit)) s)
 chooses_first_only f (s_choice (c_left v o c_lit)) = refl
+chooses_first_only {h = h} _ (s_choice {i = i} (c_right {T = T} _ _ x23)) = elim x23 [ ]
 
 -- ---- Left and right: document 02, (v).
 

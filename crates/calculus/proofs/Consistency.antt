@@ -1,7 +1,7 @@
 -- Consistency by the source's specification is consistency by document 01's list, on all values, and the executable test answers
 -- both. Assumes nothing.
 use Prim.Native.Nat.{ℕ}
-use mathlib.Core.Path.{◌≡◌, refl, sym, ap, ap₂, subst₂}
+use mathlib.Core.Path.{◌≡◌, refl, sym, ◌∙◌, ap, ap₂, subst₂}
 use mathlib.Core.Logic.{◌↔◌, ◌⊎◌, inl, inr, by_cases}
 use mathlib.Core.Bool.{Bool, true, false, not, ◌&&◌, ◌||◌, decide}
 use lib.Dec.{T, eqb}
@@ -52,8 +52,12 @@ read_lits p_lit p_lit = refl
 read_lams : {e x y : Term} {A B C D : Ty} → ProperCast (lam e A B) D x → ProperCast (lam e A C) D y → x ≡ y
 read_lams (p_arrow a b) (p_arrow c d) = refl
 
+-- a record read under a record type
+read_rcd : {l k : ℕ} {w y : Term} {A : Ty} → ProperCast (rcd l w) (field k A) y → (x : Term) × Cast w A x × (rcd l x ≡ y)
+read_rcd (p_rcd c) = (_, c, refl)
+
 read_rcds : {l : ℕ} {v w x y : Term} {A : Ty} → Consistent v w → ProperCast (rcd l v) A x → ProperCast (rcd l w) A y → x ≡ y
-read_rcds {l} k (p_rcd {A} c) (p_rcd d) = ap (rcd l) (k A _ _ c d)
+read_rcds {l} k (p_rcd {A} c) p = let (x, d, e) = read_rcd p in ap (rcd l) (k A _ _ c d) ∙ e
 
 read_merge : {v w x y z : Term} {A : Ty} → Consistent v x → Consistent w x → ProperCast (merge v w) A y → Cast x A z → y ≡ z
 read_merge {A} k m (p_left c) d = k A _ _ c d

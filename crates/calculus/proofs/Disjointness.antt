@@ -30,6 +30,8 @@ heads_disjoint h k n C (b_both b d) c = (heads_disjoint h k n _ b (below_inter c
 heads_disjoint h_int k n C b_int c = below_heads k h_int (λ p. n (sym p)) c
 heads_disjoint h_arrow k n C (b_arrow b d) c = below_heads k h_arrow (λ p. n (sym p)) c
 heads_disjoint h_field k n C (b_field b) c = below_heads k h_field (λ p. n (sym p)) c
+heads_disjoint h k n _ (b_left {A = A} {B = B} {C = C} _) c = elim h [ ]
+heads_disjoint h k n _ (b_right {A = A} {B = B} {C = C} _) c = elim h [ ]
 
 arrows_disjoint : {A B C D : Ty} → Disjoint B D → Disjoint (arrow A B) (arrow C D)
 arrows_disjoint f E (b_top t) c = t

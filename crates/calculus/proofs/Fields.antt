@@ -7,7 +7,7 @@ use mathlib.Core.Logic.Iff
 use mathlib.Core.Logic.{◌↔◌, inl, inr}
 use mathlib.Core.Bool.{Bool, true, false, not, ◌&&◌, cond}
 use lib.Dec.{T, eqb}
-use Rattle.calculus.specs.Syntax.{Ty, int, top, arrow, inter, field, size_type, Term, Value, v_merge, v_rcd}
+use Rattle.calculus.specs.Syntax.{Ty, int, top, arrow, inter, field, size_type, Term, rcd, Value, v_lit, v_unit, v_lam, v_merge, v_rcd}
 use Rattle.calculus.specs.Subtyping.{TopLike}
 use Rattle.calculus.specs.Fields.{NoField, OneField, o_here, o_left, o_right, SomeTopLike, HasField, f_here, f_left, f_right}
 use Rattle.calculus.specs.Runtime.{Runtime, r_refl, r_top, r_arrow, r_inter, r_field}
@@ -25,8 +25,12 @@ one_not_none (o_here n) m = n (m refl)
 one_not_none (o_left o n) m = one_not_none o m.0
 one_not_none (o_right n o) m = one_not_none o m.1
 
+-- the content of a record type
+one_here : {l k : ℕ} {A C : Ty} → OneField l (field k A) C → A ≡ C
+one_here (o_here n) = refl
+
 pub one_unique : {l : ℕ} {A C D : Ty} → OneField l A C → OneField l A D → C ≡ D
-one_unique (o_here n) (o_here m) = refl
+one_unique (o_here n) o = one_here o
 one_unique (o_left o n) (o_left p m) = one_unique o p
 one_unique (o_left o n) (o_right m p) = absurd (one_not_none o m)
 one_unique (o_right n o) (o_left p m) = absurd (one_not_none p n)
@@ -212,6 +216,9 @@ fields_runtime l (r_field {l = k} {B} r) = rw (runtime_is_top_like r) (same_cond
 
 same_as_one : {l : ℕ} {A C : Ty} (p : FieldPart) → Says l A p → SamePart p (one_part C) → (D : Ty) × OneField l A D × Runtime D C
 same_as_one (one_part D) o (same_one r) = (D, o, r)
+same_as_one {l = l} {A = A} {C = C} no_part o x'' = elim x'' [ ]
+same_as_one {l = l} {A = A} {C = C} top_part o x3 = elim x3 [ ]
+same_as_one {l = l} {A = A} {C = C} more_parts o x4 = elim x4 [ ]
 
 same_as_top : {p : FieldPart} → SamePart p top_part → p ≡ top_part
 same_as_top same_top = refl
@@ -229,15 +236,22 @@ pub no_content : {l : ℕ} {v : Term} {A : Ty} → NoField l A → Value v A →
 no_content n (v_merge v w) x (f_left f) = no_content n.0 v x f
 no_content n (v_merge v w) x (f_right f) = no_content n.1 w x f
 no_content n (v_rcd v) x (f_here w m) = m (rw (value_unique w v) (n refl))
+no_content {l = l} n (v_lit {i = i}) x x11 = elim x11 [ ]
+no_content {l = l} n v_unit x x12 = elim x12 [ ]
+no_content {l = l} n (v_lam {e = e} {A = A} {B = B}) x x13 = elim x13 [ ]
 
 one_content : {l : ℕ} {v : Term} {A C : Ty} → OneField l A C → Value v A → (x : Term) × Value x C × HasField l v x
 one_content (o_here n) (v_rcd v) = (_, v, f_here v n)
 one_content (o_left o n) (v_merge v w) = let (x, u, f) = one_content o v in (x, u, f_left f)
 one_content (o_right n o) (v_merge v w) = let (x, u, f) = one_content o w in (x, u, f_right f)
 
+-- the content of a record
+record_content : {l k : ℕ} {x y : Term} → HasField l (rcd k x) y → y ≡ x
+record_content (f_here w m) = refl
+
 only_content : {l : ℕ} {v y : Term} {A C : Ty} (o : OneField l A C) (u : Value v A) → HasField l v y → y ≡ (one_content o u).0
 unfolding one_content
-only_content (o_here n) (v_rcd v) (f_here w m) = refl
+only_content (o_here n) (v_rcd v) f = record_content f
 only_content (o_left o n) (v_merge v w) (f_left f) = only_content o v f
 only_content (o_left o n) (v_merge v w) (f_right f) = absurd (no_content n w _ f)
 only_content (o_right n o) (v_merge v w) (f_left f) = absurd (no_content n v _ f)

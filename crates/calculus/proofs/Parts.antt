@@ -14,10 +14,10 @@ use Rattle.calculus.proofs.Subtyping.{top_like_dec}
 
 -- ---- no part
 
-none_to : {l : ℕ} {A C : Ty} → NoField l A → Occurs A (field l C) → TopLike C
-none_to n (occurs_here o) = n refl
-none_to n (occurs_left o) = none_to n.0 o
-none_to n (occurs_right o) = none_to n.1 o
+none_to : {l : ℕ} {A C : Ty} → Occurs A (field l C) → NoField l A → TopLike C
+none_to (occurs_here o) n = n refl
+none_to (occurs_left o) n = none_to o n.0
+none_to (occurs_right o) n = none_to o n.1
 
 -- an occurrence in a half is one in the whole
 abbrev in_left : {l : ℕ} {A B : Ty} → FieldIn l A → FieldIn l (inter A B)
@@ -34,7 +34,7 @@ none_from l (inter A B) h = (none_from l A (λ q. h (in_left q)), none_from l B 
 none_from l (field k A) h = λ e. h (A, rw e (occurs_here tt))
 
 pub none_counted : (l : ℕ) (A : Ty) → NoField l A ↔ ((q : FieldIn l A) → TopLike q.0)
-none_counted l A = (λ n q. none_to n q.1, none_from l A)
+none_counted l A = (λ n q. none_to q.1 n, none_from l A)
 
 -- ---- some part that is top-like
 
@@ -99,9 +99,9 @@ only_here l C (D, p) m = let e = whole tt p in Σ_prop_path (λ E. occurs_prop t
 only_to : {l : ℕ} {A C : Ty} → OneField l A C → (o : Occurs A (field l C)) × (¬ TopLike C) × Only l A (C, o)
 only_to (o_here {l} {C} n) = (occurs_here tt, n, only_here l C)
 only_to (o_left o n) =
-    let (p, m, k) = only_to o in (occurs_left p, m, by_half _ (λ q u. ap in_left (k q u)) (λ q u. absurd (u (none_to n q.1))))
+    let (p, m, k) = only_to o in (occurs_left p, m, by_half _ (λ q u. ap in_left (k q u)) (λ q u. absurd (u (none_to q.1 n))))
 only_to (o_right n o) =
-    let (p, m, k) = only_to o in (occurs_right p, m, by_half _ (λ q u. absurd (u (none_to n q.1))) (λ q u. ap in_right (k q u)))
+    let (p, m, k) = only_to o in (occurs_right p, m, by_half _ (λ q u. absurd (u (none_to q.1 n))) (λ q u. ap in_right (k q u)))
 
 -- where one in a half is the only one, those in the other are top-like
 abbrev side : {l : ℕ} {A B : Ty} → FieldIn l (inter A B) → ℕ

@@ -7,7 +7,7 @@ use mathlib.Core.Logic.{◌↔◌, inl, inr}
 use mathlib.Core.Bool.{true}
 use mathlib.Core.List.{List, []}
 use lib.Dec.{T}
-use Rattle.calculus.specs.Syntax.{Ty, int, top, arrow, inter, field, Term, var, lit, unit, anno, app, lam, merge, fix, rcd, proj, sum, choice, size_type, size}
+use Rattle.calculus.specs.Syntax.{Ty, int, top, inter, field, Term, var, lit, unit, anno, app, lam, merge, fix, rcd, proj, sum, choice, size_type, size}
 use Rattle.calculus.specs.Syntax.{Value, v_lit, v_unit, v_lam, v_merge, v_rcd, IsValue}
 use Rattle.calculus.specs.TypedReduction.{Cast, c_lit, c_top, c_arrow, c_rcd, c_left, c_right, c_both}
 use Rattle.calculus.specs.Fields.{HasField, f_here, f_left, f_right}
@@ -113,6 +113,9 @@ none_left (rcd l e) s z = let v = none_left e s z in (field l v.0, v_rcd v.1)
 none_left (proj l e) s z = absurd (omega (arith, z))
 none_left (sum e f) s z = absurd (omega (arith, z))
 none_left (choice e f g) s z = absurd s
+none_left (var _) s z = elim s [ ]
+none_left (lam _ _ _) s z = elim s [ ]
+none_left (fix _ _) s z = elim s [ ]
 
 pub values : (e : Term) → Sheet e → IsValue e ↔ (count_steps e ≡ 0)
 values e s = (λ v. value_count s v.1, none_left e s)

@@ -2,7 +2,7 @@
 -- source 001, lemmas 5.5, 5.6, 5.7, 5.9, 5.10, theorem 5.3. Assumes nothing.
 use Prim.Native.Nat.{ℕ, ◌<◌, ◌+◌}
 use native.Mathlib.Omega.{arith}
-use mathlib.Core.Path.{◌≡◌, refl, sym, ◌∙◌, subst}
+use mathlib.Core.Path.{◌≡◌, refl, sym, ◌∙◌, ap, subst}
 use mathlib.Core.Logic.{◌⊎◌, inl, inr, ◌≢◌}
 use mathlib.Core.Bool.{cond}
 use mathlib.Core.List.{List, [], ◌∷◌, ◌++◌}
@@ -31,7 +31,7 @@ use Rattle.calculus.proofs.TypedReduction.{value_unique, cast_from, cast_to, bel
 use Rattle.calculus.proofs.Numbers.{chosen_either, below_number}
 use Rattle.calculus.proofs.Fields.{one_not_none, one_not_top_like, runtime_one, runtime_none, no_content, part_unique}
 use Rattle.calculus.proofs.Consistency.{list→consistent, consistent→list, consistent_sym}
-use Rattle.calculus.proofs.Typing.{typed_value, typed_closed, typed_weaken, substitute_closed, lookup_within, lookup_strengthen}
+use Rattle.calculus.proofs.Typing.{projects_here, typed_value, typed_closed, typed_weaken, substitute_closed, lookup_within, lookup_strengthen}
 
 -- a typed value has the type that it shows
 pub value_typed : {Γ : List Ty} {v : Term} {A B : Ty} → Typed Γ v A → Value v B → Value v A
@@ -160,31 +160,39 @@ substitute_var Δ {n} {A} {B} {B'} l s r =
     let within : n < length Δ + 1 = rw (length-append Δ (B ∷ [])) at (lookup_within l) in
     (A, t_var (lookup_strengthen Δ (B ∷ []) n l (omega arith)), r_refl)
 
+-- 5.10, of a context that is known to be Δ ++ (B ∷ [])
+substitute_at : (Δ : List Ty) {Θ : List Ty} {e s : Term} {A B B' : Ty} → Typed Θ e A → Θ ≡ Δ ++ (B ∷ []) → Typed [] s B' → Runtime B' B
+    → (A' : Ty) × Typed Δ (substitute (length Δ) s e) A' × Runtime A' A
+unfolding substitute
+substitute_at Δ t_unit q s r = exact t_unit
+substitute_at Δ t_lit q s r = exact t_lit
+substitute_at Δ (t_var {n} {A} l) q s r = substitute_var Δ (subst (λ Θ. Lookup Θ n A) q l) s r
+substitute_at Δ (t_anno t b) q s r = refine_anno (substitute_at Δ t q s r) b
+substitute_at Δ (t_app t a u b) q s r = refine_app (substitute_at Δ t q s r) a (substitute_at Δ u q s r) b
+substitute_at Δ (t_lam {A} t b) q s r = let h = substitute_at (A ∷ Δ) t (ap (◌∷◌ A) q) s r in exact (t_lam h.1 (refine_below h.2 b))
+substitute_at Δ (t_merge t u d) q s r = refine_merge (substitute_at Δ t q s r) (substitute_at Δ u q s r) d
+substitute_at Δ {s = e} (t_mergev {v = x} {w = y} {A} {B} v w t u k) q s r =
+    let m : Typed Δ (merge x y) (inter A B) = t_mergev v w t u k in
+    exact (subst (λ z. Typed Δ z (inter A B)) (sym (substitute_closed (length Δ) e (merge x y) (typed_closed m))) m)
+substitute_at Δ (t_fix {A} t b) q s r = let h = substitute_at (A ∷ Δ) t (ap (◌∷◌ A) q) s r in exact (t_fix h.1 (refine_below h.2 b))
+substitute_at Δ (t_rcd t) q s r = refine_rcd (substitute_at Δ t q s r)
+substitute_at Δ (t_proj t p) q s r = refine_proj (substitute_at Δ t q s r) p
+substitute_at Δ (t_sum t b u c) q s r = refine_sum (substitute_at Δ t q s r) b (substitute_at Δ u q s r) c
+substitute_at Δ (t_choice t b u c w a) q s r =
+    refine_choice (substitute_at Δ t q s r) b (substitute_at Δ u q s r) c (substitute_at Δ w q s r) a
+
 -- 5.10
 pub substitute_typed : (Δ : List Ty) {e s : Term} {A B B' : Ty} → Typed (Δ ++ (B ∷ [])) e A → Typed [] s B' → Runtime B' B
     → (A' : Ty) × Typed Δ (substitute (length Δ) s e) A' × Runtime A' A
-unfolding substitute
-substitute_typed Δ t_unit s r = exact t_unit
-substitute_typed Δ t_lit s r = exact t_lit
-substitute_typed Δ (t_var l) s r = substitute_var Δ l s r
-substitute_typed Δ (t_anno t b) s r = refine_anno (substitute_typed Δ t s r) b
-substitute_typed Δ (t_app t a u b) s r = refine_app (substitute_typed Δ t s r) a (substitute_typed Δ u s r) b
-substitute_typed Δ (t_lam {A} t b) s r = let h = substitute_typed (A ∷ Δ) t s r in exact (t_lam h.1 (refine_below h.2 b))
-substitute_typed Δ (t_merge t u d) s r = refine_merge (substitute_typed Δ t s r) (substitute_typed Δ u s r) d
-substitute_typed Δ {s = e} (t_mergev {v = x} {w = y} {A} {B} v w t u k) s r =
-    let m : Typed Δ (merge x y) (inter A B) = t_mergev v w t u k in
-    exact (subst (λ z. Typed Δ z (inter A B)) (sym (substitute_closed (length Δ) e (merge x y) (typed_closed m))) m)
-substitute_typed Δ (t_fix {A} t b) s r = let h = substitute_typed (A ∷ Δ) t s r in exact (t_fix h.1 (refine_below h.2 b))
-substitute_typed Δ (t_rcd t) s r = refine_rcd (substitute_typed Δ t s r)
-substitute_typed Δ (t_proj t p) s r = refine_proj (substitute_typed Δ t s r) p
-substitute_typed Δ (t_sum t b u c) s r = refine_sum (substitute_typed Δ t s r) b (substitute_typed Δ u s r) c
-substitute_typed Δ (t_choice t b u c w a) s r =
-    refine_choice (substitute_typed Δ t s r) b (substitute_typed Δ u s r) c (substitute_typed Δ w s r) a
+substitute_typed Δ t s r = substitute_at Δ t refl s r
 
 pub value_no_step : {h : ℕ} {v f : Term} {A : Ty} → Value v A → ¬ Step h v f
 value_no_step (v_merge v w) (s_merge_left s) = value_no_step v s
 value_no_step (v_merge v w) (s_merge_right p s) = value_no_step w s
 value_no_step (v_rcd v) (s_rcd s) = value_no_step v s
+value_no_step {h = h} {f = f} (v_lit {i = i}) x4 = elim x4 [ ]
+value_no_step {h = h} {f = f} v_unit x5 = elim x5 [ ]
+value_no_step {h = h} {f = f} (v_lam {e = e} {A = A} {B = B}) x6 = elim x6 [ ]
 
 -- the contents of a typed value's parts are typed
 content_typed : {l : ℕ} {v x : Term} {A : Ty} → Typed [] v A → HasField l v x → (B : Ty) × Typed [] x B
@@ -236,7 +244,7 @@ step_typed (t_anno t b) (s_cast c) = cast_typed t c
 step_typed (t_app (t_lam t b) a_arrow u d) (s_beta c) = let h = cast_typed u c in refine_anno (substitute_typed [] t h.1 h.2) b
 step_typed (t_app t_unit a_top u b) (s_app_unit v) = exact t_unit
 step_typed (t_proj t_unit p_top) s_proj_unit = exact t_unit
-step_typed (t_proj (t_rcd t) p_field) (s_proj_rcd v) = exact t
+step_typed (t_proj (t_rcd t) p) (s_proj_rcd v) = exact (subst (Typed [] _) (projects_here p) t)
 step_typed {h} (t_proj t p) (s_proj_part v f) = read_typed h (t_proj t p) v (s_proj_part v f)
 step_typed {h} (t_proj t p) (s_proj_none v n m) = read_typed h (t_proj t p) v (s_proj_none v n m)
 step_typed (t_fix t b) s_fix = refine_anno (substitute_typed [] t (t_fix t b) r_refl) b
@@ -246,6 +254,10 @@ step_typed (t_sum t b u c) (s_sum p q) = exact t_lit
 step_typed (t_choice t b u c w a) (s_choice_first s) = refine_choice (step_typed t s) b (exact u) c (exact w) a
 step_typed (t_choice t b u c w a) (s_choice {b = e} {c = f} {i} p) =
     exact (chosen_either (λ x. Typed [] (anno x int) int) i e f (t_anno u c) (t_anno w a))
+step_typed {h = h} {f = f} t_unit x5 = elim x5 [ ]
+step_typed {h = h} {f = f} (t_lit {i = i}) x6 = elim x6 [ ]
+step_typed {h = h} {f = f} {A = A} (t_var {n = n} x10) _ = elim x10 [ ]
+step_typed {h = h} {f = f} (t_lam {e = e} {A = A} {B = B} {C = C} _ _) x16 = elim x16 [ ]
 
 -- e has a successor
 abbrev Steps : ℕ → Term → Type 0
@@ -295,3 +307,4 @@ progress (t_proj t p) = progress_part (progress t) (λ v. inr (projects_step p (
 progress (t_sum t b u c) = progress_parts (progress t) (progress u)
     (λ v w. inr (_, s_sum (typed_number t b v).1 (typed_number u c w).1)) (λ f s. (_, s_sum_left s)) (λ v f s. (_, s_sum_right v.1 s))
 progress (t_choice t b u c w a) = progress_part (progress t) (λ v. inr (_, s_choice (typed_number t b v).1)) (λ f s. (_, s_choice_first s))
+progress {h = h} {A = A} (t_var {n = n} x4) = elim x4 [ ]

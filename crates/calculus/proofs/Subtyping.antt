@@ -64,6 +64,9 @@ below_heads h k n (b_top t) = t
 below_heads h_int h_int n b_int = absurd (n refl)
 below_heads h_arrow h_arrow n (b_arrow b c) = absurd (n refl)
 below_heads h_field h_field n (b_field b) = absurd (n refl)
+below_heads h k n (b_left {A = A} {B = B} _) = elim h [ ]
+below_heads h k n (b_right {A = A} {B = B} _) = elim h [ ]
+below_heads {A = A} h k n (b_both {B = B} {C = C} _ _) = elim k [ ]
 
 -- below a function type, and the output not top-like: the two parts
 pub below_arrow : {A B C D : Ty} → ¬ TopLike D → Below (arrow A B) (arrow C D) → Below C A × Below B D
@@ -91,6 +94,7 @@ cut_int : Cut int
 cut_int A C b_int c = c
 cut_int A C (b_left b) c = b_left (cut_int _ C b c)
 cut_int A C (b_right b) c = b_right (cut_int _ C b c)
+cut_int _ C (b_top {A = A} x3) c = elim x3 [ ]
 
 cut_arrows : {A B C D E : Ty} → Cut C → Cut D → Below C A → Below B D → Below (arrow C D) E → Below (arrow A B) E
 cut_arrows f g b c (b_top t) = b_top t

@@ -160,6 +160,7 @@ cast_trans_proper (c_left w o c) p d = c_left w p.0 (cast_trans_proper c p d)
 cast_trans_proper (c_right v o c) p d = c_right v p.0 (cast_trans_proper c p d)
 cast_trans_proper (c_both c e) p (p_left d) = cast_trans_proper c p (cast_proper p d)
 cast_trans_proper (c_both c e) p (p_right d) = cast_trans_proper e p (cast_proper p d)
+cast_trans_proper {y = y} {B = B} (c_top {v = v} {T = T} {A = A} _ _ _) p d = elim d [ ]
 
 pub cast_trans : {v x y : Term} {A B : Ty} → Cast v A x → Cast x B y → Cast v B y
 cast_trans {y} {B} c d = cast_lift (cast_from c).1 (λ B p y e. cast_trans_proper c p (cast_proper p e)) B y d

@@ -1,7 +1,7 @@
 -- Typing: the two statements derive the same, types are unique, closed terms are typed alike in every context. Assumes nothing.
 use Prim.Native.Nat.{ℕ, suc, ◌≤◌, ◌<◌}
 use native.Mathlib.Omega.{arith}
-use mathlib.Core.Path.{◌≡◌, refl, sym, ap, ap₂}
+use mathlib.Core.Path.{◌≡◌, refl, sym, ap, ap₂, subst}
 use mathlib.Core.Logic.Iff
 use mathlib.Core.Logic.{◌↔◌}
 use mathlib.Core.Bool.{◌&&◌}
@@ -53,6 +53,13 @@ typed_value (t_lam t b) v_lam = refl
 typed_value (t_merge t u d) (v_merge v w) = ap₂ inter (typed_value t v) (typed_value u w)
 typed_value (t_mergev p q t u k) (v_merge v w) = ap₂ inter (value_unique p v) (value_unique q w)
 typed_value (t_rcd {l} t) (v_rcd v) = ap (field l) (typed_value t v)
+typed_value {B = B} (t_var {Γ = Γ} {n = n} {A = A} _) x6 = elim x6 [ ]
+typed_value (t_anno {Γ = Γ} {e = e} {A = A} {B = B} _ _) x8 = elim x8 [ ]
+typed_value (t_app {Γ = Γ} {e = e} {f = f} {A = A} {B = B} {C = C} {E = E} _ _ _ _) x11 = elim x11 [ ]
+typed_value (t_fix {Γ = Γ} {e = e} {A = A} {B = B} _ _) x10 = elim x10 [ ]
+typed_value (t_proj {Γ = Γ} {l = l} {e = e} {A = A} {B = B} _ _) x11 = elim x11 [ ]
+typed_value (t_sum {Γ = Γ} {e = e} {f = f} {A = A} {B = B} _ _ _ _) x14 = elim x14 [ ]
+typed_value (t_choice {Γ = Γ} {e = e} {f = f} {g = g} {A = A} {B = B} {C = C} _ _ _ _ _ _) x17 = elim x17 [ ]
 
 pub lookup_unique : {Γ : List Ty} {n : ℕ} {A B : Ty} → Lookup Γ n A → Lookup Γ n B → A ≡ B
 lookup_unique here here = refl
@@ -62,8 +69,12 @@ applies_unique : {A B C D E : Ty} → Applies A B C → Applies A D E → C ≡ 
 applies_unique a_arrow a_arrow = refl
 applies_unique a_top a_top = refl
 
+-- the content of a record type
+pub projects_here : {l k : ℕ} {A C : Ty} → Projects l (field k A) C → A ≡ C
+projects_here p_field = refl
+
 projects_unique : {l : ℕ} {A B C : Ty} → Projects l A B → Projects l A C → B ≡ C
-projects_unique p_field p_field = refl
+projects_unique p_field p = projects_here p
 projects_unique p_top p_top = refl
 projects_unique (p_one o) (p_one p) = one_unique o p
 projects_unique (p_one o) (p_none n t) = absurd (one_not_none o n)
@@ -164,26 +175,30 @@ lookup_strengthen [] Γ n l h = absurd (omega arith)
 lookup_strengthen (B ∷ Δ) Γ n here h = here
 lookup_strengthen (B ∷ Δ) Γ n (there l) h = there (lookup_strengthen Δ Γ _ l (omega arith))
 
-pub typed_strengthen : (Δ Γ : List Ty) {e : Term} {A : Ty} → Typed (Δ ++ Γ) e A → T (is_closed (length Δ) e) → Typed Δ e A
+-- the same of a context that is known to be Δ ++ Γ
+strengthen : (Δ Γ : List Ty) {Θ : List Ty} {e : Term} {A : Ty} → Typed Θ e A → Θ ≡ Δ ++ Γ → T (is_closed (length Δ) e) → Typed Δ e A
 unfolding is_closed
-typed_strengthen Δ Γ t_unit c = t_unit
-typed_strengthen Δ Γ t_lit c = t_lit
-typed_strengthen Δ Γ (t_var l) c = t_var (lookup_strengthen Δ Γ _ l (ltb→lt _ _ c))
-typed_strengthen Δ Γ (t_anno t b) c = t_anno (typed_strengthen Δ Γ t c) b
-typed_strengthen Δ Γ (t_app {e} {f} t a u b) c =
-    let p = (closed_both (length Δ) e f).0 c in t_app (typed_strengthen Δ Γ t p.0) a (typed_strengthen Δ Γ u p.1) b
-typed_strengthen Δ Γ (t_lam {A} t b) c = t_lam (typed_strengthen (A ∷ Δ) Γ t c) b
-typed_strengthen Δ Γ (t_merge {e} {f} t u d) c =
-    let p = (closed_both (length Δ) e f).0 c in t_merge (typed_strengthen Δ Γ t p.0) (typed_strengthen Δ Γ u p.1) d
-typed_strengthen Δ Γ (t_mergev v w t u k) c = t_mergev v w t u k
-typed_strengthen Δ Γ (t_fix {A} t b) c = t_fix (typed_strengthen (A ∷ Δ) Γ t c) b
-typed_strengthen Δ Γ (t_rcd t) c = t_rcd (typed_strengthen Δ Γ t c)
-typed_strengthen Δ Γ (t_proj t p) c = t_proj (typed_strengthen Δ Γ t c) p
-typed_strengthen Δ Γ (t_sum {e} {f} t b u d) c =
-    let (p, q) = (closed_both (length Δ) e f).0 c in t_sum (typed_strengthen Δ Γ t p) b (typed_strengthen Δ Γ u q) d
-typed_strengthen Δ Γ (t_choice {e} {f} {g} t b u d s a) c =
-    let ((p, q), r) = (closed_three (length Δ) e f g).0 c in
-    t_choice (typed_strengthen Δ Γ t p) b (typed_strengthen Δ Γ u q) d (typed_strengthen Δ Γ s r) a
+strengthen Δ Γ t_unit q c = t_unit
+strengthen Δ Γ t_lit q c = t_lit
+strengthen Δ Γ (t_var {n} {A} l) q c = t_var (lookup_strengthen Δ Γ _ (subst (λ Θ. Lookup Θ n A) q l) (ltb→lt _ _ c))
+strengthen Δ Γ (t_anno t b) q c = t_anno (strengthen Δ Γ t q c) b
+strengthen Δ Γ (t_app {e} {f} t a u b) q c =
+    let p = (closed_both (length Δ) e f).0 c in t_app (strengthen Δ Γ t q p.0) a (strengthen Δ Γ u q p.1) b
+strengthen Δ Γ (t_lam {A} t b) q c = t_lam (strengthen (A ∷ Δ) Γ t (ap (◌∷◌ A) q) c) b
+strengthen Δ Γ (t_merge {e} {f} t u d) q c =
+    let p = (closed_both (length Δ) e f).0 c in t_merge (strengthen Δ Γ t q p.0) (strengthen Δ Γ u q p.1) d
+strengthen Δ Γ (t_mergev v w t u k) q c = t_mergev v w t u k
+strengthen Δ Γ (t_fix {A} t b) q c = t_fix (strengthen (A ∷ Δ) Γ t (ap (◌∷◌ A) q) c) b
+strengthen Δ Γ (t_rcd t) q c = t_rcd (strengthen Δ Γ t q c)
+strengthen Δ Γ (t_proj t p) q c = t_proj (strengthen Δ Γ t q c) p
+strengthen Δ Γ (t_sum {e} {f} t b u d) q c =
+    let (p, r) = (closed_both (length Δ) e f).0 c in t_sum (strengthen Δ Γ t q p) b (strengthen Δ Γ u q r) d
+strengthen Δ Γ (t_choice {e} {f} {g} t b u d s a) q c =
+    let ((p, r), o) = (closed_three (length Δ) e f g).0 c in
+    t_choice (strengthen Δ Γ t q p) b (strengthen Δ Γ u q r) d (strengthen Δ Γ s q o) a
+
+pub typed_strengthen : (Δ Γ : List Ty) {e : Term} {A : Ty} → Typed (Δ ++ Γ) e A → T (is_closed (length Δ) e) → Typed Δ e A
+typed_strengthen Δ Γ t c = strengthen Δ Γ t refl c
 
 -- nothing is substituted into a closed term
 pub substitute_closed : (k : ℕ) (s e : Term) → T (is_closed k e) → substitute k s e ≡ e
@@ -230,3 +245,4 @@ typed_size (t_rcd t) = let h = typed_size t in omega arith
 typed_size (t_proj t p) = let h = typed_size t in let k = projects_size p in omega arith
 typed_size (t_sum t b u c) = omega arith
 typed_size (t_choice t b u c s a) = omega arith
+typed_size {A = A} (t_var {n = n} x4) = elim x4 [ ]

@@ -1,1 +1,3 @@
+#![tactic(auto)]
+
 // The calculus: definitions in specs/, theorems in proofs/. No code.
