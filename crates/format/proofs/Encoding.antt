@@ -150,13 +150,14 @@ padded {m = m} (cell {a = a} {b = b} {c = c} e f h hl ga gb gc) p =
     let pc = part_right (cells b) (encode (m + cells a) b) _ (length_encode (m + cells a) b) pb in
     let pd = part_right (cells c) (encode (m + cells a + cells b) c) _ (length_encode (m + cells a + cells b) c) pc in
     let end : m + cells a + cells b + cells c ≡ m + (cells a + cells b + cells c) = omega arith in
-    encoded_cell e f hl (padded ga (part_left (encode m a) _ p)) (padded gb (part_left (encode (m + cells a) b) _ pb))
-    (padded gc (part_left (encode (m + cells a + cells b) c) _ pc)) (cell_back _ (rw end at pd))
+    encoded_cell e f hl (padded ga (part_left (encode m a) _ p)) (padded {m = m + cells a} gb (part_left (encode (m + cells a) b) _ pb))
+    (padded {m = m + cells a + cells b} gc (part_left (encode (m + cells a + cells b) c) _ pc)) (cell_back _ (rw end at pd))
 
 -- Of a tree that has a cell: the cell that stands for it is its last, decodes to it and is of its sort.
 pub root_last : {v : Version} {s : Sort} {t : Tree} (m : ℕ) → Good v (refers s) t → suc (refer m t) ≡ m + cells t
 unfolding cells refer
 root_last m (cell e f h hl ga gb gc) = omega arith
+root_last m (leaf x) = elim x [ ]
 
 pub root_decodes : {v : Version} {s : List ℕ} {m : ℕ} {so : Sort} {t : Tree} → Encoded v s m (refers so) t → tree_at s (refer m t) ≡ t
 root_decodes {s = s} {m} {so} {t} l =

@@ -16,7 +16,7 @@ use Rattle.format.specs.declared.Version.TheVariants.{One, Two}
 use Rattle.format.specs.Version.{version_byte_lem, version_from_lem}
 use Rattle.format.specs.Table.{Sort, term_sort, Use, unused, plain, refers, Row, table, row_in, row_for, row_of}
 use Rattle.format.specs.Cell.{IsBytes, byte, Cell, cell_at, cell_bytes}
-use Rattle.format.specs.Tree.{raw, node, cells, field_tree, cell_tree, tree_at}
+use Rattle.format.specs.Tree.{Tree, raw, node, cells, field_tree, cell_tree, tree_at}
 use Rattle.format.specs.Terms.{to_term_in}
 use Rattle.format.specs.Book.{count, root_of, version_of, size_limit, sort_is, has_sort, cell_fault, WellFormedCells, WellFormed, root_term, trailer}
 use Rattle.format.specs.Widths.{restamp, mapped_cells}
@@ -135,6 +135,11 @@ module _ (s t : List ℕ) (k n : ℕ) (is : (i : ℕ) → i < n → cell_at t (k
 -- the row of a merge
 abbrev merge_row : Row
 merge_row = record { kind = 22; sort = term_sort; label = unused; a = refers term_sort; b = refers term_sort; c = unused }
+
+-- abstract, so that `rw` sees the version in it
+merge_opens : (v : Version) (a b : Tree) → to_term_in v (node 22 0 a b (raw 0)) ≡ merge (to_term_in v a) (to_term_in v b)
+unfolding to_term_in
+merge_opens v a b = refl
 
 merge_row_lem : (v : Version) → row_for v 22 ≡ some merge_row
 unfolding row_for row_in table
@@ -293,8 +298,8 @@ module _ (u : Version) (p q : List ℕ) where
         ) refl)
 
     together_opens : root_term (together u p q) ≡ merge (root_term p) (root_term q)
-    unfolding root_term to_term_in
-    together_opens = rw (together_tree, together_version, vp, vq) refl
+    unfolding root_term
+    together_opens = rw (together_tree, merge_opens, together_version, vp, vq) refl
 
     together_sized : cells (tree_at (together u p q) (root_of (together u p q))) ≡ suc (size (root_term p) + size (root_term q))
     unfolding cells
