@@ -1,5 +1,7 @@
 // What a check or a run answers, and the numbers that are shown of it. specs/Cases.antt states document 01's number and values for every case,
 // specs/Exported.antt the numbers that leave the library.
+#![tactic(auto)]
+
 ghost use Rattle.std.specs.Prelude.{◌≡◌, ◌<◌};
 ghost use Rattle.answers.specs.Cases.{refusal_answer, check_answer, run_answer};
 ghost use Rattle.answers.specs.Exported.{tag_of, value_of, second_of};
