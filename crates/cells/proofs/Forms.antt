@@ -69,6 +69,6 @@ parts_single f m (choice e g d) h = refl
 pub parts_else : {X : Type 0} (n : ℤ → X) (u : X) (f : Term → Ty → Ty → X) (r : ℕ → Term → X) {z : X} (m : X → X → X) (e : Term)
     → NoValue (kind_of term_sort e) → fold_parts (by_form n u f r z) m e ≡ z
 unfolding from_term_in kind_in
-parts_else n u f r m e h =
-    parts_single _ m e (λ v w q. h.merged (ap (kind_of term_sort) q))
-    ∙ form_else e (λ k. absurd (h.number k)) (λ k. absurd (h.top_value k)) (λ k. absurd (h.function k)) (λ k. absurd (h.recorded k))
+parts_else n u f r {z = z} m e h =
+    parts_single (by_form n u f r z) m e (λ v w q. h.merged (ap (kind_of term_sort) q))
+    ∙ form_else {n = n} {u = u} {f = f} {r = r} e (λ k. absurd (h.number k)) (λ k. absurd (h.top_value k)) (λ k. absurd (h.function k)) (λ k. absurd (h.recorded k))
