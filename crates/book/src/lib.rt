@@ -1,5 +1,7 @@
 // Rows 2 to 10: the length, the trailer, each cell, the root. The trailer, and the part of cells before it, are handed on as parts of the
 // book to their readers.
+#![tactic(auto)]
+
 ghost use Rattle.std.specs.Prelude.{◌≡◌, ◌+◌, ◌*◌, ◌≤◌, ◌<◌, min, length};
 ghost use Rattle.std.proofs.Math.Option.{none};
 ghost use Rattle.format.specs.declared.Version.TheVariants.{Two};

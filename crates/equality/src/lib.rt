@@ -1,6 +1,8 @@
 // Whether two cells, unshared, are the same tree: one test for types and terms, by the table of kinds. It is lent the cells and two of their
 // numbers; it writes nothing, copies nothing and keeps no array. What a row does not name is not looked at, so the test is right on a book's own
 // bytes as on loaded cells, where field c of a type carries a mark.
+#![tactic(auto)]
+
 ghost use Rattle.std.specs.Prelude.{◌≤◌};
 ghost use Rattle.cells.specs.Coded.{use_of};
 ghost use Rattle.equality.specs.Trees.{Comparable, SameTree, SameField};
