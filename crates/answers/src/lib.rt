@@ -1,5 +1,6 @@
 // What a check or a run answers, and the numbers that are shown of it. specs/Cases.antt states document 01's number and values for every case,
 // specs/Exported.antt the numbers that leave the library.
+
 #![tactic(auto)]
 
 ghost use Rattle.std.specs.Prelude.{◌≡◌, ◌<◌};
@@ -7,7 +8,7 @@ ghost use Rattle.answers.specs.Cases.{refusal_answer, check_answer, run_answer};
 ghost use Rattle.answers.specs.Exported.{tag_of, value_of, second_of};
 
 // Why a book is refused: rows 1 to 15, each with the cell that it names where it names one.
-#[derive(Drop)]
+#[derive(Clone, Copy)]
 pub enum Refusal {
     Buffer,
     Length,
@@ -27,7 +28,7 @@ pub enum Refusal {
 }
 
 // Why a run stopped, with the steps taken.
-#[derive(Drop)]
+#[derive(Clone, Copy)]
 pub enum Stop {
     Value(u32),
     Spent(u32),
@@ -35,7 +36,7 @@ pub enum Stop {
 }
 
 // What a check answers.
-#[derive(Drop)]
+#[derive(Clone, Copy)]
 pub enum CheckOutcome {
     Refused(Refusal),
     // the size of the type
@@ -43,7 +44,7 @@ pub enum CheckOutcome {
 }
 
 // What a run answers.
-#[derive(Drop)]
+#[derive(Clone, Copy)]
 pub enum RunOutcome {
     Refused(Refusal),
     // and the greatest size of any term

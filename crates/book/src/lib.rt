@@ -1,5 +1,6 @@
 // Rows 2 to 10: the length, the trailer, each cell, the root. The trailer, and the part of cells before it, are handed on as parts of the
 // book to their readers.
+
 #![tactic(auto)]
 
 ghost use Rattle.std.specs.Prelude.{◌≡◌, ◌+◌, ◌*◌, ◌≤◌, ◌<◌, min, length};
@@ -27,13 +28,13 @@ const LIMIT: usize = 4095;
 
 const CAP: usize = LIMIT + 1;
 
-#[derive(Drop)]
+#[derive(Clone, Copy)]
 pub enum Check {
     Clear,
     Bad(Refusal),
 }
 
-#[derive(Drop)]
+#[derive(Clone, Copy)]
 pub enum Form {
     Malformed(Refusal),
     // the version and the root cell

@@ -1,4 +1,5 @@
 // Cells of eight bytes in a buffer: reading one, writing one; the table of kinds.
+
 #![tactic(auto)]
 
 ghost use Rattle.std.specs.Prelude.{◌≡◌, ◌+◌, ◌*◌, ◌/◌, ◌%◌, ◌≤◌, ◌<◌, [], ◌∷◌, length};
@@ -11,7 +12,7 @@ ghost use Rattle.cells.specs.Held.{label_by_lem};
 use format::Version;
 
 // A cell: kind, label and the fields a, b, c.
-#[derive(Drop)]
+#[derive(Clone, Copy)]
 pub struct Cell {
     pub kind: u8,
     pub label: u8,
@@ -71,7 +72,7 @@ pub fn write_cell(s: &mut [u8], i: usize, t: Cell)
 }
 
 // A row of the table of kinds. Sort: 2 a type, 3 a term, 0 unknown. Label, a, b and c: 0 unused, 1 plain, 2 a type, 3 a term.
-#[derive(Drop)]
+#[derive(Clone, Copy)]
 pub struct Entry {
     pub sort: u8,
     pub label: u8,

@@ -1,4 +1,6 @@
 // The engine for C and Rust: numbers and byte slices only. A slice is a pointer and then a length.
+#![tactic(auto)]
+
 ghost use Rattle.answers.specs.Cases.{check_answer, run_answer};
 ghost use Rattle.answers.specs.Definition.{definition};
 ghost use Rattle.joining.specs.Join.{joined};

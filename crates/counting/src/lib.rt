@@ -1,13 +1,15 @@
 // How many steps a settings sheet takes, counted in the book's own cells: document 02, (ix). The walk is lent the book, and a field's use and
 // cell; it writes nothing, copies nothing and keeps no array. It opens sharing on the way and visits no more cells than the opened term has, so it is for books
 // past row 10, whose opened root has at most 4,095.
+#![tactic(auto)]
+
 ghost use Rattle.std.specs.Prelude.{◌≡◌};
 ghost use Rattle.counting.specs.Counting.{own_steps_lem, Countable, Counts};
 
 use cells::{entry_of, read_cell};
 
 // The count of a sheet; or that a variable, function, fixpoint or choice makes a term none.
-#[derive(Drop)]
+#[derive(Clone, Copy)]
 pub enum Counted {
     Steps(usize),
     NoSheet,

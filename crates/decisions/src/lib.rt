@@ -1,6 +1,8 @@
 // Questions about the types and terms that cells hold: subtyping, disjointness, closed, closed value, consistent. Answers only:
 // nothing is written, and no function keeps an array. A type cell's field c says whether the type is top-like, so that each pair of
 // nodes is left at once where either side is.
+#![tactic(auto)]
+
 ghost use Rattle.calculus.specs.Decide.{is_below, is_disjoint, is_consistent};
 ghost use Rattle.calculus.specs.Infer.{is_mergeable};
 ghost use Rattle.decisions.specs.Questions.{TypesAt, TypesSay, TermAt, TermSays, TermsAt, TermsSay, HalvesAt, HalvesSay};
@@ -20,7 +22,7 @@ fn kind_at(s: &[u8], i: usize) -> u8
 }
 
 // A type is below itself, so the same cell on both sides is an answer. The right side is split first, then the left.
-#[cycle(half_below_part_below_single_below_subtype)]
+#[cycle(subtyping)]
 pub fn subtype(s: &[u8], a: usize, b: usize) -> bool
     requires { TypesAt s.now a b }
     ensures { TypesSay s.now a b is_below result }
@@ -40,7 +42,7 @@ pub fn subtype(s: &[u8], a: usize, b: usize) -> bool
 
 // Whether a part of the type at a is below the one at b, which is neither top-like nor an intersection. Of two halves the one that is no
 // intersection is asked first, and the walk goes on with the other.
-#[cycle(half_below_part_below_single_below_subtype)]
+#[cycle(subtyping)]
 fn part_below(s: &[u8], a: usize, b: usize) -> bool
     requires { UnderPlain s.now a b }
     ensures { TypesSay s.now a b is_below result }
@@ -64,7 +66,7 @@ fn part_below(s: &[u8], a: usize, b: usize) -> bool
 }
 
 // The same of a half. One of another kind that is no intersection has no part below.
-#[cycle(half_below_part_below_single_below_subtype)]
+#[cycle(subtyping)]
 fn half_below(s: &[u8], a: usize, b: usize) -> bool
     requires { UnderPlain s.now a b }
     ensures { TypesSay s.now a b is_below result }
@@ -77,7 +79,7 @@ fn half_below(s: &[u8], a: usize, b: usize) -> bool
 }
 
 // The same of a type that is no intersection.
-#[cycle(half_below_part_below_single_below_subtype)]
+#[cycle(subtyping)]
 fn single_below(s: &[u8], a: usize, b: usize) -> bool
     requires { TwoPlain s.now a b }
     ensures { TypesSay s.now a b is_below result }
@@ -101,7 +103,7 @@ fn single_below(s: &[u8], a: usize, b: usize) -> bool
 
 // The left side is split first, then the right. Of two halves the one that is no intersection is asked first, and the walk goes on with
 // the other.
-#[cycle(apart_each_apart_pair_disjoint)]
+#[cycle(disjointness)]
 pub fn disjoint(s: &[u8], a: usize, b: usize) -> bool
     requires { TypesAt s.now a b }
     ensures { TypesSay s.now a b is_disjoint result }
@@ -131,7 +133,7 @@ pub fn disjoint(s: &[u8], a: usize, b: usize) -> bool
 }
 
 // A type that is no intersection against each part of the one at b.
-#[cycle(apart_each_apart_pair_disjoint)]
+#[cycle(disjointness)]
 fn apart_each(s: &[u8], a: usize, b: usize) -> bool
     requires { SingleType s.now a b }
     ensures { TypesSay s.now a b is_disjoint result }
@@ -155,7 +157,7 @@ fn apart_each(s: &[u8], a: usize, b: usize) -> bool
 }
 
 // Two types that are no intersections.
-#[cycle(apart_each_apart_pair_disjoint)]
+#[cycle(disjointness)]
 fn apart_pair(s: &[u8], a: usize, b: usize) -> bool
     requires { SingleTypes s.now a b }
     ensures { TypesSay s.now a b is_disjoint result }
@@ -217,7 +219,7 @@ fn equal_numbers(s: &[u8], i: usize, j: usize) -> bool
 }
 
 // The left side is split first, then the right. Of two halves the one that is no merge is asked first, and the walk goes on with the other.
-#[cycle(consistent_consistent_each_consistent_half_consistent_one_consistent_pair_each_half_each_one)]
+#[cycle(consistency)]
 pub fn consistent(s: &[u8], i: usize, j: usize) -> bool
     requires { TermsAt s.now i j }
     ensures { TermsSay s.now i j is_consistent result }
@@ -240,7 +242,7 @@ pub fn consistent(s: &[u8], i: usize, j: usize) -> bool
     consistent_one(s, k, j)
 }
 
-#[cycle(consistent_consistent_each_consistent_half_consistent_one_consistent_pair_each_half_each_one)]
+#[cycle(consistency)]
 fn consistent_half(s: &[u8], i: usize, j: usize) -> bool
     requires { TermsAt s.now i j }
     ensures { TermsSay s.now i j is_consistent result }
@@ -252,7 +254,7 @@ fn consistent_half(s: &[u8], i: usize, j: usize) -> bool
 }
 
 // A term on the left that is no merge.
-#[cycle(consistent_consistent_each_consistent_half_consistent_one_consistent_pair_each_half_each_one)]
+#[cycle(consistency)]
 fn consistent_one(s: &[u8], i: usize, j: usize) -> bool
     requires { FirstSingle s.now i j }
     ensures { TermsSay s.now i j is_consistent result }
@@ -267,7 +269,7 @@ fn consistent_one(s: &[u8], i: usize, j: usize) -> bool
 }
 
 // A number, a function or a record against each part of the term at j.
-#[cycle(consistent_consistent_each_consistent_half_consistent_one_consistent_pair_each_half_each_one)]
+#[cycle(consistency)]
 fn consistent_each(s: &[u8], i: usize, j: usize) -> bool
     requires { PlainAt s.now i j }
     ensures { TermsSay s.now i j is_consistent result }
@@ -290,7 +292,7 @@ fn consistent_each(s: &[u8], i: usize, j: usize) -> bool
     each_one(s, i, k)
 }
 
-#[cycle(consistent_consistent_each_consistent_half_consistent_one_consistent_pair_each_half_each_one)]
+#[cycle(consistency)]
 fn each_half(s: &[u8], i: usize, j: usize) -> bool
     requires { PlainAt s.now i j }
     ensures { TermsSay s.now i j is_consistent result }
@@ -302,7 +304,7 @@ fn each_half(s: &[u8], i: usize, j: usize) -> bool
 }
 
 // The same against a term that is no merge.
-#[cycle(consistent_consistent_each_consistent_half_consistent_one_consistent_pair_each_half_each_one)]
+#[cycle(consistency)]
 fn each_one(s: &[u8], i: usize, j: usize) -> bool
     requires { PlainSingle s.now i j }
     ensures { TermsSay s.now i j is_consistent result }
@@ -320,7 +322,7 @@ fn each_one(s: &[u8], i: usize, j: usize) -> bool
 }
 
 // Two terms, each a number, a function or a record. Disjointness is asked only where two functions differ.
-#[cycle(consistent_consistent_each_consistent_half_consistent_one_consistent_pair_each_half_each_one)]
+#[cycle(consistency)]
 fn consistent_pair(s: &[u8], i: usize, j: usize) -> bool
     requires { PlainPair s.now i j }
     ensures { TermsSay s.now i j is_consistent result }
@@ -343,7 +345,7 @@ fn consistent_pair(s: &[u8], i: usize, j: usize) -> bool
 }
 
 // Whether the term at i is a closed value, in one walk.
-#[cycle(closed_value_single_value)]
+#[cycle(closed_values)]
 fn closed_value(s: &[u8], i: usize) -> bool
     requires { TermAt s.now i × (i < 131072) }
     ensures { TermSays s.now i is_closed_value result }
@@ -367,7 +369,7 @@ fn closed_value(s: &[u8], i: usize) -> bool
 }
 
 // The same of a term that is no merge.
-#[cycle(closed_value_single_value)]
+#[cycle(closed_values)]
 fn single_value(s: &[u8], i: usize) -> bool
     requires { OneAt s.now i × (i < 131072) }
     ensures { TermSays s.now i is_closed_value result }

@@ -1,5 +1,7 @@
 // The desk program: a book on standard input, checked and run for at most 10,000 steps; the answers and the term reached on standard output.
 // Input past 65,536 bytes is not read: a book of that length is refused as too long.
+#![tactic(auto)]
+
 ghost use Rattle.std.specs.Prelude.{◌≡◌, length};
 
 use answers::{CheckOutcome, Refusal, RunOutcome, Stop};

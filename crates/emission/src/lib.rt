@@ -1,5 +1,7 @@
 // Emitting: the tree of a cell, copied into another buffer as a tree of its own, children first and root last, as far as there is room
 // for 4,095 cells. By the table of kinds: one function for every kind. What stands as a run already is copied by one loop.
+#![tactic(auto)]
+
 ghost use Rattle.std.specs.Prelude.{◌≡◌};
 ghost use Rattle.calculus.specs.Syntax.{unit};
 ghost use Rattle.format.specs.Terms.{from_term};
@@ -10,7 +12,7 @@ ghost use Rattle.emission.specs.Emits.{Space, Emits, emitted_of, EndsWithin, Las
 use cells::{Cell, Entry, entry_of, label_by, read_cell, write_cell};
 
 // The next free cell, or no room.
-#[derive(Drop)]
+#[derive(Clone, Copy)]
 pub enum Emitted {
     Next(usize),
     Full,
@@ -111,7 +113,7 @@ pub fn emit_field(s: &[u8], d: &mut [u8], u: u8, x: usize, m: usize) -> Emitted
 }
 
 // The same; the answer is a number, which takes less stack at each level.
-#[cycle(emit_child_emit_tree)]
+#[cycle(emitting)]
 fn emit_child(s: &[u8], d: &mut [u8], u: u8, x: usize, m: usize) -> usize
     requires { FieldReady s.now d.old u x m }
     ensures { EmitsField s.now d.old d.new u x m (emitted_of result) }
@@ -122,7 +124,7 @@ fn emit_child(s: &[u8], d: &mut [u8], u: u8, x: usize, m: usize) -> usize
     emit_tree(s, d, x, m)
 }
 
-#[cycle(emit_child_emit_tree)]
+#[cycle(emitting)]
 fn emit_tree(s: &[u8], d: &mut [u8], i: usize, m: usize) -> usize
     requires { FieldReady s.now d.old 3 i m }
     ensures { EmitsField s.now d.old d.new 3 i m (emitted_of result) }

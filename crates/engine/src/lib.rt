@@ -1,5 +1,7 @@
 // The public calls `check` and `run`. For every book, every work buffer and every step limit the answer and each byte left in the work buffer are fixed. Their
 // stages that a call with a row of its own has too, rows 1 to 10 and typing, are `pub` for that.
+#![tactic(auto)]
+
 ghost use Rattle.format.specs.Book.{version_of};
 ghost use Rattle.answers.specs.Cases.{check_answer, run_answer};
 ghost use Rattle.answers.specs.Definition.{shown, reported};

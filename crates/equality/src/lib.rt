@@ -1,6 +1,7 @@
 // Whether two cells, unshared, are the same tree: one test for types and terms, by the table of kinds. It is lent the cells and two of their
 // numbers; it writes nothing, copies nothing and keeps no array. What a row does not name is not looked at, so the test is right on a book's own
 // bytes as on loaded cells, where field c of a type carries a mark.
+
 #![tactic(auto)]
 
 ghost use Rattle.std.specs.Prelude.{◌≤◌};
@@ -17,7 +18,7 @@ const TYPE: u8 = 2;
 // A cell is the same tree as itself. Two are where they are of one kind, and by its row label and fields are the same. At most as many pairs of cells
 // are visited as the smaller tree has cells: 4,095 for cells that a well-formed book's root reaches, about which alone the public calls ask. Of cells
 // that it does not reach no time is promised: two equal chains that double at every cell can take exponential time (specs/Trees).
-#[cycle(same_field_same_tree)]
+#[cycle(same_trees)]
 pub fn same_tree(s: &[u8], i: usize, j: usize) -> bool
     requires { Comparable s.now i j }
     ensures { SameTree s.now i j result }
@@ -38,7 +39,7 @@ pub fn same_tree(s: &[u8], i: usize, j: usize) -> bool
 }
 
 // The same of two fields of use u: plain ones by their numbers, references by their cells; unused ones hold nothing.
-#[cycle(same_field_same_tree)]
+#[cycle(same_trees)]
 fn same_field(s: &[u8], u: u8, x: usize, y: usize) -> bool
     requires { 2 ≤ u → Comparable s.now x y }
     ensures { SameField s.now x y (use_of u) result }

@@ -1,6 +1,8 @@
 // Joining a part to the project. For every project's bytes, told length, part and work buffer the answer, the book that it means, the byte count, each byte
 // left in the work buffer and each lent byte of the project are fixed. A join is a judgement on a buffer of its own, and then one copy; a preview is the
 // judgement alone.
+#![tactic(auto)]
+
 ghost use Rattle.joining.specs.Stages.{RefusesFor, RefusesZeroed, JointJudgeable, JudgesJoint, PartJudgeable, JudgesPart};
 ghost use Rattle.joining.specs.Stages.{ProjectJudgeable, JudgesProject, JointBuffer, Judges};
 ghost use Rattle.joining.specs.Joins.{Joins};
@@ -23,7 +25,7 @@ const LENT: usize = 32768;
 const LIMIT: usize = 4095;
 
 // Which book an answer means.
-#[derive(Drop)]
+#[derive(Clone, Copy)]
 pub enum Which {
     Project,
     Part,
@@ -31,7 +33,7 @@ pub enum Which {
 }
 
 // What a join, or a preview, answers of the book that it means.
-#[derive(Drop)]
+#[derive(Clone, Copy)]
 pub enum JoinAnswer {
     // the size of the joint's type
     Accepted(usize),
@@ -41,7 +43,7 @@ pub enum JoinAnswer {
     Full,
 }
 
-#[derive(Drop)]
+#[derive(Clone, Copy)]
 pub struct Joined {
     pub which: Which,
     pub answer: JoinAnswer,

@@ -1,5 +1,7 @@
 // The joint of two books, written: the cells of the project, the cells of the part with references raised, a merge of both roots, a trailer. Proved: the
 // bytes are the format's, for well-formed books that together, with the merge, have at most 4,095 cells.
+#![tactic(auto)]
+
 ghost use Rattle.std.specs.Prelude.{◌≡◌, ◌<◌};
 ghost use Rattle.format.specs.Joint.{raised_field, raised as raisedCell, higher as higherOf};
 ghost use Rattle.cells.specs.Coded.{as_cell, CellFits, use_of};

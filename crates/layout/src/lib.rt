@@ -1,4 +1,6 @@
 // Encoding: a held tree from cell 0 on, its trailer and the zeros behind it, in the version that it came from; a buffer of zeros.
+#![tactic(auto)]
+
 ghost use Rattle.std.specs.Prelude.{◌≡◌, length, replicate};
 ghost use Rattle.format.specs.Version.{version_byte_lem};
 ghost use Rattle.layout.specs.Encoding.{EncodeReady, EncodesTree, InPlaceReady, SomeTree, Closes, SomeTerm, ClosesTerm};

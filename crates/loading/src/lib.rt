@@ -1,5 +1,7 @@
 // Loads the cells of a book into a buffer: each cell as it stands, but that a number of version 1 is extended to 48 bits, and that field c of a type
 // cell, which no type names, says whether the type is top-like. One ascending loop: what a cell refers to stands below it.
+#![tactic(auto)]
+
 ghost use Rattle.std.specs.Prelude.{◌≡◌, ◌+◌};
 ghost use Rattle.format.specs.Widths.{wide_cells};
 ghost use Rattle.cells.specs.Coded.{as_cell};

@@ -1,5 +1,7 @@
 // Runs of cells moved within a buffer or from one to another: the references of each cell go with it. A run is a tree encoded, children
 // first and root last; every reference of its cells stays within it.
+#![tactic(auto)]
+
 ghost use Rattle.std.specs.Prelude.{◌≡◌};
 ghost use Rattle.cells.specs.Coded.{as_cell, CellFits, use_of};
 ghost use Rattle.moving.specs.Moves.{RebaseReady, rebase as rebaseBy, CellReady, Rebased, ShiftReady, Shifts, ShiftCellReady, ShiftsCell};

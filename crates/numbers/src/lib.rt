@@ -1,5 +1,6 @@
 // Sums of numbers in the one form that they have outside of books, 48 bits: z from -WIDE to WIDE - 1 is stored as z, a negative one as z + RANGE.
 // Proved: a sum is held to the ends of the range that the caller gives, and `half_of` gives that of a book's version.
+
 #![tactic(auto)]
 
 ghost use Rattle.std.specs.Prelude.{◌≡◌};

@@ -1,5 +1,7 @@
 // The part that a field read takes: of an intersection the type, of a merge of values the content. Answers only: nothing is written, no function
 // keeps an array, and a part is cells, never a copy. Cell numbers fall from call to call.
+#![tactic(auto)]
+
 ghost use Rattle.cells.specs.Coded.{as_cell};
 ghost use Rattle.projection.specs.Parts.{TypeAt, Joins, FindsFieldPart, FindsSingle, ValueAt, ShowsTopLike, ValueFrom, FindsContent};
 
@@ -7,7 +9,7 @@ use cells::{Cell, read_cell};
 
 // The part of a type that has the field: none, and none is top-like; none, but some part is top-like; one, its content the type at a cell; more
 // than one.
-#[derive(Drop)]
+#[derive(Clone, Copy)]
 pub enum FieldPart {
     Absent,
     TopLike,
@@ -78,7 +80,7 @@ pub fn type_part(s: &[u8], a: usize, label: u8) -> FieldPart
 }
 
 // The cells of a content, from the first on before the second.
-#[derive(Drop)]
+#[derive(Clone, Copy)]
 pub enum Content {
     Cells(usize, usize),
     Nothing,

@@ -1,4 +1,6 @@
 // Contraction: what a redex becomes, emitted into another buffer as far as there is room.
+#![tactic(auto)]
+
 ghost use Rattle.std.specs.Prelude.{◌≡◌, ◌<◌};
 ghost use Rattle.emission.specs.Emits.{emitted_of};
 ghost use Rattle.reduction.specs.Steps.{SourceLow, source_of, SourceReady, EmitsSource};
@@ -11,7 +13,7 @@ use typed_reduction::{emit_value_cast, read_number};
 
 // What is substituted for a variable. Reading is 1: the reading of the value at term under the type at under; 0: the term as it stands, the
 // run of cells from under to term.
-#[derive(Drop)]
+#[derive(Clone, Copy)]
 pub struct Source {
     pub reduct: usize,
     pub term: usize,
@@ -75,7 +77,7 @@ fn substitute_variable(s: &[u8], d: &mut [u8], i: usize, k: usize, q: usize, m: 
 }
 
 // A field of a body: a term has the source substituted, all else is copied.
-#[cycle(emit_substituted_substitute_field)]
+#[cycle(substituting)]
 fn substitute_field(s: &[u8], d: &mut [u8], u: u8, n: usize, k: usize, q: usize, m: usize) -> usize
     requires { FieldSubstituteReady s.now d.old u n k m (source_of q) }
     ensures { EmitsSubstitutedField s.now d.old d.new u n k m (source_of q) (emitted_of result) }
@@ -91,7 +93,7 @@ fn substitute_field(s: &[u8], d: &mut [u8], u: u8, n: usize, k: usize, q: usize,
 }
 
 // The body at i with the source substituted for the variable that skips k binders.
-#[cycle(emit_substituted_substitute_field)]
+#[cycle(substituting)]
 fn emit_substituted(s: &[u8], d: &mut [u8], i: usize, k: usize, q: usize, m: usize) -> usize
     requires { SubstituteReady s.now d.old i k m (source_of q) }
     ensures { EmitsSubstituted s.now d.old d.new i k m (source_of q) (emitted_of result) }

@@ -2,6 +2,8 @@
 // the order of encoding, and the gap between them moves through the term. A cell that waits for a part says where the cell around it
 // is, so there is no stack. A step contracts the redex alone, by way of a buffer that keeps nothing between steps. The state is small and
 // goes by value.
+#![tactic(auto)]
+
 ghost use Rattle.std.specs.Prelude.{◌≡◌, ◌<◌, max};
 ghost use Rattle.format.specs.Version.{half_of};
 ghost use Rattle.cells.specs.Coded.{as_cell};
@@ -25,7 +27,7 @@ use typed_reduction::read_number;
 
 // The first left cells are done, those from right on are to come. The focus has the cells from start on among those done, and among those
 // to come the cells up to root. The cell up waits for it; 0: none does.
-#[derive(Drop)]
+#[derive(Clone, Copy)]
 pub struct Place {
     pub left: usize,
     pub start: usize,
@@ -34,7 +36,7 @@ pub struct Place {
     pub up: usize,
 }
 
-#[derive(Drop)]
+#[derive(Clone, Copy)]
 pub enum Focus {
     // to come, whole
     Ahead(Place),
@@ -47,21 +49,21 @@ pub enum Focus {
 }
 
 // The focus, the steps taken and the greatest size of any term so far. The version of the book, by which sums are held, goes with it.
-#[derive(Drop)]
+#[derive(Clone, Copy)]
 pub struct State {
     pub focus: Focus,
     pub steps: u32,
     pub mark: usize,
 }
 
-#[derive(Drop)]
+#[derive(Clone, Copy)]
 pub enum Turn {
     Next(State),
     Ended(Stop, Focus),
 }
 
 // How a run ended: the cells of the term reached, and the greatest size of any term.
-#[derive(Drop)]
+#[derive(Clone, Copy)]
 pub struct End {
     pub stop: Stop,
     pub cells: usize,
@@ -69,14 +71,14 @@ pub struct End {
 }
 
 // What a redex became in place, or that it becomes nothing there.
-#[derive(Drop)]
+#[derive(Clone, Copy)]
 pub enum InPlace {
     Became(Focus),
     Elsewhere,
 }
 
 // What a redex became, or that there is no room for it.
-#[derive(Drop)]
+#[derive(Clone, Copy)]
 pub enum Contracted {
     To(Focus),
     Full,

@@ -1,5 +1,7 @@
 // Every sample of document 01 that is not marked M: each book is made here, checked or run, and its answer printed. Then books whose cells are compared
 // as document 02, (iii), says, in the book's own bytes.
+#![tactic(auto)]
+
 ghost use Rattle.std.specs.Prelude.{◌≤◌, length};
 ghost use Rattle.samples.specs.Chain.{Leaf, Chain};
 ghost use Rattle.samples.specs.Comparison.{ComparesCells};
@@ -115,7 +117,7 @@ fn run_ignored() {
 }
 
 // What comparing two cells of a book comes to: rows 2 to 10 refuse it, it has no such cell, or both are the same tree or not.
-#[derive(Drop)]
+#[derive(Clone, Copy)]
 pub enum Compared {
     Malformed,
     Missing,

@@ -1,5 +1,7 @@
 // The sheet call: it checks a settings sheet and says how many steps it takes, without running it. For every book and every work buffer the answer, the count
 // beside an acceptance and each byte left in the work buffer are fixed.
+#![tactic(auto)]
+
 ghost use Rattle.std.specs.Prelude.{◌≡◌, ◌<◌};
 ghost use Rattle.answers.specs.Exported.{tag_of, value_of};
 ghost use Rattle.engine.specs.Stages.{Formed};
@@ -14,7 +16,7 @@ use engine::{check_types, clear_refused, first_rows};
 use format::Version;
 
 // What the sheet call answers.
-#[derive(Drop)]
+#[derive(Clone, Copy)]
 pub enum SheetOutcome {
     // rows 1 to 15
     Refused(Refusal),

@@ -1,5 +1,7 @@
 // Reading a value under a type. First it is decided, on the cells alone, which part of the value is read; then the reading is emitted, or, under
 // Int, answered as the number that it is.
+#![tactic(auto)]
+
 ghost use Rattle.typed_reduction.specs.Casting.{ValueAndType, Castable, ProperAt, SingleAt, FindsPart, PartOf};
 ghost use Rattle.typed_reduction.specs.Casting.{CastReady, PartReady, EmitsCast, FunctionReady, EmitsFunction};
 ghost use Rattle.typed_reduction.specs.Casting.{ValueEnds, FindsNumber, NumberReady, ReadsNumber};
@@ -9,14 +11,14 @@ use decisions::subtype;
 use emission::{Emitted, emit_run, emit_run_to, finish, finish_top};
 
 // A part of a value.
-#[derive(Drop)]
+#[derive(Clone, Copy)]
 pub enum Part {
     At(usize),
     Nothing,
 }
 
 // Whether the value at v can be read under the type at a.
-#[cycle(find_part_is_castable_is_castable_part)]
+#[cycle(castability)]
 pub fn is_castable(s: &[u8], v: usize, a: usize) -> bool
     requires { ValueAndType s.now v a }
     ensures { Castable s.now v a result }
@@ -39,7 +41,7 @@ pub fn is_castable(s: &[u8], v: usize, a: usize) -> bool
 }
 
 // The first part of the value at v, no merge itself, that can be read under the type at a, which is neither an intersection nor top-like.
-#[cycle(find_part_is_castable_is_castable_part)]
+#[cycle(castability)]
 fn find_part(s: &[u8], v: usize, a: usize) -> Part
     requires { ProperAt s.now v a }
     ensures { FindsPart s.now v a result }
@@ -60,7 +62,7 @@ fn find_part(s: &[u8], v: usize, a: usize) -> Part
 }
 
 // The same of a part that is no merge.
-#[cycle(find_part_is_castable_is_castable_part)]
+#[cycle(castability)]
 fn is_castable_part(s: &[u8], v: usize, a: usize) -> bool
     requires { SingleAt s.now v a }
     ensures { Castable s.now v a result }
@@ -128,7 +130,7 @@ fn emit_function(s: &[u8], d: &mut [u8], p: usize, a: usize, m: usize) -> Emitte
 }
 
 // Emits the reading of the value at v under the type at a.
-#[cycle(emit_part_emit_value_cast)]
+#[cycle(casting)]
 pub fn emit_value_cast(s: &[u8], d: &mut [u8], v: usize, a: usize, m: usize) -> Emitted
     requires { CastReady s.now d.old v a m }
     ensures { EmitsCast s.now d.old d.new v a m result }
@@ -160,7 +162,7 @@ pub fn emit_value_cast(s: &[u8], d: &mut [u8], v: usize, a: usize, m: usize) -> 
 }
 
 // The same under a type that is neither an intersection nor top-like.
-#[cycle(emit_part_emit_value_cast)]
+#[cycle(casting)]
 fn emit_part(s: &[u8], d: &mut [u8], v: usize, a: usize, m: usize) -> Emitted
     requires { PartReady s.now d.old v a m }
     ensures { EmitsCast s.now d.old d.new v a m result }

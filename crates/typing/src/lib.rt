@@ -1,5 +1,7 @@
 // Finding a type and checking against one, over a buffer that holds a book's cells and, above them, the type and context cells that
 // typing adds. A found type is a cell number, never a copy. The term's cell number falls from call to call, checking before finding.
+#![tactic(auto)]
+
 ghost use Rattle.typing.specs.Finding.{FindReady, ReadyAt, Finds, ReadyFor, Checks, ContextAt, Looks};
 ghost use Rattle.typing.specs.Finding.{ReadyTwo, RoomFor, Adds, BinderBelow, Binds, TypesBelow, AddsInter, FindFieldReady, FindsField};
 
@@ -9,14 +11,14 @@ use decisions::{mergeable, subtype};
 use projection::{FieldPart, type_part};
 
 // A cell that holds the type, and the count of cells used; or why there is none.
-#[derive(Drop)]
+#[derive(Clone, Copy)]
 pub enum Found {
     Typed(usize, usize),
     Refused(Refusal),
 }
 
 // The cell of a binder's type.
-#[derive(Drop)]
+#[derive(Clone, Copy)]
 pub enum Bound {
     At(usize),
     Free,
@@ -81,7 +83,7 @@ fn find_unit(s: &mut [u8], n: usize, c: usize, i: usize) -> Found
     Found::Typed(n, add(s, n, 2, 0, 0, 0, 1))
 }
 
-#[cycle(check_find_find_anno_find_app_find_choice_find_fix_find_lam_find_left_find_merge_find_proj_find_rcd_find_sum_find_two)]
+#[cycle(finding)]
 fn find_anno(s: &mut [u8], n: usize, c: usize, i: usize) -> Found
     requires { ReadyAt s.old n c i 19 }
     ensures { Finds s.old s.new n c i result }
@@ -91,7 +93,7 @@ fn find_anno(s: &mut [u8], n: usize, c: usize, i: usize) -> Found
 }
 
 // 12 is tested before the right side is walked.
-#[cycle(check_find_find_anno_find_app_find_choice_find_fix_find_lam_find_left_find_merge_find_proj_find_rcd_find_sum_find_two)]
+#[cycle(finding)]
 fn find_app(s: &mut [u8], n: usize, c: usize, i: usize) -> Found
     requires { ReadyAt s.old n c i 20 }
     ensures { Finds s.old s.new n c i result }
@@ -123,7 +125,7 @@ fn bind(s: &mut [u8], n: usize, a: usize, c: usize) -> usize
     add(s, n, 0, 0, a, c, 0)
 }
 
-#[cycle(check_find_find_anno_find_app_find_choice_find_fix_find_lam_find_left_find_merge_find_proj_find_rcd_find_sum_find_two)]
+#[cycle(finding)]
 fn find_lam(s: &mut [u8], n: usize, c: usize, i: usize) -> Found
     requires { ReadyAt s.old n c i 21 }
     ensures { Finds s.old s.new n c i result }
@@ -148,7 +150,7 @@ fn add_inter(s: &mut [u8], n: usize, a: usize, b: usize) -> Found
     Found::Typed(n, add(s, n, 4, 0, a, b, x.c * y.c))
 }
 
-#[cycle(check_find_find_anno_find_app_find_choice_find_fix_find_lam_find_left_find_merge_find_proj_find_rcd_find_sum_find_two)]
+#[cycle(finding)]
 fn find_merge(s: &mut [u8], n: usize, c: usize, i: usize) -> Found
     requires { ReadyAt s.old n c i 22 }
     ensures { Finds s.old s.new n c i result }
@@ -169,7 +171,7 @@ fn find_merge(s: &mut [u8], n: usize, c: usize, i: usize) -> Found
     }
 }
 
-#[cycle(check_find_find_anno_find_app_find_choice_find_fix_find_lam_find_left_find_merge_find_proj_find_rcd_find_sum_find_two)]
+#[cycle(finding)]
 fn find_fix(s: &mut [u8], n: usize, c: usize, i: usize) -> Found
     requires { ReadyAt s.old n c i 23 }
     ensures { Finds s.old s.new n c i result }
@@ -179,7 +181,7 @@ fn find_fix(s: &mut [u8], n: usize, c: usize, i: usize) -> Found
     check(s, m, n, t.a, t.b)
 }
 
-#[cycle(check_find_find_anno_find_app_find_choice_find_fix_find_lam_find_left_find_merge_find_proj_find_rcd_find_sum_find_two)]
+#[cycle(finding)]
 fn find_rcd(s: &mut [u8], n: usize, c: usize, i: usize) -> Found
     requires { ReadyAt s.old n c i 24 }
     ensures { Finds s.old s.new n c i result }
@@ -207,7 +209,7 @@ fn find_field(s: &mut [u8], n: usize, a: usize, label: u8, i: usize) -> Found
     }
 }
 
-#[cycle(check_find_find_anno_find_app_find_choice_find_fix_find_lam_find_left_find_merge_find_proj_find_rcd_find_sum_find_two)]
+#[cycle(finding)]
 fn find_proj(s: &mut [u8], n: usize, c: usize, i: usize) -> Found
     requires { ReadyAt s.old n c i 25 }
     ensures { Finds s.old s.new n c i result }
@@ -233,7 +235,7 @@ fn find_proj(s: &mut [u8], n: usize, c: usize, i: usize) -> Found
 }
 
 // A sum: its type, Int, in a cell more; each part is checked against it before the next is walked.
-#[cycle(check_find_find_anno_find_app_find_choice_find_fix_find_lam_find_left_find_merge_find_proj_find_rcd_find_sum_find_two)]
+#[cycle(finding)]
 fn find_sum(s: &mut [u8], n: usize, c: usize, i: usize) -> Found
     requires { ReadyAt s.old n c i 26 }
     ensures { Finds s.old s.new n c i result }
@@ -248,7 +250,7 @@ fn find_sum(s: &mut [u8], n: usize, c: usize, i: usize) -> Found
 }
 
 // A choice: the same of three parts.
-#[cycle(check_find_find_anno_find_app_find_choice_find_fix_find_lam_find_left_find_merge_find_proj_find_rcd_find_sum_find_two)]
+#[cycle(finding)]
 fn find_choice(s: &mut [u8], n: usize, c: usize, i: usize) -> Found
     requires { ReadyAt s.old n c i 27 }
     ensures { Finds s.old s.new n c i result }
@@ -267,7 +269,7 @@ fn find_choice(s: &mut [u8], n: usize, c: usize, i: usize) -> Found
 }
 
 // An application or a merge.
-#[cycle(check_find_find_anno_find_app_find_choice_find_fix_find_lam_find_left_find_merge_find_proj_find_rcd_find_sum_find_two)]
+#[cycle(finding)]
 fn find_two(s: &mut [u8], n: usize, c: usize, i: usize) -> Found
     requires { ReadyTwo s.old n c i }
     ensures { Finds s.old s.new n c i result }
@@ -281,7 +283,7 @@ fn find_two(s: &mut [u8], n: usize, c: usize, i: usize) -> Found
 
 // The left part of an application or a merge. One that is of these kinds itself is asked directly, so that a chain takes no more stack than
 // its own calls.
-#[cycle(check_find_find_anno_find_app_find_choice_find_fix_find_lam_find_left_find_merge_find_proj_find_rcd_find_sum_find_two)]
+#[cycle(finding)]
 fn find_left(s: &mut [u8], n: usize, c: usize, i: usize) -> Found
     requires { FindReady s.old n c i }
     ensures { Finds s.old s.new n c i result }
@@ -296,7 +298,7 @@ fn find_left(s: &mut [u8], n: usize, c: usize, i: usize) -> Found
     find(s, n, c, i)
 }
 
-#[cycle(check_find_find_anno_find_app_find_choice_find_fix_find_lam_find_left_find_merge_find_proj_find_rcd_find_sum_find_two)]
+#[cycle(finding)]
 pub fn find(s: &mut [u8], n: usize, c: usize, i: usize) -> Found
     requires { FindReady s.old n c i }
     ensures { Finds s.old s.new n c i result }
@@ -319,7 +321,7 @@ pub fn find(s: &mut [u8], n: usize, c: usize, i: usize) -> Found
 }
 
 // "Checking: find a type; it must be below the wanted one."
-#[cycle(check_find_find_anno_find_app_find_choice_find_fix_find_lam_find_left_find_merge_find_proj_find_rcd_find_sum_find_two)]
+#[cycle(finding)]
 fn check(s: &mut [u8], n: usize, c: usize, i: usize, w: usize) -> Found
     requires { ReadyFor s.old n c i w }
     ensures { Checks s.old s.new n c i w result }

@@ -1,5 +1,6 @@
 // Numbers in the form that a book of version 1 has, 32 bits, and in the one form that they have outside of such books: 48 bits, as version 2 stores
 // them. Proved: a cell is widened as the format has it, and a term whose numbers fit 32 bits, encoded and then narrowed, is encoded as version 1 has it.
+
 #![tactic(auto)]
 
 ghost use Rattle.std.specs.Prelude.{◌≡◌, ◌+◌, ◌*◌, ◌≤◌, length};

@@ -19,15 +19,15 @@ use borrow.Fn.Kinds.{In}
 use borrow.Fn.PlainCycle.{Measures, is, falls, and}
 use Rattle.decisions.proofs.apart_each.Reads as apart-each
 use Rattle.decisions.proofs.apart_each.Kinds as apart-each-kinds
-use Rattle.decisions.proofs.+apart_each_apart_pair_disjoint.Lts-apart_each as apart-each-lts
+use Rattle.decisions.proofs.+disjointness.Lts-apart_each as apart-each-lts
 use Rattle.decisions.proofs.apart_pair.Reads as apart-pair
-use Rattle.decisions.proofs.+apart_each_apart_pair_disjoint.Lts-apart_pair as apart-pair-lts
+use Rattle.decisions.proofs.+disjointness.Lts-apart_pair as apart-pair-lts
 use Rattle.decisions.proofs.disjoint.Reads as disjoint
-use Rattle.decisions.proofs.+apart_each_apart_pair_disjoint.Lts-disjoint as disjoint-lts
+use Rattle.decisions.proofs.+disjointness.Lts-disjoint as disjoint-lts
 use Rattle.cells.proofs.read_cell.Reads as read-cell-reads
 use Rattle.decisions.proofs.kind_at.Reads as kind-at-reads
-use Rattle.decisions.proofs.+apart_each_apart_pair_disjoint.{statement}
-use Rattle.decisions.proofs.+apart_each_apart_pair_disjoint.Tie.{close}
+use Rattle.decisions.proofs.+disjointness.{statement}
+use Rattle.decisions.proofs.+disjointness.Tie.{close}
 
 abbrev μ : ℕ → Measures 1 apart-each-kinds.ps ℕ
 μ m κs a = 4 * (a.1.0 + a.1.1.0) + m
@@ -77,8 +77,8 @@ abbrev whole-halves : (t : ℕ) → disjoint-lts.After-read-cell2 (disjoint-call
 whole-halves t c =
     record { s = _; a = _; b = _; i = _; j = _; c = _; d = _; e = _; f = _; pre = c.before.before.before.before.before.before.before.before.requires.1; leads = c.before.before.before.loop.invariant; halves = λ A B h k. Apart.left_halves (read c.read-cell2.ensures refl h k) (kind_read c.read-cell2.ensures c.before.before.kind_at.ensures c.before.if2.true); measure = c.before.before.before.before.before.before.before.before.requires.0 }
 
-pub +apart-each-apart-pair-disjoint-spec : {M : Type 1} → statement M
-+apart-each-apart-pair-disjoint-spec =
+pub +disjointness-spec : {M : Type 1} → statement M
++disjointness-spec =
     close
     (μ 1)
     (μ 0)

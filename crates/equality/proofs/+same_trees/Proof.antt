@@ -13,12 +13,12 @@ use Rattle.cells.proofs.read_cell.Reads as read-cell-reads
 use Rattle.equality.proofs.Trees.{unshared, within, one_cell, other_kinds, unused_same, plain_same, cells_same, Alike, parts, other_labels, no_first, no_second, by_third}
 use Rattle.equality.proofs.same_field.Reads as same_field_lem
 use Rattle.equality.proofs.same_field.Kinds as same-field-kinds
-use Rattle.equality.proofs.+same_field_same_tree.Lts-same_field as field-lts
+use Rattle.equality.proofs.+same_trees.Lts-same_field as field-lts
 use Rattle.equality.proofs.same_tree.Reads as same-tree
 use Rattle.equality.proofs.same_tree.Kinds as same-tree-kinds
-use Rattle.equality.proofs.+same_field_same_tree.Lts-same_tree as tree-lts
-use Rattle.equality.proofs.+same_field_same_tree.{statement}
-use Rattle.equality.proofs.+same_field_same_tree.Tie.{close}
+use Rattle.equality.proofs.+same_trees.Lts-same_tree as tree-lts
+use Rattle.equality.proofs.+same_trees.{statement}
+use Rattle.equality.proofs.+same_trees.Tie.{close}
 
 abbrev μ-field : Measures 1 same-field-kinds.ps ℕ
 μ-field κs a = field_measure a.1.0 a.1.1.0
@@ -52,8 +52,8 @@ alike t c = let cells = c.before.before.before.before in record {
   row = c.entry_of.ensures;
 }
 
-pub +same-field-same-tree-spec : {M : Type 1} → statement M
-+same-field-same-tree-spec = close μ-field μ-tree
+pub +same_trees-spec : {M : Type 1} → statement M
++same_trees-spec = close μ-field μ-tree
     (λ t. field-lts.spec (field-calls t) (field_at t) same_field_lem.Post
     (λ c. plain_same c.before.before.args.u (omega (arith, c.if1.true)))
     (λ c. unused_same c.before.before.before.args.u (omega (arith, c.if2.true, c.before.if1.false)))

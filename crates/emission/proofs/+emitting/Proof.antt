@@ -13,17 +13,17 @@ use borrow.Fn.Kinds.{In}
 use borrow.Fn.PlainCycle.{Measures, is, falls, and}
 use Rattle.emission.proofs.emit_child.Reads as emit-child
 use Rattle.emission.proofs.emit_child.Kinds as emit-child-kinds
-use Rattle.emission.proofs.+emit_child_emit_tree.Lts-emit_child as emit-child-lts
+use Rattle.emission.proofs.+emitting.Lts-emit_child as emit-child-lts
 use Rattle.emission.proofs.emit_tree.Reads as emit-tree
 use Rattle.emission.proofs.emit_tree.Kinds as emit-tree-kinds
-use Rattle.emission.proofs.+emit_child_emit_tree.Lts-emit_tree as emit-tree-lts
+use Rattle.emission.proofs.+emitting.Lts-emit_tree as emit-tree-lts
 use Rattle.cells.proofs.Rows.{field_measure, cell_less}
 use Rattle.cells.proofs.entry_of.Reads as entry-of-reads
 use Rattle.cells.proofs.read_cell.Reads as read-cell-reads
 use Rattle.emission.proofs.end_of.Reads as end-of-reads
 use Rattle.emission.proofs.finish_row.Reads as finish-row-reads
-use Rattle.emission.proofs.+emit_child_emit_tree.{statement}
-use Rattle.emission.proofs.+emit_child_emit_tree.Tie.{close}
+use Rattle.emission.proofs.+emitting.{statement}
+use Rattle.emission.proofs.+emitting.Tie.{close}
 
 abbrev μ-emit-child : Measures 2 emit-child-kinds.ps ℕ
 μ-emit-child κs a = field_measure a.1.1.0 a.1.1.1.0
@@ -192,8 +192,8 @@ emit-tree-returns-4 t c =
     let at = c.before.before.before in
     rw c.end_of_lem.ensures (trees (emitted (after-third t at.before.before) at.finish-row.ensures))
 
-pub +emit-child-emit-tree-spec : {M : Type 1} → statement M
-+emit-child-emit-tree-spec = close μ-emit-child μ-emit-tree (λ t. emit-child-lts.spec (emit-tree-below t, emit-tree.Post)
+pub +emitting-spec : {M : Type 1} → statement M
++emitting-spec = close μ-emit-child μ-emit-tree (λ t. emit-child-lts.spec (emit-tree-below t, emit-tree.Post)
     (emit-child-at t)
     emit-child.Post
     (emit-child-returns t)

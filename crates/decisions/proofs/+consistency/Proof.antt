@@ -22,28 +22,28 @@ use borrow.Fn.Kinds.{In}
 use borrow.Fn.PlainCycle.{Measures, is, falls, and}
 use Rattle.decisions.proofs.consistent.Reads as consistent
 use Rattle.decisions.proofs.consistent.Kinds as consistent-kinds
-use Rattle.decisions.proofs.+consistent_consistent_each_consistent_half_consistent_one_consistent_pair_each_half_each_one.Lts-consistent as consistent-lts
+use Rattle.decisions.proofs.+consistency.Lts-consistent as consistent-lts
 use Rattle.decisions.proofs.consistent_each.Reads as consistent-each
-use Rattle.decisions.proofs.+consistent_consistent_each_consistent_half_consistent_one_consistent_pair_each_half_each_one.Lts-consistent_each as consistent-each-lts
+use Rattle.decisions.proofs.+consistency.Lts-consistent_each as consistent-each-lts
 use Rattle.decisions.proofs.consistent_half.Reads as consistent-half
-use Rattle.decisions.proofs.+consistent_consistent_each_consistent_half_consistent_one_consistent_pair_each_half_each_one.Lts-consistent_half as consistent-half-lts
+use Rattle.decisions.proofs.+consistency.Lts-consistent_half as consistent-half-lts
 use Rattle.decisions.proofs.consistent_one.Reads as consistent-one
-use Rattle.decisions.proofs.+consistent_consistent_each_consistent_half_consistent_one_consistent_pair_each_half_each_one.Lts-consistent_one as consistent-one-lts
+use Rattle.decisions.proofs.+consistency.Lts-consistent_one as consistent-one-lts
 use Rattle.decisions.proofs.consistent_pair.Reads as consistent-pair
-use Rattle.decisions.proofs.+consistent_consistent_each_consistent_half_consistent_one_consistent_pair_each_half_each_one.Lts-consistent_pair as consistent-pair-lts
+use Rattle.decisions.proofs.+consistency.Lts-consistent_pair as consistent-pair-lts
 use Rattle.decisions.proofs.each_half.Reads as each_half_lem
-use Rattle.decisions.proofs.+consistent_consistent_each_consistent_half_consistent_one_consistent_pair_each_half_each_one.Lts-each_half as each-half-lts
+use Rattle.decisions.proofs.+consistency.Lts-each_half as each-half-lts
 use Rattle.decisions.proofs.each_one.Reads as each-one
-use Rattle.decisions.proofs.+consistent_consistent_each_consistent_half_consistent_one_consistent_pair_each_half_each_one.Lts-each_one as each-one-lts
+use Rattle.decisions.proofs.+consistency.Lts-each_one as each-one-lts
 use Rattle.cells.proofs.read_cell.Reads as read-cell-reads
 use Rattle.decisions.proofs.disjoint.Reads as disjoint-reads
 use Rattle.decisions.proofs.equal_numbers.Reads as equal-numbers-reads
 use Rattle.decisions.proofs.kind_at.Reads as kind-at-reads
 use Rattle.equality.proofs.same_tree.Reads as same-tree-reads
-use Rattle.decisions.proofs.+consistent_consistent_each_consistent_half_consistent_one_consistent_pair_each_half_each_one.{
+use Rattle.decisions.proofs.+consistency.{
   statement,
 }
-use Rattle.decisions.proofs.+consistent_consistent_each_consistent_half_consistent_one_consistent_pair_each_half_each_one.Tie.{
+use Rattle.decisions.proofs.+consistency.Tie.{
   close,
 }
 
@@ -107,8 +107,8 @@ abbrev two-alike : (t : ℕ) → consistent-pair-lts.Else1 (consistent-pair-call
 two-alike t c =
     record { at = two-pair t c.before.before.before; alike = c.if1.false }
 
-pub +consistent-consistent-each-consistent-half-consistent-one-consistent-pair-each-half-each-one-spec : {M : Type 1} → statement M
-+consistent-consistent-each-consistent-half-consistent-one-consistent-pair-each-half-each-one-spec =
+pub +consistency-spec : {M : Type 1} → statement M
++consistency-spec =
     close
     (μ 5)
     (μ 2)

@@ -18,17 +18,17 @@ use borrow.Fn.Kinds.{In}
 use borrow.Fn.PlainCycle.{Measures, is, falls, and}
 use Rattle.typed_reduction.proofs.emit_part.Reads as emit-part
 use Rattle.typed_reduction.proofs.emit_part.Kinds as emit-part-kinds
-use Rattle.typed_reduction.proofs.+emit_part_emit_value_cast.Lts-emit_part as emit-part-lts
+use Rattle.typed_reduction.proofs.+casting.Lts-emit_part as emit-part-lts
 use Rattle.typed_reduction.proofs.emit_value_cast.Reads as emit-value-cast
 use Rattle.typed_reduction.proofs.emit_value_cast.Kinds as emit-value-cast-kinds
-use Rattle.typed_reduction.proofs.+emit_part_emit_value_cast.Lts-emit_value_cast as emit-value-cast-lts
+use Rattle.typed_reduction.proofs.+casting.Lts-emit_value_cast as emit-value-cast-lts
 use Rattle.cells.proofs.read_cell.Reads as read-cell-reads
 use Rattle.emission.proofs.finish.Reads as finish-reads
 use Rattle.emission.proofs.finish_top.Reads as finish-top-reads
 use Rattle.typed_reduction.proofs.emit_function.Reads as emit-function-reads
 use Rattle.typed_reduction.proofs.part_of.Reads as part-of-reads
-use Rattle.typed_reduction.proofs.+emit_part_emit_value_cast.{statement}
-use Rattle.typed_reduction.proofs.+emit_part_emit_value_cast.Tie.{close}
+use Rattle.typed_reduction.proofs.+casting.{statement}
+use Rattle.typed_reduction.proofs.+casting.Tie.{close}
 
 abbrev μ-emit-part : Measures 2 emit-part-kinds.ps ℕ
 μ-emit-part κs a = 2 * size_at a.0.now a.1.1.1.0
@@ -312,8 +312,8 @@ emit-value-cast-same-length-5 t c = search rules
 emit-value-cast-returns-5 : (t : ℕ) → emit-value-cast-lts.Need-returns-5 (emit-value-cast-calls t) (emit-value-cast-at t) emit-value-cast.Post
 emit-value-cast-returns-5 t c = let at = c.before.before in all_casts (emitted (after-second t at.before.before.before) at.finish.ensures)
 
-pub +emit-part-emit-value-cast-spec : {M : Type 1} → statement M
-+emit-part-emit-value-cast-spec = close μ-emit-part μ-emit-value-cast (λ t. emit-part-lts.spec (emit-part-calls t)
+pub +casting-spec : {M : Type 1} → statement M
++casting-spec = close μ-emit-part μ-emit-value-cast (λ t. emit-part-lts.spec (emit-part-calls t)
     (emit-part-at t)
     emit-part.Post
     (emit-part-part-of-requires t)

@@ -15,14 +15,14 @@ use borrow.Fn.Kinds.{In}
 use borrow.Fn.PlainCycle.{Measures, is, falls, and}
 use Rattle.decisions.proofs.closed_value.Reads as closed-value
 use Rattle.decisions.proofs.closed_value.Kinds as closed-value-kinds
-use Rattle.decisions.proofs.+closed_value_single_value.Lts-closed_value as closed-value-lts
+use Rattle.decisions.proofs.+closed_values.Lts-closed_value as closed-value-lts
 use Rattle.decisions.proofs.single_value.Reads as single-value
-use Rattle.decisions.proofs.+closed_value_single_value.Lts-single_value as single-value-lts
+use Rattle.decisions.proofs.+closed_values.Lts-single_value as single-value-lts
 use Rattle.cells.proofs.read_cell.Reads as read-cell-reads
 use Rattle.decisions.proofs.closed.Reads as closed-reads
 use Rattle.decisions.proofs.kind_at.Reads as kind-at-reads
-use Rattle.decisions.proofs.+closed_value_single_value.{statement}
-use Rattle.decisions.proofs.+closed_value_single_value.Tie.{close}
+use Rattle.decisions.proofs.+closed_values.{statement}
+use Rattle.decisions.proofs.+closed_values.Tie.{close}
 
 abbrev μ : ℕ → Measures 1 closed-value-kinds.ps ℕ
 μ m κs a = 2 * a.1.0 + m
@@ -51,8 +51,8 @@ abbrev value-halves : (t : ℕ) → closed-value-lts.After-read-cell (closed-val
 value-halves t c =
     record { s = _; i = _; k = _; a = _; b = _; leads = c.before.before.before.loop.invariant; halves = λ e h. merge_value c.read_cell.ensures h (kind_read c.read_cell.ensures c.before.before.kind_at.ensures c.before.if1.true); small = c.before.before.before.before.before.requires.1.1; measure = c.before.before.before.before.before.requires.0 }
 
-pub +closed-value-single-value-spec : {M : Type 1} → statement M
-+closed-value-single-value-spec =
+pub +closed_values-spec : {M : Type 1} → statement M
++closed_values-spec =
     close
     (μ 1)
     (μ 0)

@@ -21,31 +21,31 @@ use borrow.Fn.PlainCycle.{Measures, is, falls, and}
 use Rattle.typing.proofs.check.Kinds as check-kinds
 use Rattle.typing.proofs.find.Kinds as find-kinds
 use Rattle.typing.proofs.check.Reads as check
-use Rattle.typing.proofs.+check_find_find_anno_find_app_find_choice_find_fix_find_lam_find_left_find_merge_find_proj_find_rcd_find_sum_find_two.Lts-check as check-lts
+use Rattle.typing.proofs.+finding.Lts-check as check-lts
 use Rattle.typing.proofs.find.Reads as find
-use Rattle.typing.proofs.+check_find_find_anno_find_app_find_choice_find_fix_find_lam_find_left_find_merge_find_proj_find_rcd_find_sum_find_two.Lts-find as find-lts
+use Rattle.typing.proofs.+finding.Lts-find as find-lts
 use Rattle.typing.proofs.find_anno.Reads as find-anno
-use Rattle.typing.proofs.+check_find_find_anno_find_app_find_choice_find_fix_find_lam_find_left_find_merge_find_proj_find_rcd_find_sum_find_two.Lts-find_anno as find-anno-lts
+use Rattle.typing.proofs.+finding.Lts-find_anno as find-anno-lts
 use Rattle.typing.proofs.find_app.Reads as find-app
-use Rattle.typing.proofs.+check_find_find_anno_find_app_find_choice_find_fix_find_lam_find_left_find_merge_find_proj_find_rcd_find_sum_find_two.Lts-find_app as find-app-lts
+use Rattle.typing.proofs.+finding.Lts-find_app as find-app-lts
 use Rattle.typing.proofs.find_choice.Reads as find-choice
-use Rattle.typing.proofs.+check_find_find_anno_find_app_find_choice_find_fix_find_lam_find_left_find_merge_find_proj_find_rcd_find_sum_find_two.Lts-find_choice as find-choice-lts
+use Rattle.typing.proofs.+finding.Lts-find_choice as find-choice-lts
 use Rattle.typing.proofs.find_fix.Reads as find-fix
-use Rattle.typing.proofs.+check_find_find_anno_find_app_find_choice_find_fix_find_lam_find_left_find_merge_find_proj_find_rcd_find_sum_find_two.Lts-find_fix as find-fix-lts
+use Rattle.typing.proofs.+finding.Lts-find_fix as find-fix-lts
 use Rattle.typing.proofs.find_lam.Reads as find-lam
-use Rattle.typing.proofs.+check_find_find_anno_find_app_find_choice_find_fix_find_lam_find_left_find_merge_find_proj_find_rcd_find_sum_find_two.Lts-find_lam as find-lam-lts
+use Rattle.typing.proofs.+finding.Lts-find_lam as find-lam-lts
 use Rattle.typing.proofs.find_left.Reads as find-left
-use Rattle.typing.proofs.+check_find_find_anno_find_app_find_choice_find_fix_find_lam_find_left_find_merge_find_proj_find_rcd_find_sum_find_two.Lts-find_left as find-left-lts
+use Rattle.typing.proofs.+finding.Lts-find_left as find-left-lts
 use Rattle.typing.proofs.find_merge.Reads as find-merge
-use Rattle.typing.proofs.+check_find_find_anno_find_app_find_choice_find_fix_find_lam_find_left_find_merge_find_proj_find_rcd_find_sum_find_two.Lts-find_merge as find-merge-lts
+use Rattle.typing.proofs.+finding.Lts-find_merge as find-merge-lts
 use Rattle.typing.proofs.find_proj.Reads as find-proj
-use Rattle.typing.proofs.+check_find_find_anno_find_app_find_choice_find_fix_find_lam_find_left_find_merge_find_proj_find_rcd_find_sum_find_two.Lts-find_proj as find-proj-lts
+use Rattle.typing.proofs.+finding.Lts-find_proj as find-proj-lts
 use Rattle.typing.proofs.find_rcd.Reads as find-rcd
-use Rattle.typing.proofs.+check_find_find_anno_find_app_find_choice_find_fix_find_lam_find_left_find_merge_find_proj_find_rcd_find_sum_find_two.Lts-find_rcd as find-rcd-lts
+use Rattle.typing.proofs.+finding.Lts-find_rcd as find-rcd-lts
 use Rattle.typing.proofs.find_sum.Reads as find-sum
-use Rattle.typing.proofs.+check_find_find_anno_find_app_find_choice_find_fix_find_lam_find_left_find_merge_find_proj_find_rcd_find_sum_find_two.Lts-find_sum as find-sum-lts
+use Rattle.typing.proofs.+finding.Lts-find_sum as find-sum-lts
 use Rattle.typing.proofs.find_two.Reads as find-two
-use Rattle.typing.proofs.+check_find_find_anno_find_app_find_choice_find_fix_find_lam_find_left_find_merge_find_proj_find_rcd_find_sum_find_two.Lts-find_two as find-two-lts
+use Rattle.typing.proofs.+finding.Lts-find_two as find-two-lts
 use Rattle.cells.proofs.read_cell.Reads as read-cell-reads
 use Rattle.decisions.proofs.mergeable.Reads as mergeable-reads
 use Rattle.decisions.proofs.subtype.Reads as subtype-reads
@@ -56,10 +56,10 @@ use Rattle.typing.proofs.find_field.Reads as find-field-reads
 use Rattle.typing.proofs.find_lit.Reads as find-lit-reads
 use Rattle.typing.proofs.find_unit.Reads as find-unit-reads
 use Rattle.typing.proofs.find_var.Reads as find-var-reads
-use Rattle.typing.proofs.+check_find_find_anno_find_app_find_choice_find_fix_find_lam_find_left_find_merge_find_proj_find_rcd_find_sum_find_two.{
+use Rattle.typing.proofs.+finding.{
   statement,
 }
-use Rattle.typing.proofs.+check_find_find_anno_find_app_find_choice_find_fix_find_lam_find_left_find_merge_find_proj_find_rcd_find_sum_find_two.Tie.{
+use Rattle.typing.proofs.+finding.Tie.{
   close,
 }
 
@@ -233,9 +233,9 @@ check-typed t c =
     let asked = c.before.before.before.before in
     record { s = _; u = _; n = _; c = _; i = _; w = _; x = _; k = _; wanted = asked.before.before.before.requires.1; found = record { answer = _; finds = asked.find.ensures; is = c.found.given.1; kept = asked.find.auto.0 } }
 
-pub +check-find-find-anno-find-app-find-choice-find-fix-find-lam-find-left-find-merge-find-proj-find-rcd-find-sum-find-two-spec :
+pub +finding-spec :
     {M : Type 1} → statement M
-+check-find-find-anno-find-app-find-choice-find-fix-find-lam-find-left-find-merge-find-proj-find-rcd-find-sum-find-two-spec =
++finding-spec =
     close
     μ-check
     (μ 2)

@@ -15,17 +15,17 @@ use borrow.Fn.Kinds.{In}
 use borrow.Fn.PlainCycle.{Measures, is, falls, and}
 use Rattle.typed_reduction.proofs.find_part.Reads as find-part
 use Rattle.typed_reduction.proofs.find_part.Kinds as find-part-kinds
-use Rattle.typed_reduction.proofs.+find_part_is_castable_is_castable_part.Lts-find_part as find-part-lts
+use Rattle.typed_reduction.proofs.+castability.Lts-find_part as find-part-lts
 use Rattle.typed_reduction.proofs.is_castable.Reads as is-castable
 use Rattle.typed_reduction.proofs.is_castable.Kinds as is-castable-kinds
-use Rattle.typed_reduction.proofs.+find_part_is_castable_is_castable_part.Lts-is_castable as is-castable-lts
+use Rattle.typed_reduction.proofs.+castability.Lts-is_castable as is-castable-lts
 use Rattle.typed_reduction.proofs.is_castable_part.Reads as is-castable-part
 use Rattle.typed_reduction.proofs.is_castable_part.Kinds as is-castable-part-kinds
-use Rattle.typed_reduction.proofs.+find_part_is_castable_is_castable_part.Lts-is_castable_part as is-castable-part-lts
+use Rattle.typed_reduction.proofs.+castability.Lts-is_castable_part as is-castable-part-lts
 use Rattle.cells.proofs.read_cell.Reads as read-cell-reads
 use Rattle.decisions.proofs.subtype.Reads as subtype-reads
-use Rattle.typed_reduction.proofs.+find_part_is_castable_is_castable_part.{statement}
-use Rattle.typed_reduction.proofs.+find_part_is_castable_is_castable_part.Tie.{close}
+use Rattle.typed_reduction.proofs.+castability.{statement}
+use Rattle.typed_reduction.proofs.+castability.Tie.{close}
 
 abbrev μ-find-part : Measures 1 find-part-kinds.ps ℕ
 μ-find-part κs a = 3 * (size_at a.0.now a.1.0 + size_at a.0.now a.1.1.0) + 1
@@ -282,8 +282,8 @@ is-castable-part-returns-7 t c =
     let at-if1 = at_field t at-if2 in
     casts_no_record (cells_of t (at_other t at-if1)) at-if1.if1.left at-if2.if2.false c.if5.false
 
-pub +find-part-is-castable-is-castable-part-spec : {M : Type 1} → statement M
-+find-part-is-castable-is-castable-part-spec =
+pub +castability-spec : {M : Type 1} → statement M
++castability-spec =
     close μ-find-part μ-is-castable μ-is-castable-part (λ t. find-part-lts.spec (find-part-calls t)
     (find-part-at t)
     find-part.Post

@@ -20,17 +20,17 @@ use borrow.Fn.Kinds.{In}
 use borrow.Fn.PlainCycle.{Measures, is, falls, and}
 use Rattle.decisions.proofs.half_below.Reads as half-below
 use Rattle.decisions.proofs.half_below.Kinds as half-below-kinds
-use Rattle.decisions.proofs.+half_below_part_below_single_below_subtype.Lts-half_below as half-below-lts
+use Rattle.decisions.proofs.+subtyping.Lts-half_below as half-below-lts
 use Rattle.decisions.proofs.part_below.Reads as part-below
-use Rattle.decisions.proofs.+half_below_part_below_single_below_subtype.Lts-part_below as part-below-lts
+use Rattle.decisions.proofs.+subtyping.Lts-part_below as part-below-lts
 use Rattle.decisions.proofs.single_below.Reads as single-below
-use Rattle.decisions.proofs.+half_below_part_below_single_below_subtype.Lts-single_below as single-below-lts
+use Rattle.decisions.proofs.+subtyping.Lts-single_below as single-below-lts
 use Rattle.decisions.proofs.subtype.Reads as subtype
-use Rattle.decisions.proofs.+half_below_part_below_single_below_subtype.Lts-subtype as subtype-lts
+use Rattle.decisions.proofs.+subtyping.Lts-subtype as subtype-lts
 use Rattle.cells.proofs.read_cell.Reads as read-cell-reads
 use Rattle.decisions.proofs.kind_at.Reads as kind-at-reads
-use Rattle.decisions.proofs.+half_below_part_below_single_below_subtype.{statement}
-use Rattle.decisions.proofs.+half_below_part_below_single_below_subtype.Tie.{close}
+use Rattle.decisions.proofs.+subtyping.{statement}
+use Rattle.decisions.proofs.+subtyping.Tie.{close}
 
 abbrev μ : ℕ → Measures 1 half-below-kinds.ps ℕ
 μ m κs a = 4 * (a.1.0 + a.1.1.0) + m
@@ -77,8 +77,8 @@ abbrev whole_pair : (t : ℕ) → subtype-lts.After-read-cell (subtype-calls t) 
 whole_pair t c =
     record { s = _; a = _; b = _; x = _; y = _; pre = c.before.before.before.requires.1; first = refl; second = c.read_cell.ensures; measure = c.before.before.before.requires.0 }
 
-pub +half-below-part-below-single-below-subtype-spec : {M : Type 1} → statement M
-+half-below-part-below-single-below-subtype-spec =
+pub +subtyping-spec : {M : Type 1} → statement M
++subtyping-spec =
     close
     (μ 2)
     (μ 1)

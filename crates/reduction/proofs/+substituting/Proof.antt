@@ -16,10 +16,10 @@ use borrow.Fn.Kinds.{In}
 use borrow.Fn.PlainCycle.{Measures, is, falls, and}
 use Rattle.reduction.proofs.emit_substituted.Reads as emit-substituted
 use Rattle.reduction.proofs.emit_substituted.Kinds as emit-substituted-kinds
-use Rattle.reduction.proofs.+emit_substituted_substitute_field.Lts-emit_substituted as emit-substituted-lts
+use Rattle.reduction.proofs.+substituting.Lts-emit_substituted as emit-substituted-lts
 use Rattle.reduction.proofs.substitute_field.Reads as substitute_field_lem
 use Rattle.reduction.proofs.substitute_field.Kinds as substitute-field-kinds
-use Rattle.reduction.proofs.+emit_substituted_substitute_field.Lts-substitute_field as substitute-field-lts
+use Rattle.reduction.proofs.+substituting.Lts-substitute_field as substitute-field-lts
 use Rattle.cells.proofs.entry_of.Reads as entry-of-reads
 use Rattle.cells.proofs.read_cell.Reads as read-cell-reads
 use Rattle.emission.proofs.emit_run_to.Reads as emit-run-to-reads
@@ -27,8 +27,8 @@ use Rattle.emission.proofs.end_of.Reads as end-of-reads
 use Rattle.emission.proofs.finish_row.Reads as finish-row-reads
 use Rattle.cells.proofs.binders.Reads as binders-reads
 use Rattle.reduction.proofs.substitute_variable.Reads as substitute-variable-reads
-use Rattle.reduction.proofs.+emit_substituted_substitute_field.{statement}
-use Rattle.reduction.proofs.+emit_substituted_substitute_field.Tie.{close}
+use Rattle.reduction.proofs.+substituting.{statement}
+use Rattle.reduction.proofs.+substituting.Tie.{close}
 
 abbrev μ-emit-substituted : Measures 2 emit-substituted-kinds.ps ℕ
 μ-emit-substituted κs a = 2 * a.1.1.0 + 1
@@ -233,8 +233,8 @@ substitute-field-returns-3 t c =
     let at-if1 = at-if2.before in
     body_emits (omega (arith, at-if1.if1.false, at-if2.if2.false)) at-emit-substituted.emit-substituted.ensures
 
-pub +emit-substituted-substitute-field-spec : {M : Type 1} → statement M
-+emit-substituted-substitute-field-spec = close μ-emit-substituted μ-substitute-field (λ t. emit-substituted-lts.spec (emit-substituted-calls t)
+pub +substituting-spec : {M : Type 1} → statement M
++substituting-spec = close μ-emit-substituted μ-substitute-field (λ t. emit-substituted-lts.spec (emit-substituted-calls t)
     (emit-substituted-at t)
     emit-substituted.Post
     (emit-substituted-read-cell-requires t)
