@@ -162,13 +162,13 @@ encode_narrowed : {s : List ℕ} {m : ℕ} {t : Tree} → Plain t → Part s m (
 unfolding narrowed_cells narrowed cells refer encode
 encode_narrowed leaf p = rw (add-zero, append-nil)
 encode_narrowed number p = rw add-one (rw (cell_back _ p) refl)
-encode_narrowed {s} {m} (other {a = a} {b = b} {c = c} q na nb nc) p =
+encode_narrowed {s = s} {m = m} (other {a = a} {b = b} {c = c} q na nb nc) p =
     let pb = part_right (cells a) (encode m a) _ (length_encode m a) p in
     let pc = part_right (cells b) (encode (m + cells a) b) _ (length_encode (m + cells a) b) pb in
     let pd = part_right (cells c) (encode (m + cells a + cells b) c) _ (length_encode (m + cells a + cells b) c) pc in
-    let fa = encode_narrowed na (part_left (encode m a) _ p) in
-    let fb = encode_narrowed nb (part_left (encode (m + cells a) b) _ pb) in
-    let fc = encode_narrowed nc (part_left (encode (m + cells a + cells b) c) _ pc) in
+    let fa = encode_narrowed {m = m} na (part_left (encode m a) _ p) in
+    let fb = encode_narrowed {m = m + cells a} nb (part_left (encode (m + cells a) b) _ pb) in
+    let fc = encode_narrowed {m = m + cells a + cells b} nc (part_left (encode (m + cells a + cells b) c) _ pc) in
     let end : m + (1 + (cells a + cells b + cells c)) ≡ suc (m + cells a + cells b + cells c) = omega arith in
     rw (end, cell_back _ pd, fc, fb, fa, q, same_size na, same_size nb, same_refer m na, same_refer (m + cells a) nb, same_refer (m + cells a + cells b) nc)
     (simp append_assoc)
