@@ -6,7 +6,7 @@ use Rattle.emission.specs.Emits.{Finishes}
 use Rattle.emission.specs.Copies.{EmitsEnd}
 use Rattle.emission.specs.declared.Emitted.{Emitted}
 use Rattle.emission.specs.declared.Emitted.TheVariants.{Next}
-use Rattle.emission.proofs.Chain.{First, Third, first, none_first, second_space, second, none_second, third_none, ends, last_ready, emitted}
+use Rattle.emission.proofs.Chain.{First, Third, first, none_first, second_space, second, none_second, third_none, ends, emitted}
 use Rattle.reduction.specs.Steps.{AnnotateReady}
 use Rattle.reduction.proofs.Choices.{annotated, annotated_chain, term_each, int_each}
 use Rattle.reduction.proofs.emit_annotated.Goals as goal
