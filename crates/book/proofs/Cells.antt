@@ -2,12 +2,12 @@
 -- like the whole. Assumes nothing.
 use Prim.Native.Nat.{ℕ, zero, suc, ◌+◌, ◌*◌, ◌-◌, ◌≤◌, ◌<◌}
 use mathlib.Core.Path.{◌≡◌, refl, sym, ◌∙◌}
-use mathlib.Core.Bool.{Bool, true, false, not, and-eq-true_iff}
+use mathlib.Core.Bool.{Bool, true, false, and-eq-true_iff}
 use mathlib.Core.Option.{Option, none, some}
 use mathlib.Core.List.{List}
 use native.Mathlib.Omega.{arith}
 use native.Mathlib.Numerals.{add-one}
-use borrow.Author.Tests.{not-true, not-false, ltb-true}
+use borrow.Author.Tests.{ltb-true}
 use lib.ListN.{length, take}
 use lib.Seq.{get_or-take}
 use Rattle.format.specs.declared.Version.{Version}
@@ -80,46 +80,46 @@ module _ {v : Version} {s : List ℕ} {i : ℕ} {e : Entry} {t : Cell} (read : R
   unfolding cell_fault
   fault w k = rw (← read.is, ← read.row, k)
 
-  pub not_zero : 2 ≤ e.sort → {a : Bool} → EveryField unnamed_ok_lem e t a → not a ≡ true → CellCheck v s i (Bad (Unnamed i))
+  pub not_zero : 2 ≤ e.sort → {a : Bool} → EveryField unnamed_ok_lem e t a → a ≡ false → CellCheck v s i (Bad (Unnamed i))
   unfolding row_fault first_bad
   not_zero h {a} p n =
       let w = row_known h in
       found v s i bad_unnamed (Unnamed i) refl
-      (fault w.row w.found ∙ rw (← p.says w.row w.found, not-true a n))
+      (fault w.row w.found ∙ rw (← p.says w.row w.found, n))
 
-  pub not_lower : 2 ≤ e.sort → {a b : Bool} → EveryField unnamed_ok_lem e t a → not a ≡ false → EveryField (reference_ok_lem i) e t b → not b ≡ true
+  pub not_lower : 2 ≤ e.sort → {a b : Bool} → EveryField unnamed_ok_lem e t a → a ≡ true → EveryField (reference_ok_lem i) e t b → b ≡ false
       → CellCheck v s i (Bad (Reference i))
   unfolding row_fault first_bad
   not_lower h {a} {b} p m q n =
       let w = row_known h in
       found v s i bad_reference (Reference i) refl
       (fault w.row w.found
-      ∙ rw (← p.says w.row w.found, not-false a m, ← q.says w.row w.found, not-true b n))
+      ∙ rw (← p.says w.row w.found, m, ← q.says w.row w.found, n))
 
-  pub not_sorted : 2 ≤ e.sort → {a b c : Bool} → EveryField unnamed_ok_lem e t a → not a ≡ false → EveryField (reference_ok_lem i) e t b → not b ≡ false
-      → EveryField (sort_ok_lem s) e t c → not c ≡ true → CellCheck v s i (Bad (Sort i))
+  pub not_sorted : 2 ≤ e.sort → {a b c : Bool} → EveryField unnamed_ok_lem e t a → a ≡ true → EveryField (reference_ok_lem i) e t b → b ≡ true
+      → EveryField (sort_ok_lem s) e t c → c ≡ false → CellCheck v s i (Bad (Sort i))
   unfolding row_fault first_bad
   not_sorted h {a} {b} {c} p m q n r o =
       let w = row_known h in
       found v s i bad_sort (Sort i) refl
       (fault w.row w.found
-      ∙ rw (← p.says w.row w.found, not-false a m, ← q.says w.row w.found, not-false b n, ← r.says w.row w.found, not-true c o))
+      ∙ rw (← p.says w.row w.found, m, ← q.says w.row w.found, n, ← r.says w.row w.found, o))
 
-  pub all_clear : 2 ≤ e.sort → {a b c : Bool} → EveryField unnamed_ok_lem e t a → not a ≡ false → EveryField (reference_ok_lem i) e t b → not b ≡ false
-      → EveryField (sort_ok_lem s) e t c → not c ≡ false → CellCheck v s i Clear
+  pub all_clear : 2 ≤ e.sort → {a b c : Bool} → EveryField unnamed_ok_lem e t a → a ≡ true → EveryField (reference_ok_lem i) e t b → b ≡ true
+      → EveryField (sort_ok_lem s) e t c → c ≡ true → CellCheck v s i Clear
   unfolding row_fault first_bad
   all_clear h {a} {b} {c} p m q n r o =
       let w = row_known h in
       clear v s i
       (fault w.row w.found
-      ∙ rw (← p.says w.row w.found, not-false a m, ← q.says w.row w.found, not-false b n, ← r.says w.row w.found, not-false c o))
+      ∙ rw (← p.says w.row w.found, m, ← q.says w.row w.found, n, ← r.says w.row w.found, o))
 
   -- cells that are lower than one within the bytes are within them
-  pub within : 2 ≤ e.sort → 8 * i + 8 ≤ length s → {b : Bool} → EveryField (reference_ok_lem i) e t b → not b ≡ false → FieldsWithin s e t
+  pub within : 2 ≤ e.sort → 8 * i + 8 ≤ length s → {b : Bool} → EveryField (reference_ok_lem i) e t b → b ≡ true → FieldsWithin s e t
   within h l {b} q n =
       let w = row_known h in
       let r = uses_of t.kind e w.row w.found in
-      let f = every_field_true (reference_ok_lem i) w.row (as_cell t) (sym (q.says w.row w.found) ∙ not-false b n) in
+      let f = every_field_true (reference_ok_lem i) w.row (as_cell t) (sym (q.says w.row w.found) ∙ n) in
       record {
         a = λ u. below (lower i e.a t.a (rw r.a at f.a) u);
         b = λ u. below (lower i e.b t.b (rw r.b at f.b) u);

@@ -1,11 +1,11 @@
 -- Rows 2 to 10 of a book, from the answers to its length, its trailer and its part of cells. Assumes nothing.
 use Prim.Native.Nat.{ℕ, ◌+◌, ◌-◌, ◌%◌, ◌≤◌, ◌<◌}
 use mathlib.Core.Path.{◌≡◌, refl, sym, ap, ap₂, subst, ◌∙◌}
-use mathlib.Core.Bool.{Bool, true, false, not, and-eq-true_iff}
+use mathlib.Core.Bool.{Bool, true, false, and-eq-true_iff}
 use mathlib.Core.Option.{Option, none, some}
 use mathlib.Core.List.{List}
 use native.Mathlib.Omega.{arith}
-use borrow.Author.Tests.{not-true, not-false, ltb-true, ltb-false, eqb-true}
+use borrow.Author.Tests.{not-true, ltb-true, ltb-false, eqb-true}
 use lib.Dec.{ltb, eqb}
 use lib.ListN.{length, take, drop, length-take, length-drop}
 use lib.Seq.{get_or-take, get_or-drop}
@@ -40,9 +40,9 @@ pub record Long (b : List ℕ) : Type 0 where
   pub short : length b ≤ 32768
   pub whole : length b % 8 ≡ 0
 
-pub long : (b : List ℕ) {r : Bool} → r ≡ length_ok_lem b → not r ≡ false → Long b
+pub long : (b : List ℕ) {r : Bool} → r ≡ length_ok_lem b → r ≡ true → Long b
 long b {r} e h =
-    let p = (and-eq-true_iff _ _).0 (sym e ∙ not-false r h) in
+    let p = (and-eq-true_iff _ _).0 (sym e ∙ h) in
     let q = (and-eq-true_iff _ _).0 p.0 in
     record {
       long = ltb-false (length b) 16 (not-true _ q.0);
@@ -94,27 +94,27 @@ found_first : (b : List ℕ) (f : Fault) (q : Refusal) → refusal_answer q ≡ 
 unfolding form_finding
 found_first b f q h e = found b (record { fault = f; cell = 0 }) q h (rw (e, form_finding))
 
-pub length_bad : (b : List ℕ) {r : Bool} → r ≡ length_ok_lem b → not r ≡ true → FormCheck b (Malformed Length)
+pub length_bad : (b : List ℕ) {r : Bool} → r ≡ length_ok_lem b → r ≡ false → FormCheck b (Malformed Length)
 unfolding cells_form
 length_bad b {r} e h =
-    let c : cells_form b ≡ some (record { fault = bad_length; cell = 0 }) = rw (sym e ∙ not-true r h, cells_form) in
+    let c : cells_form b ≡ some (record { fault = bad_length; cell = 0 }) = rw (sym e ∙ h, cells_form) in
     found_first b bad_length Length refl c
 
-pub trailer_bad : (b : List ℕ) {r m : Bool} → r ≡ length_ok_lem b → not r ≡ false → m ≡ mark_ok_lem (trailer_part b) → not m ≡ true
+pub trailer_bad : (b : List ℕ) {r m : Bool} → r ≡ length_ok_lem b → r ≡ true → m ≡ mark_ok_lem (trailer_part b) → m ≡ false
     → FormCheck b (Malformed Trailer)
 unfolding cells_form
 trailer_bad b {r} {m} e h f k =
     let c : cells_form b ≡ some (record { fault = bad_trailer; cell = 0 }) =
-    rw (sym e ∙ not-false r h, sym (f ∙ mark_at (long b e h)) ∙ not-true m k, cells_form) in
+    rw (sym e ∙ h, sym (f ∙ mark_at (long b e h)) ∙ k, cells_form) in
     found_first b bad_trailer Trailer refl c
 
-pub count_bad : (b : List ℕ) {r m n : Bool} → r ≡ length_ok_lem b → not r ≡ false → m ≡ mark_ok_lem (trailer_part b) → not m ≡ false
-    → n ≡ counted_ok_lem (trailer_part b) (count b) → not n ≡ true → FormCheck b (Malformed Count)
+pub count_bad : (b : List ℕ) {r m n : Bool} → r ≡ length_ok_lem b → r ≡ true → m ≡ mark_ok_lem (trailer_part b) → m ≡ true
+    → n ≡ counted_ok_lem (trailer_part b) (count b) → n ≡ false → FormCheck b (Malformed Count)
 unfolding cells_form
 count_bad b {r} {m} {n} e h f k g i =
     let l = long b e h in
     let c : cells_form b ≡ some (record { fault = bad_count; cell = 0 }) =
-    rw (sym e ∙ not-false r h, sym (f ∙ mark_at l) ∙ not-false m k, sym (g ∙ counted_at l) ∙ not-true n i, cells_form) in
+    rw (sym e ∙ h, sym (f ∙ mark_at l) ∙ k, sym (g ∙ counted_at l) ∙ i, cells_form) in
     found_first b bad_count Count refl c
 
 -- rows 2 to 4 passed: what is left of 5 to 8 are the findings of the part of cells
@@ -123,17 +123,17 @@ pub record Counted (b : List ℕ) : Type 0 where
   pub rooted : root_of b < count b
   pub rest : cells_form b ≡ cells_finding (version_of b) (cells_part b) (count b) 0
 
-pub counted : (b : List ℕ) {r m n : Bool} → r ≡ length_ok_lem b → not r ≡ false → m ≡ mark_ok_lem (trailer_part b) → not m ≡ false
-    → n ≡ counted_ok_lem (trailer_part b) (count b) → not n ≡ false → Counted b
+pub counted : (b : List ℕ) {r m n : Bool} → r ≡ length_ok_lem b → r ≡ true → m ≡ mark_ok_lem (trailer_part b) → m ≡ true
+    → n ≡ counted_ok_lem (trailer_part b) (count b) → n ≡ true → Counted b
 unfolding cells_form
 counted b {r} {m} {n} e h f k g i =
     let l = long b e h in
-    let j : count_ok b ≡ true = sym (g ∙ counted_at l) ∙ not-false n i in
+    let j : count_ok b ≡ true = sym (g ∙ counted_at l) ∙ i in
     record {
       long = l;
       rooted = ltb-true (root_of b) (count b) ((and-eq-true_iff (eqb (pair b (trailer_at b + 2)) (count b)) (ltb (root_of b) (count b))).0 j).1;
       rest =
-          rw (sym e ∙ not-false r h, sym (f ∙ mark_at l) ∙ not-false m k, j, cells_form)
+          rw (sym e ∙ h, sym (f ∙ mark_at l) ∙ k, j, cells_form)
           (sym (findings_same (version_of b) (cells_part b) b (count b) 0 (λ x h. cell_part b (count b) x (omega arith))));
     }
 

@@ -142,7 +142,7 @@ module _ (s : List ℕ) (v w : ℕ) where
   renumbered j k l (r_refers p o m f g h z _) = omega (arith, counts f, counts g, counts h)
 
   -- a run from x on, copied from g on
-  copies : (g : ℕ) {q : Bool} {x n e : ℕ} {u : Use} {t : Tree} → x + w ≡ g + v → v ≤ x → Run q s x u n t e → copied s v w x (cells t) ≡ encode g t
+  copies : {q : Bool} (g : ℕ) {x n e : ℕ} {u : Use} {t : Tree} → x + w ≡ g + v → v ≤ x → Run q s x u n t e → copied s v w x (cells t) ≡ encode g t
   unfolding copied one moved_by cells encode
   copies n k l r_unused = refl
   copies n k l r_plain = refl
