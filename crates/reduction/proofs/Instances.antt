@@ -18,7 +18,7 @@ use Rattle.emission.specs.declared.Emitted.{Emitted}
 use Rattle.emission.proofs.Chain.{of_none, of_type, of_term, Each, Chain}
 use Rattle.emission.proofs.Copies.{start_ready, start_is, run_emits}
 use Rattle.emission.specs.Runs.{RunsType, RunsTerm}
-use Rattle.emission.proofs.Runs.{counts, holds_type, holds_term}
+use Rattle.emission.proofs.Runs.{counts, holds_term}
 use Rattle.emission.proofs.RunParts.{fix_at}
 use Rattle.typed_reduction.specs.Casting.{CastReady, EmitsCast}
 use Rattle.reduction.specs.Steps.{Substitutes, casts, stands, SubstituteReady, EmitsSubstituted, InstanceReady, EmitsInstance, ContractReady, ContractAt, EmitsContractum}

@@ -2,18 +2,18 @@
 use native.Mathlib.Omega.{arith}
 use mathlib.Core.Path.{◌≡◌}
 use mathlib.Core.List.{List}
-use Prim.Native.Nat.{ℕ, ◌≤◌}
+use Prim.Native.Nat.{ℕ}
 use Rattle.format.specs.Table.{row_of, inside}
 use Rattle.format.specs.Cell.{IsBytes, Cell, cell_at}
 use Rattle.cells.specs.Coded.{row_from}
 use Rattle.cells.specs.declared.Entry.{Entry}
 use Rattle.emission.specs.Emits.{emitted_of}
-use Rattle.emission.proofs.Ends.{emitted_full, emitted_next, finishes_within}
+use Rattle.emission.proofs.Ends.{emitted_full, emitted_next}
 use Rattle.emission.proofs.Chain.{First, Second, Third, first, none_first, second_space, second, none_second, third_space, third, none_third, emitted}
 use Rattle.reduction.specs.Steps.{SubstituteReady, EmitsSubstitutedField}
 use Rattle.reduction.specs.declared.Source.{Source}
 use Rattle.reduction.proofs.Substitution.{Started, less, substitute_chain, substitute_ready, ready_a, each_a, ready_b, each_b, ready_c, each_c, bodies}
-use Rattle.reduction.proofs.Substitution.{body_less, nothing_emits, copy_ready, copy_within, copy_emits, body_ready, body_emits}
+use Rattle.reduction.proofs.Substitution.{nothing_emits, copy_emits, body_emits}
 use Rattle.reduction.proofs.+substituting.Goals as goal
 
 -- what is known once the cell and its row are read

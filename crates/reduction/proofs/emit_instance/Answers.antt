@@ -6,12 +6,12 @@ use Rattle.emission.specs.Emits.{emitted_of}
 use Rattle.emission.specs.Copies.{EmitsEnd}
 use Rattle.emission.specs.declared.Emitted.{Emitted}
 use Rattle.emission.specs.declared.Emitted.TheVariants.{Next}
-use Rattle.emission.proofs.Chain.{First, Third, first, none_first, second_space, second, none_second, third_none, ends, last_ready, emitted}
+use Rattle.emission.proofs.Chain.{First, Third, first, none_first, second_space, second, none_second, third_none, ends, emitted}
 use Rattle.emission.proofs.Copies.{run_ready}
 use Rattle.emission.proofs.Ends.{emitted_full, emitted_next}
 use Rattle.reduction.specs.Steps.{InstanceReady, EmitsSubstituted}
 use Rattle.reduction.specs.declared.Source.{Source}
-use Rattle.reduction.proofs.Instances.{renamed_ready, renamed_emits, instance, instance_chain, body_each, type_each}
+use Rattle.reduction.proofs.Instances.{renamed_emits, instance, instance_chain, body_each, type_each}
 use Rattle.reduction.proofs.emit_instance.Goals as goal
 
 -- what is known after each part that fitted; p is the source, q another name of it

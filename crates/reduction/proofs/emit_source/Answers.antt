@@ -1,5 +1,5 @@
 -- `reduction::emit_source` meets its contract. Assumes nothing.
-use Rattle.reduction.proofs.Sources.{reduct_ready, reduct_emits, standing_ready, standing_emits}
+use Rattle.reduction.proofs.Sources.{reduct_ready, reduct_emits, standing_ready}
 use Rattle.reduction.proofs.emit_source.Goals as goal
 
 pub emit_value_cast-requires : goal.emit_value_cast-requires
