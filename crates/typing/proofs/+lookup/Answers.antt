@@ -1,5 +1,4 @@
 -- `lookup` meets its contract. Assumes nothing.
-use native.Mathlib.Omega.{arith}
 use Rattle.typing.proofs.Leaves.{looks_free, looks_here, looks_on}
 use Rattle.typing.proofs.+lookup.Goals as goal
 
