@@ -3,7 +3,6 @@ use Prim.Native.Nat.{◌≤◌, ◌-◌}
 use mathlib.Core.Path.{◌≡◌}
 use mathlib.Core.List.{◌++◌}
 use lib.ListN.{length, replicate, drop}
-use Rattle.std.proofs.Common.{length, ◌-◌, ◌≡◌, replicate, ◌≤◌}
 use Rattle.layout.proofs.clear.Given as goal
 
 abbrev pub invariant-loop-i : goal.invariant-loop-i

@@ -2,9 +2,6 @@
 use Prim.Native.Nat.{◌≤◌, ◌-◌}
 use Rattle.format.specs.Widths.{wide_cells}
 use Rattle.loading.specs.Loaded.{Loaded}
-use Rattle.std.proofs.Common.{◌-◌, ◌≤◌}
-use Rattle.format.specs.Widths.{wide_cells}
-use Rattle.loading.specs.Loaded.{Loaded}
 use Rattle.loading.proofs.load.Given as goal
 
 abbrev pub invariant-loop-i : goal.invariant-loop-i

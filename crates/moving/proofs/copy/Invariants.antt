@@ -1,8 +1,6 @@
 -- `moving::copy` meets its contract. The loop's invariant: the first i bytes are copied. Assumes nothing.
 use Prim.Native.Nat.{◌≤◌, ◌-◌}
 use Rattle.moving.specs.Moves.{Copies}
-use Rattle.std.proofs.Common.{◌-◌, ◌≤◌}
-use Rattle.moving.specs.Moves.{Copies}
 use Rattle.moving.proofs.copy.Given as goal
 
 abbrev pub invariant-loop-i : goal.invariant-loop-i

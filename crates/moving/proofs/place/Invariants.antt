@@ -1,7 +1,6 @@
 -- `moving::place` meets its contract. The loop's invariant: the first i cells have come. Assumes nothing.
 use Prim.Native.Nat.{◌≤◌, ◌-◌}
 use Rattle.moving.proofs.Placing.{Placing}
-use Rattle.std.proofs.Common.{◌-◌, ◌≤◌}
 use Rattle.moving.proofs.place.Given as goal
 
 abbrev pub invariant-loop-placed : goal.invariant-loop-placed

@@ -1,7 +1,6 @@
 -- `moving::shift` meets its contract. The loop's invariant: the first i cells have moved. Assumes nothing.
 use Prim.Native.Nat.{◌≤◌, ◌-◌}
 use Rattle.moving.proofs.Shifting.{Shifting}
-use Rattle.std.proofs.Common.{◌-◌, ◌≤◌}
 use Rattle.moving.proofs.shift.Given as goal
 
 abbrev pub invariant-loop-moved : goal.invariant-loop-moved

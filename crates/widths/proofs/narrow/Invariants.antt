@@ -1,7 +1,6 @@
 -- `widths::narrow` meets its contract. The loop's invariant: the first i cells are narrowed. Assumes nothing.
 use Prim.Native.Nat.{◌≤◌, ◌-◌}
 use Rattle.widths.proofs.Narrowing.{Narrowing}
-use Rattle.std.proofs.Common.{◌-◌, ◌≤◌}
 use Rattle.widths.proofs.narrow.Given as goal
 
 abbrev pub invariant-loop-i : goal.invariant-loop-i
