@@ -270,8 +270,8 @@ pub record Read (s : List ℕ) (n c i k μ : ℕ) (y : Cell) : Type 0 where
   pub cell : y ≡ cell_at s i
   pub measure : 4 * i ≡ μ
 
-pub as_read : {s : List ℕ} {n c i k μ : ℕ} {y : Cell} → ReadyAt s n c i k → 4 * i + 0 ≡ μ → y ≡ cell_at s i → Read s n c i k μ y
-as_read p m o = record { ready = p.ready; kind = p.kind; cell = o; measure = omega arith }
+pub as_read : {s : List ℕ} {n c i k μ : ℕ} {y : Cell} → ReadyAt s n c i k → 4 * i ≡ μ → y ≡ cell_at s i → Read s n c i k μ y
+as_read p m o = record { ready = p.ready; kind = p.kind; cell = o; measure = m }
 
 -- The same, at some cell of some buffer.
 pub record AtCell (k μ : ℕ) : Type 0 where

@@ -14,8 +14,8 @@ use Rattle.decisions.proofs.+closed_values.Goals as goal
 use Rattle.decisions.proofs.+closed_values.Goals.{closed_value-After-read_cell-x}
 
 -- ---- what is known where the cells are read
-abbrev value-halves : (t : ℕ) → closed_value-After-read_cell-x t → OneHalves is_closed_value t
-value-halves t c =
+abbrev value_halves : (t : ℕ) → closed_value-After-read_cell-x t → OneHalves is_closed_value t
+value_halves t c =
     record { s = _; i = _; k = _; a = _; b = _; leads = c.loop-x.invariant; halves = λ e h. merge_value c.read_cell-x.ensures h (kind_read c.read_cell-x.ensures c.kind_at.ensures c.loop-x-test.true); small = c.requires.1; measure = c.decreases }
 
 pub closed_value-loop-x-init : goal.closed_value-loop-x-init
@@ -28,31 +28,31 @@ pub closed_value-read_cell-x-requires : goal.closed_value-read_cell-x-requires
 closed_value-read_cell-x-requires t c = held_within c.loop-x.invariant.at.holds
 
 pub closed_value-kind_at-requires-in-loop-x : goal.closed_value-kind_at-requires-in-loop-x
-closed_value-kind_at-requires-in-loop-x t c = held_within (one_own (value-halves t c)).second.holds
+closed_value-kind_at-requires-in-loop-x t c = held_within (one_own (value_halves t c)).second.holds
 
 pub closed_value-closed_value-requires : goal.closed_value-closed_value-requires
-closed_value-closed_value-requires t c = let w = value-halves t (goal.at.closed_value-closed_value-requires t c).After-read_cell-x in let v = one_own w in (omega (arith, w.measure, v.first_less, w.leads.lower), (v.first, omega (arith, w.small, v.first_less, w.leads.lower)))
+closed_value-closed_value-requires t c = let w = value_halves t (goal.at.closed_value-closed_value-requires t c).After-read_cell-x in let v = one_own w in (omega (arith, w.measure, v.first_less, w.leads.lower), (v.first, omega (arith, w.small, v.first_less, w.leads.lower)))
 
 pub closed_value-returns-then-not-closed_value : goal.closed_value-returns-then-not-closed_value
-closed_value-returns-then-not-closed_value t c = let w = value-halves t (goal.at.closed_value-returns-then-not-closed_value t c).After-read_cell-x in one_ends w.leads w.halves c.closed_value.ensures c.if-not-closed_value.true
+closed_value-returns-then-not-closed_value t c = let w = value_halves t (goal.at.closed_value-returns-then-not-closed_value t c).After-read_cell-x in one_ends w.leads w.halves c.closed_value.ensures c.if-not-closed_value.true
 
 pub closed_value-loop-x-smaller-then-kind_at-eq22 : goal.closed_value-loop-x-smaller-then-kind_at-eq22
-closed_value-loop-x-smaller-then-kind_at-eq22 t c = omega (arith, (one_own (value-halves t (goal.at.closed_value-loop-x-smaller-then-kind_at-eq22 t c).After-read_cell-x)).second_less)
+closed_value-loop-x-smaller-then-kind_at-eq22 t c = omega (arith, (one_own (value_halves t (goal.at.closed_value-loop-x-smaller-then-kind_at-eq22 t c).After-read_cell-x)).second_less)
 
 pub closed_value-loop-x-preserved-then-kind_at-eq22 : goal.closed_value-loop-x-preserved-then-kind_at-eq22
-closed_value-loop-x-preserved-then-kind_at-eq22 t c = let w = value-halves t (goal.at.closed_value-loop-x-preserved-then-kind_at-eq22 t c).After-read_cell-x in one_goes_on w.leads w.halves c.closed_value.ensures c.if-not-closed_value.false
+closed_value-loop-x-preserved-then-kind_at-eq22 t c = let w = value_halves t (goal.at.closed_value-loop-x-preserved-then-kind_at-eq22 t c).After-read_cell-x in one_goes_on w.leads w.halves c.closed_value.ensures c.if-not-closed_value.false
 
 pub closed_value-single_value-requires : goal.closed_value-single_value-requires
-closed_value-single_value-requires t c = let w = value-halves t (goal.at.closed_value-single_value-requires t c).After-read_cell-x in let v = one_own w in (omega (arith, w.measure, v.second_less, w.leads.lower), (record { at = v.second; single = λ k. c.if-kind_at-eq22.false (c.kind_at-in-loop-x.ensures ∙ k) }, omega (arith, w.small, v.second_less, w.leads.lower)))
+closed_value-single_value-requires t c = let w = value_halves t (goal.at.closed_value-single_value-requires t c).After-read_cell-x in let v = one_own w in (omega (arith, w.measure, v.second_less, w.leads.lower), (record { at = v.second; single = λ k. c.if-kind_at-eq22.false (c.kind_at-in-loop-x.ensures ∙ k) }, omega (arith, w.small, v.second_less, w.leads.lower)))
 
 pub closed_value-returns-then-not-single_value : goal.closed_value-returns-then-not-single_value
-closed_value-returns-then-not-single_value t c = let w = value-halves t (goal.at.closed_value-returns-then-not-single_value t c).After-read_cell-x in one_ends w.leads (λ e h. one_swapped (w.halves e h)) c.single_value.ensures c.if-not-single_value.true
+closed_value-returns-then-not-single_value t c = let w = value_halves t (goal.at.closed_value-returns-then-not-single_value t c).After-read_cell-x in one_ends w.leads (λ e h. one_swapped (w.halves e h)) c.single_value.ensures c.if-not-single_value.true
 
 pub closed_value-loop-x-smaller : goal.closed_value-loop-x-smaller
-closed_value-loop-x-smaller t c = omega (arith, (one_own (value-halves t (goal.at.closed_value-loop-x-smaller t c).After-read_cell-x)).first_less)
+closed_value-loop-x-smaller t c = omega (arith, (one_own (value_halves t (goal.at.closed_value-loop-x-smaller t c).After-read_cell-x)).first_less)
 
 pub closed_value-loop-x-preserved : goal.closed_value-loop-x-preserved
-closed_value-loop-x-preserved t c = let w = value-halves t (goal.at.closed_value-loop-x-preserved t c).After-read_cell-x in one_goes_on w.leads (λ e h. one_swapped (w.halves e h)) c.single_value.ensures c.if-not-single_value.false
+closed_value-loop-x-preserved t c = let w = value_halves t (goal.at.closed_value-loop-x-preserved t c).After-read_cell-x in one_goes_on w.leads (λ e h. one_swapped (w.halves e h)) c.single_value.ensures c.if-not-single_value.false
 
 pub closed_value-single_value-requires-2 : goal.closed_value-single_value-requires-2
 closed_value-single_value-requires-2 t c = (omega (arith, c.decreases, c.loop-x.invariant.lower), (record { at = c.loop-x.invariant.at; single = λ k. c.loop-x-test.false (c.kind_at.ensures ∙ k) }, omega (arith, c.requires.1, c.loop-x.invariant.lower)))

@@ -20,6 +20,7 @@ use Rattle.decisions.proofs.Agree as Agree
 use Rattle.equality.specs.Trees.{SameTree}
 use Rattle.cells.specs.Coded.{as_cell}
 use Prim.Native.Nat.{ℕ}
+use Rattle.std.proofs.Common.{rules}
 use Rattle.decisions.proofs.+consistency.Goals as goal
 use Rattle.decisions.proofs.+consistency.Goals.{consistent-After-read_cell-x}
 use Rattle.decisions.proofs.+consistency.Goals.{consistent_each-After-read_cell-y}
@@ -36,13 +37,13 @@ abbrev right_halves : (t : ℕ) → consistent_each-After-read_cell-y t → AtHa
 right_halves t c =
     record { s = _; a = _; b = _; i = _; j = _; c = _; d = _; e = _; f = _; pre = c.requires; leads = c.loop-y.invariant; halves = λ e f h k. Agree.each_half_lem c.read_cell-y.ensures c.requires.plain h k (kind_read c.read_cell-y.ensures c.kind_at.ensures c.loop-y-test.true); measure = c.decreases }
 
-abbrev two-pair : (t : ℕ) → consistent_pair-After-read_cell-y t → AtPair PlainPair 8 0 t
-two-pair t c =
+abbrev two_pair : (t : ℕ) → consistent_pair-After-read_cell-y t → AtPair PlainPair 8 0 t
+two_pair t c =
     record { s = _; a = _; b = _; x = _; y = _; pre = c.requires; first = c.read_cell-x.ensures; second = c.read_cell-y.ensures; measure = c.decreases }
 
-abbrev two-alike : (t : ℕ) → consistent_pair-Else-x-y t → Alike PlainPair 8 0 t
-two-alike t c =
-    record { at = two-pair t (goal.at.consistent_pair-Else-x-y t c).After-read_cell-y; alike = c.if-x-y.false }
+abbrev two_alike : (t : ℕ) → consistent_pair-Else-x-y t → Alike PlainPair 8 0 t
+two_alike t c =
+    record { at = two_pair t (goal.at.consistent_pair-Else-x-y t c).After-read_cell-y; alike = c.if-x-y.false }
 
 -- which of the two parts differs
 two_apart : (t : ℕ) (c : consistent_pair-Joined-else-same_tree t) →
@@ -161,7 +162,7 @@ pub consistent_one-returns-in-17 : goal.consistent_one-returns-in-17
 consistent_one-returns-in-17 t c = c.consistent_each.ensures
 
 pub consistent_one-returns-in_default : goal.consistent_one-returns-in_default
-consistent_one-returns-in_default t c = outright (λ e f h k. Agree.left_none c.read_cell-x.ensures h f c.in_default.in_default-own.rest.0.1 (not_kind c.read_cell-x.ensures c.requires.single) c.in_default.in_default-own.rest.1)
+consistent_one-returns-in_default t c = outright (λ e f h k. Agree.left_none c.read_cell-x.ensures h f (search rules) (not_kind c.read_cell-x.ensures c.requires.single) (search rules))
 
 pub consistent_pair-read_cell-x-requires : goal.consistent_pair-read_cell-x-requires
 consistent_pair-read_cell-x-requires t c = held_within c.requires.first.terms.holds_first
@@ -170,37 +171,37 @@ pub consistent_pair-read_cell-y-requires : goal.consistent_pair-read_cell-y-requ
 consistent_pair-read_cell-y-requires t c = held_within c.requires.first.terms.holds_second
 
 pub consistent_pair-returns-then-x-y : goal.consistent_pair-returns-then-x-y
-consistent_pair-returns-then-x-y t c = let p = two-pair t (goal.at.consistent_pair-returns-then-x-y t c).After-read_cell-y in outright (λ e f h k. Agree.pair_kinds (read p.first p.second h k) p.pre.first.plain p.pre.plain c.if-x-y.true)
+consistent_pair-returns-then-x-y t c = let p = two_pair t (goal.at.consistent_pair-returns-then-x-y t c).After-read_cell-y in outright (λ e f h k. Agree.pair_kinds (read p.first p.second h k) p.pre.first.plain p.pre.plain c.if-x-y.true)
 
 pub consistent_pair-same_tree-requires : goal.consistent_pair-same_tree-requires
-consistent_pair-same_tree-requires t c = comparable term_sort (two-alike t (goal.at.consistent_pair-same_tree-requires t c).Else-x-y).at.pre.first.terms
+consistent_pair-same_tree-requires t c = comparable term_sort (two_alike t (goal.at.consistent_pair-same_tree-requires t c).Else-x-y).at.pre.first.terms
 
 pub consistent_pair-returns-then-x-eq17 : goal.consistent_pair-returns-then-x-eq17
-consistent_pair-returns-then-x-eq17 t c = let p = two-alike t (goal.at.consistent_pair-returns-then-x-eq17 t c).Else-x-y in outright (λ e f h k. Agree.numbers (read p.at.first p.at.second h k) p.alike (λ n. (c.type_inv.s n).fits) c.if-x-eq17.true c.same_tree.ensures)
+consistent_pair-returns-then-x-eq17 t c = let p = two_alike t (goal.at.consistent_pair-returns-then-x-eq17 t c).Else-x-y in outright (λ e f h k. Agree.numbers (read p.at.first p.at.second h k) p.alike (λ n. (c.type_inv.s n).fits) c.if-x-eq17.true c.same_tree.ensures)
 
 pub consistent_pair-consistent_half-requires : goal.consistent_pair-consistent_half-requires
-consistent_pair-consistent_half-requires t c = let p = two-alike t (goal.at.consistent_pair-consistent_half-requires t c).Else-x-y in let v = Agree.records (read_at p.at.first p.at.second p.at.pre.first.terms) p.alike c.if-x-eq24.true c.if-x-y-2.false in (omega (arith, v.less, p.at.measure), v.part)
+consistent_pair-consistent_half-requires t c = let p = two_alike t (goal.at.consistent_pair-consistent_half-requires t c).Else-x-y in let v = Agree.records (read_at p.at.first p.at.second p.at.pre.first.terms) p.alike c.if-x-eq24.true c.if-x-y-2.false in (omega (arith, v.less, p.at.measure), v.part)
 
 pub consistent_pair-returns-then-x-y-2 : goal.consistent_pair-returns-then-x-y-2
-consistent_pair-returns-then-x-y-2 t c = let p = two-alike t (goal.at.consistent_pair-returns-then-x-y-2 t c).Else-x-y in flagged (ap not (ne_eqb _ _ c.if-x-y-2.true)) (λ e f h k. Agree.other_records (read p.at.first p.at.second h k) p.alike c.if-x-eq24.true c.if-x-y-2.true)
+consistent_pair-returns-then-x-y-2 t c = let p = two_alike t (goal.at.consistent_pair-returns-then-x-y-2 t c).Else-x-y in flagged (ap not (ne_eqb _ _ c.if-x-y-2.true)) (λ e f h k. Agree.other_records (read p.at.first p.at.second h k) p.alike c.if-x-eq24.true c.if-x-y-2.true)
 
 pub consistent_pair-returns-else-x-y-2 : goal.consistent_pair-returns-else-x-y-2
-consistent_pair-returns-else-x-y-2 t c = let p = two-alike t (goal.at.consistent_pair-returns-else-x-y-2 t c).Else-x-y in passed (λ e f h k. Agree.records (read p.at.first p.at.second h k) p.alike c.if-x-eq24.true c.if-x-y-2.false) c.consistent_half.ensures
+consistent_pair-returns-else-x-y-2 t c = let p = two_alike t (goal.at.consistent_pair-returns-else-x-y-2 t c).Else-x-y in passed (λ e f h k. Agree.records (read p.at.first p.at.second h k) p.alike c.if-x-eq24.true c.if-x-y-2.false) c.consistent_half.ensures
 
 pub consistent_pair-same_tree-requires-2 : goal.consistent_pair-same_tree-requires-2
-consistent_pair-same_tree-requires-2 t c = let p = two-alike t (goal.at.consistent_pair-same_tree-requires-2 t c).Else-x-y in comparable type_sort (Agree.functions (read_at p.at.first p.at.second p.at.pre.first.terms) p.alike p.at.pre.first.plain c.if-x-eq17.false c.if-x-eq24.false).inputs
+consistent_pair-same_tree-requires-2 t c = let p = two_alike t (goal.at.consistent_pair-same_tree-requires-2 t c).Else-x-y in comparable type_sort (Agree.functions (read_at p.at.first p.at.second p.at.pre.first.terms) p.alike p.at.pre.first.plain c.if-x-eq17.false c.if-x-eq24.false).inputs
 
 pub consistent_pair-same_tree-requires-then-same_tree : goal.consistent_pair-same_tree-requires-then-same_tree
-consistent_pair-same_tree-requires-then-same_tree t c = let p = two-alike t (goal.at.consistent_pair-same_tree-requires-then-same_tree t c).Else-x-y in comparable term_sort (Agree.functions (read_at p.at.first p.at.second p.at.pre.first.terms) p.alike p.at.pre.first.plain c.if-x-eq17.false c.if-x-eq24.false).bodies
+consistent_pair-same_tree-requires-then-same_tree t c = let p = two_alike t (goal.at.consistent_pair-same_tree-requires-then-same_tree t c).Else-x-y in comparable term_sort (Agree.functions (read_at p.at.first p.at.second p.at.pre.first.terms) p.alike p.at.pre.first.plain c.if-x-eq17.false c.if-x-eq24.false).bodies
 
 pub consistent_pair-returns-then-same_tree-2 : goal.consistent_pair-returns-then-same_tree-2
-consistent_pair-returns-then-same_tree-2 t c = let p = two-alike t (goal.at.consistent_pair-returns-then-same_tree-2 t c).Else-x-y in Agree.agree_same (λ e f h k. Agree.functions (read p.at.first p.at.second h k) p.alike p.at.pre.first.plain c.if-x-eq17.false c.if-x-eq24.false) (λ n. (c.type_inv.s n).fits) c.same_tree-2.ensures c.if-same_tree.true c.same_tree-then-same_tree.ensures c.if-same_tree-2.true
+consistent_pair-returns-then-same_tree-2 t c = let p = two_alike t (goal.at.consistent_pair-returns-then-same_tree-2 t c).Else-x-y in Agree.agree_same (λ e f h k. Agree.functions (read p.at.first p.at.second h k) p.alike p.at.pre.first.plain c.if-x-eq17.false c.if-x-eq24.false) (λ n. (c.type_inv.s n).fits) c.same_tree-2.ensures c.if-same_tree.true c.same_tree-then-same_tree.ensures c.if-same_tree-2.true
 
 pub consistent_pair-disjoint-requires : goal.consistent_pair-disjoint-requires
-consistent_pair-disjoint-requires t c = let p = two-alike t (goal.at.consistent_pair-disjoint-requires t c).Else-x-y in (Agree.functions (read_at p.at.first p.at.second p.at.pre.first.terms) p.alike p.at.pre.first.plain c.if-x-eq17.false c.if-x-eq24.false).outputs
+consistent_pair-disjoint-requires t c = let p = two_alike t (goal.at.consistent_pair-disjoint-requires t c).Else-x-y in (Agree.functions (read_at p.at.first p.at.second p.at.pre.first.terms) p.alike p.at.pre.first.plain c.if-x-eq17.false c.if-x-eq24.false).outputs
 
 pub consistent_pair-returns : goal.consistent_pair-returns
-consistent_pair-returns t c = let p = two-alike t (goal.at.consistent_pair-returns t c).Else-x-y in Agree.agree_apart (λ e f h k. Agree.functions (read p.at.first p.at.second h k) p.alike p.at.pre.first.plain c.if-x-eq17.false c.if-x-eq24.false) (λ n. (c.type_inv.s n).fits) c.same_tree-2.ensures (two_apart t (goal.at.consistent_pair-returns t c).Joined-else-same_tree) c.disjoint.ensures
+consistent_pair-returns t c = let p = two_alike t (goal.at.consistent_pair-returns t c).Else-x-y in Agree.agree_apart (λ e f h k. Agree.functions (read p.at.first p.at.second h k) p.alike p.at.pre.first.plain c.if-x-eq17.false c.if-x-eq24.false) (λ n. (c.type_inv.s n).fits) c.same_tree-2.ensures (two_apart t (goal.at.consistent_pair-returns t c).Joined-else-same_tree) c.disjoint.ensures
 
 pub each_half-equal_numbers-requires : goal.each_half-equal_numbers-requires
 each_half-equal_numbers-requires t c = c.requires.terms
@@ -233,4 +234,4 @@ pub each_one-returns-in-17 : goal.each_one-returns-in-17
 each_one-returns-in-17 t c = c.consistent_pair.ensures
 
 pub each_one-returns-in_default : goal.each_one-returns-in_default
-each_one-returns-in_default t c = outright (λ e f h k. Agree.each_none c.read_cell-y.ensures c.requires.first.plain h k c.in_default.in_default-own.rest.0.1 (not_kind c.read_cell-y.ensures c.requires.single) c.in_default.in_default-own.rest.1)
+each_one-returns-in_default t c = outright (λ e f h k. Agree.each_none c.read_cell-y.ensures c.requires.first.plain h k (search rules) (not_kind c.read_cell-y.ensures c.requires.single) (search rules))

@@ -25,16 +25,16 @@ abbrev each_halves : (t : ℕ) → apart_each-After-read_cell-y t → AtHalves S
 each_halves t c =
     record { s = _; a = _; b = _; i = _; j = _; c = _; d = _; e = _; f = _; pre = c.requires; leads = c.loop-y.invariant; halves = λ A B h k. Apart.right_halves (read refl c.read_cell-y.ensures h k) (kind_read c.read_cell-y.ensures c.kind_at.ensures c.loop-y-test.true); measure = c.decreases }
 
-abbrev two-pair : (t : ℕ) → apart_pair-After-read_cell-y t → AtPair SingleTypes 4 0 t
-two-pair t c =
+abbrev two_pair : (t : ℕ) → apart_pair-After-read_cell-y t → AtPair SingleTypes 4 0 t
+two_pair t c =
     record { s = _; a = _; b = _; x = _; y = _; pre = c.requires; first = c.read_cell-x.ensures; second = c.read_cell-y.ensures; measure = c.decreases }
 
-abbrev two-alike : (t : ℕ) → apart_pair-Else-x-y t → Alike SingleTypes 4 0 t
-two-alike t c =
-    record { at = two-pair t (goal.at.apart_pair-Else-x-y t c).After-read_cell-y; alike = c.if-x-y.false }
+abbrev two_alike : (t : ℕ) → apart_pair-Else-x-y t → Alike SingleTypes 4 0 t
+two_alike t c =
+    record { at = two_pair t (goal.at.apart_pair-Else-x-y t c).After-read_cell-y; alike = c.if-x-y.false }
 
-abbrev whole-halves : (t : ℕ) → disjoint-After-read_cell-x t → AtHalves TypesAt HoldsType is_disjoint ◌&&◌ 4 2 t
-whole-halves t c =
+abbrev whole_halves : (t : ℕ) → disjoint-After-read_cell-x t → AtHalves TypesAt HoldsType is_disjoint ◌&&◌ 4 2 t
+whole_halves t c =
     record { s = _; a = _; b = _; i = _; j = _; c = _; d = _; e = _; f = _; pre = c.requires; leads = c.loop-x.invariant; halves = λ A B h k. Apart.left_halves (read c.read_cell-x.ensures refl h k) (kind_read c.read_cell-x.ensures c.kind_at.ensures c.loop-x-test.true); measure = c.decreases }
 
 pub apart_each-loop-y-init : goal.apart_each-loop-y-init
@@ -92,25 +92,25 @@ pub apart_pair-returns-then-y-eq1 : goal.apart_pair-returns-then-y-eq1
 apart_pair-returns-then-y-eq1 t c = outright (λ A B h k. Apart.right_top A k _ c.read_cell-y.ensures c.if-y-eq1.true)
 
 pub apart_pair-returns-then-x-y : goal.apart_pair-returns-then-x-y
-apart_pair-returns-then-x-y t c = let p = two-pair t (goal.at.apart_pair-returns-then-x-y t c).After-read_cell-y in outright (λ A B h k. Apart.other_kinds (read p.first p.second h k) c.if-x-eq1.false (not_kind p.first p.pre.first.first_single) c.if-y-eq1.false (not_kind p.second p.pre.second_single) c.if-x-y.true)
+apart_pair-returns-then-x-y t c = let p = two_pair t (goal.at.apart_pair-returns-then-x-y t c).After-read_cell-y in outright (λ A B h k. Apart.other_kinds (read p.first p.second h k) c.if-x-eq1.false (not_kind p.first p.pre.first.first_single) c.if-y-eq1.false (not_kind p.second p.pre.second_single) c.if-x-y.true)
 
 pub apart_pair-disjoint-requires : goal.apart_pair-disjoint-requires
-apart_pair-disjoint-requires t c = let p = two-alike t (goal.at.apart_pair-disjoint-requires t c).Else-x-y in let v = Apart.outputs (read_at p.at.first p.at.second p.at.pre.first.types) p.alike c.if-x-eq3.true in (omega (arith, v.less, p.at.measure), v.part)
+apart_pair-disjoint-requires t c = let p = two_alike t (goal.at.apart_pair-disjoint-requires t c).Else-x-y in let v = Apart.outputs (read_at p.at.first p.at.second p.at.pre.first.types) p.alike c.if-x-eq3.true in (omega (arith, v.less, p.at.measure), v.part)
 
 pub apart_pair-returns-then-x-eq3 : goal.apart_pair-returns-then-x-eq3
-apart_pair-returns-then-x-eq3 t c = let p = two-alike t (goal.at.apart_pair-returns-then-x-eq3 t c).Else-x-y in passed (λ A B h k. Apart.outputs (read p.at.first p.at.second h k) p.alike c.if-x-eq3.true) c.disjoint.ensures
+apart_pair-returns-then-x-eq3 t c = let p = two_alike t (goal.at.apart_pair-returns-then-x-eq3 t c).Else-x-y in passed (λ A B h k. Apart.outputs (read p.at.first p.at.second h k) p.alike c.if-x-eq3.true) c.disjoint.ensures
 
 pub apart_pair-disjoint-requires-else-x-y-2 : goal.apart_pair-disjoint-requires-else-x-y-2
-apart_pair-disjoint-requires-else-x-y-2 t c = let p = two-alike t (goal.at.apart_pair-disjoint-requires-else-x-y-2 t c).Else-x-y in let v = Apart.fields (read_at p.at.first p.at.second p.at.pre.first.types) p.alike c.if-x-eq5.true c.if-x-y-2.false in (omega (arith, v.less, p.at.measure), v.part)
+apart_pair-disjoint-requires-else-x-y-2 t c = let p = two_alike t (goal.at.apart_pair-disjoint-requires-else-x-y-2 t c).Else-x-y in let v = Apart.fields (read_at p.at.first p.at.second p.at.pre.first.types) p.alike c.if-x-eq5.true c.if-x-y-2.false in (omega (arith, v.less, p.at.measure), v.part)
 
 pub apart_pair-returns-then-x-y-2 : goal.apart_pair-returns-then-x-y-2
-apart_pair-returns-then-x-y-2 t c = let p = two-alike t (goal.at.apart_pair-returns-then-x-y-2 t c).Else-x-y in flagged (ap not (ne_eqb _ _ c.if-x-y-2.true)) (λ A B h k. Apart.other_labels (read p.at.first p.at.second h k) p.alike c.if-x-eq5.true c.if-x-y-2.true)
+apart_pair-returns-then-x-y-2 t c = let p = two_alike t (goal.at.apart_pair-returns-then-x-y-2 t c).Else-x-y in flagged (ap not (ne_eqb _ _ c.if-x-y-2.true)) (λ A B h k. Apart.other_labels (read p.at.first p.at.second h k) p.alike c.if-x-eq5.true c.if-x-y-2.true)
 
 pub apart_pair-returns-else-x-y-2 : goal.apart_pair-returns-else-x-y-2
-apart_pair-returns-else-x-y-2 t c = let p = two-alike t (goal.at.apart_pair-returns-else-x-y-2 t c).Else-x-y in passed (λ A B h k. Apart.fields (read p.at.first p.at.second h k) p.alike c.if-x-eq5.true c.if-x-y-2.false) c.disjoint-else-x-y-2.ensures
+apart_pair-returns-else-x-y-2 t c = let p = two_alike t (goal.at.apart_pair-returns-else-x-y-2 t c).Else-x-y in passed (λ A B h k. Apart.fields (read p.at.first p.at.second h k) p.alike c.if-x-eq5.true c.if-x-y-2.false) c.disjoint-else-x-y-2.ensures
 
 pub apart_pair-returns : goal.apart_pair-returns
-apart_pair-returns t c = let p = two-alike t (goal.at.apart_pair-returns t c).Else-x-y in outright (λ A B h k. Apart.numbers (read p.at.first p.at.second h k) c.if-x-eq1.false (not_kind p.at.first p.at.pre.first.first_single) c.if-y-eq1.false (not_kind p.at.second p.at.pre.second_single) p.alike c.if-x-eq3.false c.if-x-eq5.false)
+apart_pair-returns t c = let p = two_alike t (goal.at.apart_pair-returns t c).Else-x-y in outright (λ A B h k. Apart.numbers (read p.at.first p.at.second h k) c.if-x-eq1.false (not_kind p.at.first p.at.pre.first.first_single) c.if-y-eq1.false (not_kind p.at.second p.at.pre.second_single) p.alike c.if-x-eq3.false c.if-x-eq5.false)
 
 pub disjoint-read_cell-requires : goal.disjoint-read_cell-requires
 disjoint-read_cell-requires t c = held_within c.requires.holds_second
@@ -131,31 +131,31 @@ pub disjoint-returns-then-x-eq1 : goal.disjoint-returns-then-x-eq1
 disjoint-returns-then-x-eq1 t c = c.loop-x.invariant.on _ (outright (λ A B h k. Apart.left_top B h _ c.read_cell-x.ensures c.if-x-eq1.true))
 
 pub disjoint-kind_at-requires-in-loop-x : goal.disjoint-kind_at-requires-in-loop-x
-disjoint-kind_at-requires-in-loop-x t c = held_within (own (whole-halves t (goal.at.disjoint-kind_at-requires-in-loop-x t c).After-read_cell-x)).second.holds_first
+disjoint-kind_at-requires-in-loop-x t c = held_within (own (whole_halves t (goal.at.disjoint-kind_at-requires-in-loop-x t c).After-read_cell-x)).second.holds_first
 
 pub disjoint-disjoint-requires : goal.disjoint-disjoint-requires
-disjoint-disjoint-requires t c = let w = whole-halves t (goal.at.disjoint-disjoint-requires t c).After-read_cell-x in let v = own w in (omega (arith, w.measure, v.first_less, w.leads.lower), v.first)
+disjoint-disjoint-requires t c = let w = whole_halves t (goal.at.disjoint-disjoint-requires t c).After-read_cell-x in let v = own w in (omega (arith, w.measure, v.first_less, w.leads.lower), v.first)
 
 pub disjoint-returns-then-not-disjoint : goal.disjoint-returns-then-not-disjoint
-disjoint-returns-then-not-disjoint t c = let w = whole-halves t (goal.at.disjoint-returns-then-not-disjoint t c).After-read_cell-x in and_ends w.leads w.halves c.disjoint.ensures c.if-not-disjoint.true
+disjoint-returns-then-not-disjoint t c = let w = whole_halves t (goal.at.disjoint-returns-then-not-disjoint t c).After-read_cell-x in and_ends w.leads w.halves c.disjoint.ensures c.if-not-disjoint.true
 
 pub disjoint-loop-x-smaller-then-kind_at-eq4 : goal.disjoint-loop-x-smaller-then-kind_at-eq4
-disjoint-loop-x-smaller-then-kind_at-eq4 t c = omega (arith, (own (whole-halves t (goal.at.disjoint-loop-x-smaller-then-kind_at-eq4 t c).After-read_cell-x)).second_less)
+disjoint-loop-x-smaller-then-kind_at-eq4 t c = omega (arith, (own (whole_halves t (goal.at.disjoint-loop-x-smaller-then-kind_at-eq4 t c).After-read_cell-x)).second_less)
 
 pub disjoint-loop-x-preserved-then-kind_at-eq4 : goal.disjoint-loop-x-preserved-then-kind_at-eq4
-disjoint-loop-x-preserved-then-kind_at-eq4 t c = let w = whole-halves t (goal.at.disjoint-loop-x-preserved-then-kind_at-eq4 t c).After-read_cell-x in and_goes_on w.leads w.halves c.disjoint.ensures c.if-not-disjoint.false
+disjoint-loop-x-preserved-then-kind_at-eq4 t c = let w = whole_halves t (goal.at.disjoint-loop-x-preserved-then-kind_at-eq4 t c).After-read_cell-x in and_goes_on w.leads w.halves c.disjoint.ensures c.if-not-disjoint.false
 
 pub disjoint-apart_each-requires : goal.disjoint-apart_each-requires
-disjoint-apart_each-requires t c = let w = whole-halves t (goal.at.disjoint-apart_each-requires t c).After-read_cell-x in let v = own w in (omega (arith, w.measure, v.second_less, w.leads.lower), record { types = v.second; first_single = λ k. c.if-kind_at-eq4.false (c.kind_at-in-loop-x.ensures ∙ k) })
+disjoint-apart_each-requires t c = let w = whole_halves t (goal.at.disjoint-apart_each-requires t c).After-read_cell-x in let v = own w in (omega (arith, w.measure, v.second_less, w.leads.lower), record { types = v.second; first_single = λ k. c.if-kind_at-eq4.false (c.kind_at-in-loop-x.ensures ∙ k) })
 
 pub disjoint-returns-then-not-apart_each : goal.disjoint-returns-then-not-apart_each
-disjoint-returns-then-not-apart_each t c = let w = whole-halves t (goal.at.disjoint-returns-then-not-apart_each t c).After-read_cell-x in and_ends w.leads (λ A B h k. and_swapped (w.halves A B h k)) c.apart_each.ensures c.if-not-apart_each.true
+disjoint-returns-then-not-apart_each t c = let w = whole_halves t (goal.at.disjoint-returns-then-not-apart_each t c).After-read_cell-x in and_ends w.leads (λ A B h k. and_swapped (w.halves A B h k)) c.apart_each.ensures c.if-not-apart_each.true
 
 pub disjoint-loop-x-smaller : goal.disjoint-loop-x-smaller
-disjoint-loop-x-smaller t c = omega (arith, (own (whole-halves t (goal.at.disjoint-loop-x-smaller t c).After-read_cell-x)).first_less)
+disjoint-loop-x-smaller t c = omega (arith, (own (whole_halves t (goal.at.disjoint-loop-x-smaller t c).After-read_cell-x)).first_less)
 
 pub disjoint-loop-x-preserved : goal.disjoint-loop-x-preserved
-disjoint-loop-x-preserved t c = let w = whole-halves t (goal.at.disjoint-loop-x-preserved t c).After-read_cell-x in and_goes_on w.leads (λ A B h k. and_swapped (w.halves A B h k)) c.apart_each.ensures c.if-not-apart_each.false
+disjoint-loop-x-preserved t c = let w = whole_halves t (goal.at.disjoint-loop-x-preserved t c).After-read_cell-x in and_goes_on w.leads (λ A B h k. and_swapped (w.halves A B h k)) c.apart_each.ensures c.if-not-apart_each.false
 
 pub disjoint-apart_each-requires-2 : goal.disjoint-apart_each-requires-2
 disjoint-apart_each-requires-2 t c = (omega (arith, c.decreases, c.loop-x.invariant.lower), record { types = c.loop-x.invariant.at; first_single = λ k. c.loop-x-test.false (c.kind_at.ensures ∙ k) })

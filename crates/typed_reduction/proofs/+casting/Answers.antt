@@ -36,8 +36,8 @@ recorded : (t : ℕ) → (c : emit_part-Else-y-eq1 t) → let at = c.args in Rec
 recorded t c =
     record { found = found t (goal.at.emit_part-Else-y-eq1 t c).After-read_cell-y; cell = c.read_cell-x.ensures; not_int = c.if-y-eq1.false; not_arrow = c.if-y-eq3.false }
 
-after-content : (t : ℕ) → (c : emit_part-In-Next t) → Third (record_chain (recorded t (goal.at.emit_part-In-Next t c).Else-y-eq1)) c.emit_value_cast.new.d c.in-Next.z c.emit_value_cast.new.d c.in-Next.z c.emit_value_cast.new.d c.in-Next.z
-after-content t c =
+after_content : (t : ℕ) → (c : emit_part-In-Next t) → Third (record_chain (recorded t (goal.at.emit_part-In-Next t c).Else-y-eq1)) c.emit_value_cast.new.d c.in-Next.z c.emit_value_cast.new.d c.in-Next.z c.emit_value_cast.new.d c.in-Next.z
+after_content t c =
     let g = recorded t (goal.at.emit_part-In-Next t c).Else-y-eq1 in
     third_none (second_none (first (record_chain g) (content_each g c.emit_value_cast.ensures) c.in-Next.is) refl) refl
 
@@ -55,8 +55,8 @@ split t c = record { is = c.read_cell-t.ensures; kind = c.if-t-ne4-2.false; read
 after_first : (t : ℕ) → (c : emit_value_cast-In-Next t) → First (merge_chain (split t (goal.at.emit_value_cast-In-Next t c).Else-t-ne4-2)) c.emit_value_cast.new.d c.in-Next.x
 after_first t c = let g = split t (goal.at.emit_value_cast-In-Next t c).Else-t-ne4-2 in first (merge_chain g) (first_each g c.emit_value_cast.ensures) c.in-Next.is
 
-after-second : (t : ℕ) → (c : emit_value_cast-In-Next-emit_value_cast t) → Third (merge_chain (split t (goal.at.emit_value_cast-In-Next-emit_value_cast t c).Else-t-ne4-2)) c.emit_value_cast.new.d c.in-Next.x c.emit_value_cast-2.new.d c.in-Next-emit_value_cast.y c.emit_value_cast-2.new.d c.in-Next-emit_value_cast.y
-after-second t c =
+after_second : (t : ℕ) → (c : emit_value_cast-In-Next-emit_value_cast t) → Third (merge_chain (split t (goal.at.emit_value_cast-In-Next-emit_value_cast t c).Else-t-ne4-2)) c.emit_value_cast.new.d c.in-Next.x c.emit_value_cast-2.new.d c.in-Next-emit_value_cast.y c.emit_value_cast-2.new.d c.in-Next-emit_value_cast.y
+after_second t c =
     let g = split t (goal.at.emit_value_cast-In-Next-emit_value_cast t c).Else-t-ne4-2 in
     third_none (second (after_first t (goal.at.emit_value_cast-In-Next-emit_value_cast t c).In-Next) (second_each g c.emit_value_cast-2.ensures) c.in-Next-emit_value_cast.is) refl
 
@@ -96,13 +96,13 @@ emit_part-returns-in_default-emit_value_cast t c =
     let g = recorded t (goal.at.emit_part-returns-in_default-emit_value_cast t c).Else-y-eq1 in all_casts (none_first (record_chain g) (content_each g c.emit_value_cast.ensures) c.in_default-emit_value_cast.is)
 
 pub emit_part-overflow_sub-z : goal.emit_part-overflow_sub-z
-emit_part-overflow_sub-z t c = (ends (after-content t (goal.at.emit_part-overflow_sub-z t c).In-Next)).0
+emit_part-overflow_sub-z t c = (ends (after_content t (goal.at.emit_part-overflow_sub-z t c).In-Next)).0
 
 pub emit_part-finish-requires-2 : goal.emit_part-finish-requires-2
-emit_part-finish-requires-2 t c = last_ready (after-content t (goal.at.emit_part-finish-requires-2 t c).In-Next)
+emit_part-finish-requires-2 t c = last_ready (after_content t (goal.at.emit_part-finish-requires-2 t c).In-Next)
 
 pub emit_part-returns : goal.emit_part-returns
-emit_part-returns t c = all_casts (emitted (after-content t (goal.at.emit_part-returns t c).In-Next) c.finish-2.ensures)
+emit_part-returns t c = all_casts (emitted (after_content t (goal.at.emit_part-returns t c).In-Next) c.finish-2.ensures)
 
 pub emit_value_cast-read_cell-t-requires : goal.emit_value_cast-read_cell-t-requires
 emit_value_cast-read_cell-t-requires t c = held_within (holds_type c.requires.both.holds_type)
@@ -136,13 +136,13 @@ emit_value_cast-returns-in_default-emit_value_cast t c =
     all_casts (none_second (after_first t (goal.at.emit_value_cast-returns-in_default-emit_value_cast t c).In-Next) (second_each g c.emit_value_cast-2.ensures) c.in_default-emit_value_cast.is)
 
 pub emit_value_cast-overflow_sub-x : goal.emit_value_cast-overflow_sub-x
-emit_value_cast-overflow_sub-x t c = (ends (after-second t (goal.at.emit_value_cast-overflow_sub-x t c).In-Next-emit_value_cast)).0
+emit_value_cast-overflow_sub-x t c = (ends (after_second t (goal.at.emit_value_cast-overflow_sub-x t c).In-Next-emit_value_cast)).0
 
 pub emit_value_cast-overflow_sub-y : goal.emit_value_cast-overflow_sub-y
-emit_value_cast-overflow_sub-y t c = (ends (after-second t (goal.at.emit_value_cast-overflow_sub-y t c).In-Next-emit_value_cast)).1
+emit_value_cast-overflow_sub-y t c = (ends (after_second t (goal.at.emit_value_cast-overflow_sub-y t c).In-Next-emit_value_cast)).1
 
 pub emit_value_cast-finish-requires : goal.emit_value_cast-finish-requires
-emit_value_cast-finish-requires t c = last_ready (after-second t (goal.at.emit_value_cast-finish-requires t c).In-Next-emit_value_cast)
+emit_value_cast-finish-requires t c = last_ready (after_second t (goal.at.emit_value_cast-finish-requires t c).In-Next-emit_value_cast)
 
 pub emit_value_cast-returns : goal.emit_value_cast-returns
-emit_value_cast-returns t c = all_casts (emitted (after-second t (goal.at.emit_value_cast-returns t c).In-Next-emit_value_cast) c.finish.ensures)
+emit_value_cast-returns t c = all_casts (emitted (after_second t (goal.at.emit_value_cast-returns t c).In-Next-emit_value_cast) c.finish.ensures)

@@ -12,23 +12,23 @@ use Rattle.typed_reduction.proofs.emit_function.Goals.{After-read_cell-t, In-Nex
 started : (c : After-read_cell-t) → Started c.args.s.now c.args.d.now c.args.p c.args.a c.args.m (as_cell c.read_cell-f.result) (as_cell c.read_cell-t.result)
 started c = record { function = c.read_cell-f.ensures; type = c.read_cell-t.ensures; bytes = λ j. (c.type_inv.s j).fits; ready = c.requires }
 
-after-body : (c : In-Next) → First (function_chain (started (goal.at.In-Next c).After-read_cell-t)) c.emit_run_to.new.d c.in-Next.x
-after-body c = let g = started (goal.at.In-Next c).After-read_cell-t in first (function_chain g) (body_each g c.emit_run_to.ensures) c.in-Next.is
+after_body : (c : In-Next) → First (function_chain (started (goal.at.In-Next c).After-read_cell-t)) c.emit_run_to.new.d c.in-Next.x
+after_body c = let g = started (goal.at.In-Next c).After-read_cell-t in first (function_chain g) (body_each g c.emit_run_to.ensures) c.in-Next.is
 
-after-input :
+after_input :
     (c : In-Next-emit_run) →
     Second (function_chain (started (goal.at.In-Next-emit_run c).After-read_cell-t)) c.emit_run_to.new.d c.in-Next.x c.emit_run.new.d c.in-Next-emit_run.y
-after-input c =
+after_input c =
     let at = goal.at.In-Next-emit_run c in
-    second (after-body at.In-Next) (input_each (started at.After-read_cell-t) c.emit_run.ensures) c.in-Next-emit_run.is
+    second (after_body at.In-Next) (input_each (started at.After-read_cell-t) c.emit_run.ensures) c.in-Next-emit_run.is
 
-after-output :
+after_output :
     (c : In-Next-emit_run-2) →
     Third (function_chain (started (goal.at.In-Next-emit_run-2 c).After-read_cell-t)) c.emit_run_to.new.d c.in-Next.x
     c.emit_run.new.d c.in-Next-emit_run.y c.emit_run-2.new.d c.in-Next-emit_run-2.z
-after-output c =
+after_output c =
     let at = goal.at.In-Next-emit_run-2 c in
-    third (after-input at.In-Next-emit_run) (output_each (started at.After-read_cell-t) c.emit_run-2.ensures) c.in-Next-emit_run-2.is
+    third (after_input at.In-Next-emit_run) (output_each (started at.After-read_cell-t) c.emit_run-2.ensures) c.in-Next-emit_run-2.is
 
 pub emit_run_to-requires : goal.emit_run_to-requires
 emit_run_to-requires c = body_ready (started (goal.at.emit_run_to-requires c).After-read_cell-t)
@@ -45,11 +45,11 @@ overflow_add-f-2 c = omega (arith, (cells_fit (started (goal.at.overflow_add-f-2
 
 pub emit_run-requires : goal.emit_run-requires
 emit_run-requires c =
-    input_ready (started (goal.at.emit_run-requires c).After-read_cell-t) (second_space (after-body (goal.at.emit_run-requires c).In-Next))
+    input_ready (started (goal.at.emit_run-requires c).After-read_cell-t) (second_space (after_body (goal.at.emit_run-requires c).In-Next))
 
 pub returns-in_default-emit_run : goal.returns-in_default-emit_run
 returns-in_default-emit_run c =
-    functions (none_second (after-body (goal.at.returns-in_default-emit_run c).In-Next) (input_each (started (goal.at.returns-in_default-emit_run c).After-read_cell-t) c.emit_run.ensures) c.in_default-emit_run.is)
+    functions (none_second (after_body (goal.at.returns-in_default-emit_run c).In-Next) (input_each (started (goal.at.returns-in_default-emit_run c).After-read_cell-t) c.emit_run.ensures) c.in_default-emit_run.is)
 
 pub overflow_add-t : goal.overflow_add-t
 overflow_add-t c = omega (arith, (cells_fit (started (goal.at.overflow_add-t c).After-read_cell-t)).2)
@@ -59,24 +59,24 @@ overflow_add-t-2 c = omega (arith, (cells_fit (started (goal.at.overflow_add-t-2
 
 pub emit_run-requires-2 : goal.emit_run-requires-2
 emit_run-requires-2 c =
-    output_ready (started (goal.at.emit_run-requires-2 c).After-read_cell-t) (third_space (after-input (goal.at.emit_run-requires-2 c).In-Next-emit_run))
+    output_ready (started (goal.at.emit_run-requires-2 c).After-read_cell-t) (third_space (after_input (goal.at.emit_run-requires-2 c).In-Next-emit_run))
 
 pub returns-in_default-emit_run-2 : goal.returns-in_default-emit_run-2
 returns-in_default-emit_run-2 c =
     functions
-    (none_third (after-input (goal.at.returns-in_default-emit_run-2 c).In-Next-emit_run) (output_each (started (goal.at.returns-in_default-emit_run-2 c).After-read_cell-t) c.emit_run-2.ensures) c.in_default-emit_run-2.is)
+    (none_third (after_input (goal.at.returns-in_default-emit_run-2 c).In-Next-emit_run) (output_each (started (goal.at.returns-in_default-emit_run-2 c).After-read_cell-t) c.emit_run-2.ensures) c.in_default-emit_run-2.is)
 
 pub overflow_sub-x : goal.overflow_sub-x
-overflow_sub-x c = (ends (after-output (goal.at.overflow_sub-x c).In-Next-emit_run-2)).0
+overflow_sub-x c = (ends (after_output (goal.at.overflow_sub-x c).In-Next-emit_run-2)).0
 
 pub overflow_sub-y : goal.overflow_sub-y
-overflow_sub-y c = (ends (after-output (goal.at.overflow_sub-y c).In-Next-emit_run-2)).1
+overflow_sub-y c = (ends (after_output (goal.at.overflow_sub-y c).In-Next-emit_run-2)).1
 
 pub overflow_sub-z : goal.overflow_sub-z
-overflow_sub-z c = (ends (after-output (goal.at.overflow_sub-z c).In-Next-emit_run-2)).2
+overflow_sub-z c = (ends (after_output (goal.at.overflow_sub-z c).In-Next-emit_run-2)).2
 
 pub finish-requires : goal.finish-requires
-finish-requires c = last_ready (after-output (goal.at.finish-requires c).In-Next-emit_run-2)
+finish-requires c = last_ready (after_output (goal.at.finish-requires c).In-Next-emit_run-2)
 
 pub returns : goal.returns
-returns c = functions (emitted (after-output (goal.at.returns c).In-Next-emit_run-2) c.finish.ensures)
+returns c = functions (emitted (after_output (goal.at.returns c).In-Next-emit_run-2) c.finish.ensures)

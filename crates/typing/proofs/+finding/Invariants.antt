@@ -1,0 +1,43 @@
+-- Finding and checking meet their contracts. The measure is the term's cell with a mode: 4 * i for an arm, 4 * i + 1 for `find_two`,
+-- 4 * i + 2 for `find`, 4 * i + 3 for `find_left` and `check`; parts are lower cells. Assumes nothing.
+use Rattle.std.proofs.Common.{◌+◌, ◌*◌}
+use Rattle.typing.proofs.+finding.Given as goal
+
+abbrev pub decreases-check : goal.decreases-check
+decreases-check l = 4 * l.i + 3
+
+abbrev pub decreases-find : goal.decreases-find
+decreases-find l = 4 * l.i + 2
+
+abbrev pub decreases-find_anno : goal.decreases-find_anno
+decreases-find_anno l = 4 * l.i
+
+abbrev pub decreases-find_app : goal.decreases-find_app
+decreases-find_app l = 4 * l.i
+
+abbrev pub decreases-find_choice : goal.decreases-find_choice
+decreases-find_choice l = 4 * l.i
+
+abbrev pub decreases-find_fix : goal.decreases-find_fix
+decreases-find_fix l = 4 * l.i
+
+abbrev pub decreases-find_lam : goal.decreases-find_lam
+decreases-find_lam l = 4 * l.i
+
+abbrev pub decreases-find_left : goal.decreases-find_left
+decreases-find_left l = 4 * l.i + 3
+
+abbrev pub decreases-find_merge : goal.decreases-find_merge
+decreases-find_merge l = 4 * l.i
+
+abbrev pub decreases-find_proj : goal.decreases-find_proj
+decreases-find_proj l = 4 * l.i
+
+abbrev pub decreases-find_rcd : goal.decreases-find_rcd
+decreases-find_rcd l = 4 * l.i
+
+abbrev pub decreases-find_sum : goal.decreases-find_sum
+decreases-find_sum l = 4 * l.i
+
+abbrev pub decreases-find_two : goal.decreases-find_two
+decreases-find_two l = 4 * l.i + 1
