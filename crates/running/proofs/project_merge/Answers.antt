@@ -10,7 +10,7 @@ pub value_part-requires : goal.value_part-requires
 value_part-requires c = search merge_value
 
 pub returns-in_default : goal.returns-in_default
-returns-in_default c =
+returns-in_default c h =
     c.become_top.ensures.says h (none_only _ _ c.requires c.value_part.ensures h c.in_default.is)
 
 pub overflow_sub-n : goal.overflow_sub-n
@@ -29,6 +29,6 @@ pub became-requires : goal.became-requires
 became-requires c = search redex_low
 
 pub returns : goal.returns
-returns c =
+returns c h =
     becomes_at c.became.ensures
     (projects_part _ _ c.requires c.value_part.ensures c.in-Cells.is c.shift.ensures)

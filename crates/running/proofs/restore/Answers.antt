@@ -1,12 +1,12 @@
 -- `running::restore` meets its contract. Assumes nothing.
 use native.Mathlib.Omega.{arith}
-use borrow.Author.Tests.{eqb-true, eqb-false}
 use mathlib.Core.Path.{refl}
 use mathlib.Core.Logic.{inl, inr}
 use Rattle.running.proofs.Unwinding.{restore_within}
 use Rattle.running.proofs.Settling.{restore_fits, first_restores, second_restores}
 use Rattle.std.proofs.Common.{rules}
 use Rattle.running.proofs.restore.Goals as goal
+use Rattle.running.proofs.restore.Goals.{then-t-eq0-via-then-t-eq0, then-t-eq0-via-else-t-eq0+then-t-eq27}
 
 pub write_cell-requires : goal.write_cell-requires
 write_cell-requires c =
@@ -17,7 +17,7 @@ write_cell-requires c =
 pub returns-then-t-eq0 : goal.returns-then-t-eq0
 returns-then-t-eq0 c =
     first_restores c.requires c.read_cell-t.ensures
-    (elim c.then-t-eq0.branch [ inl h ↦ inl h.taken | inr h ↦ inr (eqb-true _ 27 h.2.taken) ]) c.write_cell.ensures refl
+    (elim c.then-t-eq0.branch [ then-t-eq0-via-then-t-eq0 h ↦ inl (search h) | then-t-eq0-via-else-t-eq0+then-t-eq27 h ↦ inr (search h) ]) c.write_cell.ensures refl
 
 pub write_cell-requires-2 : goal.write_cell-requires-2
 write_cell-requires-2 c =
@@ -26,4 +26,4 @@ write_cell-requires-2 c =
 
 pub returns : goal.returns
 returns c =
-    second_restores c.requires c.read_cell-t.ensures c.if-t-eq0.false (eqb-false _ 27 c.if-t-eq27.false) c.write_cell-2.ensures refl
+    second_restores c.requires c.read_cell-t.ensures c.if-t-eq0.false c.if-t-eq27.false c.write_cell-2.ensures refl
