@@ -4,4 +4,4 @@ use Rattle.std.proofs.Common.{rules}
 use Rattle.running.proofs.cast_top.Goals as goal
 
 pub returns : goal.returns
-returns c = c.become_top.ensures.says h (top_only h c.requires)
+returns c h = c.become_top.ensures.says h (top_only h c.requires)

@@ -21,7 +21,7 @@ loop-next-preserved c = search going_next
 
 pub encode_whole-cells-requires : goal.encode_whole-cells-requires
 encode_whole-cells-requires c =
-    ending_whole c.loop-next.invariant c.step.auto.0 c.step.ensures c.in-Ended.is
+    ending_whole c.loop-next.invariant c.step.auto.s c.step.ensures c.in-Ended.is
 
 pub returns-in-Ended : goal.returns-in-Ended
 returns-in-Ended c = search going_ends

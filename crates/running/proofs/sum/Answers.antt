@@ -15,5 +15,5 @@ become_single-requires c = sum_ready c.requires c.add_held-z.ensures
 
 pub returns : goal.returns
 returns c =
-    sum_becomes c.requires c.read_number.ensures{-?no step-} c.read_number-y.ensures
-    (rw c.half_of_lem.ensures{-?no step-} (goal.at.returns c).After-add_held-z c.add_held-z.ensures) c.become_single.ensures
+    sum_becomes c.requires c.read_number-x.ensures c.read_number-y.ensures
+    (rw c.half_of.ensures at c.add_held-z.ensures) c.become_single.ensures
