@@ -2,7 +2,6 @@
 use native.Mathlib.Omega.{arith}
 use Rattle.running.proofs.Ranges.{redex_start, redex_low, start_within}
 use Rattle.running.proofs.Projecting.{becomes_single}
-use Rattle.std.proofs.Common.{rules}
 use Rattle.running.proofs.become_single.Goals as goal
 
 pub write_cell-requires : goal.write_cell-requires

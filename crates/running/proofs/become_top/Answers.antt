@@ -1,6 +1,5 @@
 -- `running::become_top` meets its contract. Assumes nothing.
 use Rattle.running.proofs.Projecting.{top_single, becomes_top}
-use Rattle.std.proofs.Common.{rules}
 use Rattle.running.proofs.become_top.Goals as goal
 
 pub become_single-requires : goal.become_single-requires

@@ -2,7 +2,6 @@
 use Rattle.running.proofs.Falling.{both_close, both_stay}
 use native.Mathlib.Omega.{arith}
 use Rattle.running.proofs.Ranges.{done_left, done_right, waiting_fits, left_within, up_within}
-use Rattle.std.proofs.Common.{rules}
 use Rattle.running.proofs.both.Goals as goal
 
 pub overflow_sub-whole : goal.overflow_sub-whole

@@ -1,9 +1,8 @@
 -- `running::cast_in_place` meets its contract. Assumes nothing.
 use mathlib.Core.Path.{refl}
-use Rattle.running.specs.Places.{h_became, h_elsewhere}
+use Rattle.running.specs.Places.{h_became}
 use Rattle.running.proofs.Projecting.{becomes_at, redex_root}
 use Rattle.running.proofs.Casting.{value_in, type_in, casts_number}
-use Rattle.std.proofs.Common.{rules}
 use Rattle.running.proofs.cast_in_place.Goals as goal
 
 pub read_cell-y-requires : goal.read_cell-y-requires

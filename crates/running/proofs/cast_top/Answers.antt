@@ -1,6 +1,5 @@
 -- `running::cast_top` meets its contract. Assumes nothing.
 use Rattle.running.proofs.Casting.{top_only}
-use Rattle.std.proofs.Common.{rules}
 use Rattle.running.proofs.cast_top.Goals as goal
 
 pub returns : goal.returns

@@ -1,7 +1,6 @@
 -- `running::contract` meets its contract. Assumes nothing.
 use Rattle.running.proofs.Ranges.{redex_within}
 use Rattle.running.proofs.Contracting.{contracts_in_place}
-use Rattle.std.proofs.Common.{rules}
 use Rattle.running.proofs.contract.Goals as goal
 
 pub read_cell-t-requires : goal.read_cell-t-requires

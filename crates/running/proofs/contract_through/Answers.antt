@@ -2,7 +2,6 @@
 use native.Mathlib.Omega.{arith}
 use Rattle.running.proofs.Ranges.{redex_start, redex_low}
 use Rattle.running.proofs.Contracting.{emit_ready, contracts_full, installing, contracts_next}
-use Rattle.std.proofs.Common.{rules}
 use Rattle.running.proofs.contract_through.Goals as goal
 
 pub overflow_add-m : goal.overflow_add-m

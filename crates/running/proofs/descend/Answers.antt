@@ -2,7 +2,6 @@
 use native.Mathlib.Omega.{arith}
 use Rattle.running.proofs.Ranges.{descending_fits, root_within}
 use Rattle.running.proofs.Enters.{enters_below}
-use Rattle.std.proofs.Common.{rules}
 use Rattle.running.proofs.descend.Goals as goal
 
 pub write_cell-requires : goal.write_cell-requires

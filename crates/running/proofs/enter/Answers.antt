@@ -1,8 +1,6 @@
 -- `running::enter` meets its contract. Assumes nothing.
-use mathlib.Core.Logic.{inl, inr}
 use Rattle.running.proofs.Ranges.{root_within, kind_at}
 use Rattle.running.proofs.Enters.{enters_redex}
-use Rattle.std.proofs.Common.{rules}
 use Rattle.running.proofs.enter.Goals as goal
 
 pub read_cell-t-requires : goal.read_cell-t-requires

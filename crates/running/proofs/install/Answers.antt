@@ -1,9 +1,7 @@
 -- `running::install` meets its contract. Assumes nothing.
 use mathlib.Core.Path.{sym, subst}
 use Rattle.running.specs.Places.{Installs}
-use Rattle.running.proofs.Halving.{halving}
-use Rattle.running.proofs.Contracting.{ordered, root_low, place_left, installs_left, last_some, last_within, inside_within}
-use Rattle.std.proofs.Common.{rules}
+use Rattle.running.proofs.Contracting.{ordered, root_low, place_left, installs_left, last_some, inside_within}
 use Rattle.running.proofs.install.Goals as goal
 
 pub overflow_sub-n : goal.overflow_sub-n

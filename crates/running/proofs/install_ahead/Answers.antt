@@ -1,7 +1,6 @@
 -- `running::install_ahead` meets its contract. Assumes nothing.
 use native.Mathlib.Omega.{arith}
 use Rattle.running.proofs.Contracting.{ordered, root_low, place_right, installs_right}
-use Rattle.std.proofs.Common.{rules}
 use Rattle.running.proofs.install_ahead.Goals as goal
 
 pub overflow_sub-n : goal.overflow_sub-n

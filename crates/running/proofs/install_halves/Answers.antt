@@ -1,7 +1,6 @@
 -- `running::install_halves` meets its contract. Assumes nothing.
 use native.Mathlib.Omega.{arith}
 use Rattle.running.proofs.Halving.{low, high, apart, left_low, root_small, end_small, place_function, place_type, root_within, installs_halves}
-use Rattle.std.proofs.Common.{rules}
 use Rattle.running.proofs.install_halves.Goals as goal
 
 pub overflow_add-done : goal.overflow_add-done

@@ -1,7 +1,6 @@
 -- `running::leave` meets its contract. Assumes nothing.
 use Rattle.running.proofs.Ranges.{up_within}
-use Rattle.running.proofs.Leaves.{leaves_whole, waiting_one}
-use Rattle.std.proofs.Common.{rules}
+use Rattle.running.proofs.Leaves.{leaves_whole}
 use Rattle.running.proofs.leave.Goals as goal
 
 pub returns-then-p-eq0 : goal.returns-then-p-eq0

@@ -1,7 +1,5 @@
 -- `running::project` meets its contract. Assumes nothing.
-use Rattle.running.proofs.Ranges.{kind_at}
 use Rattle.running.proofs.Projecting.{becomes_at, redex_root, value_within, value_left, projects_top, projects_record}
-use Rattle.std.proofs.Common.{rules}
 use Rattle.running.proofs.project.Goals as goal
 
 pub read_cell-v-requires : goal.read_cell-v-requires

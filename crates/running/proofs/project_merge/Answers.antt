@@ -3,7 +3,6 @@ use native.Mathlib.Omega.{arith}
 use Rattle.running.proofs.Ranges.{redex_low}
 use Rattle.running.proofs.Projecting.{becomes_at}
 use Rattle.running.proofs.MergeReads.{merge_value, part_range, part_shift, none_only, projects_part}
-use Rattle.std.proofs.Common.{rules}
 use Rattle.running.proofs.project_merge.Goals as goal
 
 pub value_part-requires : goal.value_part-requires

@@ -4,7 +4,6 @@ use mathlib.Core.Path.{refl}
 use mathlib.Core.Logic.{inl, inr}
 use Rattle.running.proofs.Unwinding.{restore_within}
 use Rattle.running.proofs.Settling.{restore_fits, first_restores, second_restores}
-use Rattle.std.proofs.Common.{rules}
 use Rattle.running.proofs.restore.Goals as goal
 use Rattle.running.proofs.restore.Goals.{then-t-eq0-via-then-t-eq0, then-t-eq0-via-else-t-eq0+then-t-eq27}
 

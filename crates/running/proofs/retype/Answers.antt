@@ -3,7 +3,6 @@ use native.Mathlib.Omega.{arith}
 use Rattle.running.proofs.Ranges.{redex_low}
 use Rattle.running.proofs.Projecting.{becomes_at}
 use Rattle.running.proofs.Casting.{type_some, body_low, ends_low, retype_shift, retypes}
-use Rattle.std.proofs.Common.{rules}
 use Rattle.running.proofs.retype.Goals as goal
 
 pub overflow_add-at : goal.overflow_add-at

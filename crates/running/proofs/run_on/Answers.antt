@@ -1,7 +1,5 @@
 -- `running::run_on` meets its contract. Assumes nothing.
-use Prim.Native.Nat.{◌-◌}
-use Rattle.running.proofs.Loop.{AllGoing, going_first, going_ready, going_less, going_next, ending_whole, going_ends}
-use Rattle.std.proofs.Common.{rules}
+use Rattle.running.proofs.Loop.{going_first, going_ready, going_less, going_next, ending_whole, going_ends}
 use Rattle.running.proofs.run_on.Goals as goal
 
 pub start-requires : goal.start-requires

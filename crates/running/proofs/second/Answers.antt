@@ -2,7 +2,6 @@
 use Rattle.running.proofs.Falling.{turns}
 use native.Mathlib.Omega.{arith}
 use Rattle.running.proofs.Ranges.{done_left, done_start, waiting_fits, up_within}
-use Rattle.std.proofs.Common.{rules}
 use Rattle.running.proofs.second.Goals as goal
 
 pub overflow_sub-p : goal.overflow_sub-p

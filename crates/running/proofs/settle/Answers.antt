@@ -1,7 +1,5 @@
 -- `running::settle` meets its contract. Assumes nothing.
-use Rattle.running.specs.Places.{distance}
-use Rattle.running.proofs.Settling.{Under, under_first, under_next, under_ready, under_falls, under_redex, under_whole}
-use Rattle.std.proofs.Common.{rules}
+use Rattle.running.proofs.Settling.{under_first, under_next, under_ready, under_falls, under_redex, under_whole}
 use Rattle.running.proofs.settle.Goals as goal
 
 pub loop-focus-init : goal.loop-focus-init

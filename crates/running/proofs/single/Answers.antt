@@ -2,7 +2,6 @@
 use Rattle.running.proofs.Falling.{single_closes, single_stays}
 use Rattle.running.proofs.Ranges.{done_left, done_right, waiting_fits, left_within, up_within}
 use native.Mathlib.Omega.{arith}
-use Rattle.std.proofs.Common.{rules}
 use Rattle.running.proofs.single.Goals as goal
 
 pub overflow_sub-whole : goal.overflow_sub-whole

@@ -1,5 +1,5 @@
 -- `running::step` meets its contract. Assumes nothing.
-use Rattle.running.proofs.Turning.{turn_value, turn_spent, redex_ready, turn_room, contracted_ready, settled_gap, turn_next}
+use Rattle.running.proofs.Turning.{turn_value, turn_spent, turn_room, contracted_ready, settled_gap, turn_next}
 use Rattle.running.proofs.step.Goals as goal
 
 pub returns-in_default : goal.returns-in_default

@@ -1,7 +1,5 @@
 -- `running::sum` meets its contract. Assumes nothing.
 use Rattle.running.proofs.Summing.{left_ready, right_ready, sum_ready, sum_becomes}
-use Rattle.numbers.proofs.Distances.{half_ready}
-use Rattle.std.proofs.Common.{rules}
 use Rattle.running.proofs.sum.Goals as goal
 
 pub read_number-x-requires : goal.read_number-x-requires

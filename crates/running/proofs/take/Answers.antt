@@ -2,7 +2,6 @@
 use native.Mathlib.Omega.{arith}
 use Rattle.running.proofs.Ranges.{ahead_low, ahead_some}
 use Rattle.running.proofs.Enters.{focus_cells, enters_value}
-use Rattle.std.proofs.Common.{rules}
 use Rattle.running.proofs.take.Goals as goal
 
 pub overflow_add-n : goal.overflow_add-n

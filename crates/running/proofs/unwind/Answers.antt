@@ -1,7 +1,6 @@
 -- `running::unwind` meets its contract. Assumes nothing.
 use Rattle.running.proofs.Unwinding.{around_low}
-use Rattle.running.proofs.Settling.{Outward, outward, outward_first, restore_ready, outward_next, outward_less, outward_ends}
-use Rattle.std.proofs.Common.{rules}
+use Rattle.running.proofs.Settling.{outward_first, restore_ready, outward_next, outward_less, outward_ends}
 use Rattle.running.proofs.unwind.Goals as goal
 
 pub loop-around-init : goal.loop-around-init
