@@ -384,7 +384,7 @@ fn kinds(version: Version) -> Vec<(String, String)> {
             Some("term") => "terms",
             _ => "plain",
         };
-        (meaning.clone(), format!("{kind} {sort}-sort {}", fields.iter().map(used).collect::<Vec<_>>().join(" ")))
+        (meaning.clone(), format!("{kind} {sort}_sort {}", fields.iter().map(used).collect::<Vec<_>>().join(" ")))
     };
     let (own, other) = match version {
         Version::One => ("version 1", "version 2"),
