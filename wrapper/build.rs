@@ -1,5 +1,5 @@
 //! Finds the static library: the file or folder that CEREALBANK_LIB names, as seen from this folder, else target/staticlib of the
-//! repository, where `rt staticlib cerealbank` writes it.
+//! repository, where `tools/build library` writes it.
 
 use std::env;
 use std::path::PathBuf;
@@ -21,7 +21,7 @@ fn main() {
             println!("cargo:rustc-link-lib=static={name}");
         }
         _ => {
-            println!("cargo:warning=no library at {}: run `rt staticlib cerealbank`, or set CEREALBANK_LIB", file.display());
+            println!("cargo:warning=no library at {}: run `tools/build library`, or set CEREALBANK_LIB", file.display());
             println!("cargo:rustc-cfg=library_missing");
         }
     }

@@ -73,7 +73,7 @@ fn printed(program: &Path, books: &[&Path]) -> String {
 fn on_the_desk(book: &Path) -> String {
     let program = Path::new(REPOSITORY).join(DESK);
     let output = Command::new(&program).stdin(fs::File::open(book).expect("a book")).output();
-    written(output.unwrap_or_else(|error| panic!("{DESK}, which `rt check desk` builds: {error}")), &program, &[book])
+    written(output.unwrap_or_else(|error| panic!("{DESK}, which `tools/build desk` builds: {error}")), &program, &[book])
 }
 
 /// The books of a folder.

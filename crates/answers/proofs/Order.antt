@@ -14,7 +14,9 @@ use Rattle.calculus.specs.Order.{swapped, to_right, SameValue}
 use Rattle.calculus.proofs.TypedReduction.{cast_to}
 use Rattle.calculus.proofs.Typing.{typed_closed}
 use Rattle.calculus.proofs.Soundness.{value_no_step}
-use Rattle.calculus.proofs.Order.{reordered_sym, reordered_value, reordered_size, order_free, anno_step, anno_reordered, step_reordered}
+use Rattle.calculus.proofs.Reordered.{reordered_sym, reordered_value, reordered_size}
+use Rattle.calculus.proofs.Order.{order_free}
+use Rattle.calculus.proofs.OrderUses.{anno_step, anno_reordered, step_reordered}
 use Rattle.format.specs.declared.Version.{Version}
 use Rattle.format.specs.Version.{half_of}
 use Rattle.format.specs.Cell.{IsBytes}

@@ -7,7 +7,8 @@ use Rattle.calculus.specs.Syntax.{Term, size}
 use Rattle.calculus.specs.Step.{Reaches, r_zero, r_suc}
 use Rattle.calculus.specs.Sheet.{Sheet, count_steps}
 use Rattle.calculus.proofs.Chain.{sound}
-use Rattle.calculus.proofs.Sheet.{sheet_after, sheet_precisely, count_less, sheet_steps}
+use Rattle.calculus.proofs.SheetStep.{count_less}
+use Rattle.calculus.proofs.Sheet.{sheet_after, sheet_precisely, sheet_steps}
 use Rattle.format.specs.declared.Version.{Version}
 use Rattle.format.specs.Version.{half_of}
 use Rattle.format.specs.Book.{size_limit, version_of, root_term}

@@ -18,6 +18,9 @@ pub mod Evaluation
 pub mod Chain
 pub mod Sums
 pub mod WithoutSums
+pub mod Reordered
 pub mod Order
+pub mod OrderUses
+pub mod SheetStep
 pub mod Sheet
 pub mod Agreement

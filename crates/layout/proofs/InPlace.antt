@@ -1,12 +1,11 @@
 -- A tree encoded in another buffer and copied back lies in its own. Assumes nothing.
 use Prim.Native.Nat.{ℕ, ◌*◌, ◌≤◌}
 use native.Mathlib.Omega.{arith}
-use mathlib.Core.Path.{◌≡◌, ◌∙◌}
+use mathlib.Core.Path.{◌∙◌}
 use mathlib.Core.List.{List}
-use lib.ListN.{length}
 use Rattle.moving.specs.Moves.{CopyReady, Copies}
 use Rattle.format.specs.Book.{size_limit}
-use Rattle.layout.specs.Encoding.{EncodedTree, EncodeReady, EncodesTree, InPlaceReady}
+use Rattle.layout.specs.Encoding.{EncodedTree, EncodesTree, InPlaceReady}
 
 module _ {s w s' : List ℕ} {u x n : ℕ} (p : InPlaceReady s w u x) (d : EncodesTree w s' u x n) where
   there : EncodedTree s' n p.ready.field.tree

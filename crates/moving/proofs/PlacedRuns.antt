@@ -90,9 +90,12 @@ module _ {s w : List ℕ} {v t u : ℕ} (o : Placed s w v t u) where
 
   placed : {x n e : ℕ} {y : Use} {g : Tree} → Good Two y g → Among x e → Run false s x y n g e → Run true w (x - v + t) y (rebase v t y n) g (e - v + t)
   placed (leaf h) a z = plainly z
-  placed (cell n so k l f g h) a z =
+  placed {x = x} {n = m} {e = e} (cell n so k l f g h) a z =
       let p = parts z n in
-      again a p n so (placed f (first a p) p.first) (placed g (second a p) p.second) (placed h (third a p) p.third)
+      again a p n so
+      (placed {x = x} {n = p.a} {e = p.y} f (first a p) p.first)
+      (placed {x = p.y} {n = p.b} {e = p.z} g (second a p) p.second)
+      (placed {x = p.z} {n = p.c} {e = m} h (third a p) p.third)
 
 -- a whole run that `place` has brought
 module _ {s w z : List ℕ} {x y n : ℕ} (o : Places s w z x y n) where
