@@ -1,7 +1,6 @@
 -- `engine::check` meets its contract: each return's rows are the definition's, and what it answers means what demand 2 says. Assumes nothing.
 use Rattle.engine.proofs.Judging.{refused_result, past_row_10, started}
 use Rattle.engine.proofs.Checked.{checked_as}
-use Rattle.std.proofs.Common.{rules}
 use Rattle.engine.proofs.check.Goals as goal
 
 pub check_types-requires : goal.check_types-requires

@@ -1,7 +1,6 @@
 -- `engine::check_types` meets its contract. Assumes nothing.
 use mathlib.Core.Path.{◌∙◌}
 use Rattle.engine.proofs.Typing.{type_ready, type_lain, check_found, ill_typed_book, scratch}
-use Rattle.std.proofs.Common.{rules}
 use Rattle.engine.proofs.check_types.Goals as goal
 
 pub encode_in_place-n-requires : goal.encode_in_place-n-requires

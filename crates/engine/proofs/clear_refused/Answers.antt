@@ -1,7 +1,5 @@
 -- `engine::clear_refused` meets its contract. Assumes nothing.
-use mathlib.Core.Path.{refl}
 use Rattle.engine.proofs.Judging.{cleared_work}
-use Rattle.std.proofs.Common.{rules}
 use Rattle.engine.proofs.clear_refused.Goals as goal
 
 pub returns-then-work-eq65536 : goal.returns-then-work-eq65536

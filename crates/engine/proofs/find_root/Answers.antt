@@ -1,10 +1,6 @@
 -- `engine::find_root` meets its contract: the cells are loaded, and typing answers as `infer` does. Assumes nothing.
-use mathlib.Core.Path.{sym}
-use native.Mathlib.Omega.{arith}
-use lib.Seq.{length-take-le}
 use Rattle.engine.proofs.Parts.{loadable}
 use Rattle.engine.proofs.Typing.{ready, root_found}
-use Rattle.std.proofs.Common.{rules}
 use Rattle.engine.proofs.find_root.Goals as goal
 
 pub load-requires : goal.load-requires

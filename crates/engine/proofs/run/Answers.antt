@@ -1,7 +1,6 @@
 -- `engine::run` meets its contract: each return's rows are the definition's; demands 2 and 3 follow. Assumes nothing.
 use Rattle.engine.proofs.Judging.{refused_result, past_row_10, started}
 use Rattle.engine.proofs.Ran.{ran_as}
-use Rattle.std.proofs.Common.{rules}
 use Rattle.engine.proofs.run.Goals as goal
 
 pub run_types-requires : goal.run_types-requires

@@ -3,7 +3,6 @@ use Prim.Native.Nat.{ℕ, ◌≤◌}
 use mathlib.Core.Path.{sym, ◌∙◌, subst}
 use Rattle.engine.proofs.Typing.{scratch}
 use Rattle.engine.proofs.Ran.{root_ready, root_typed, end_encoded, root_runs}
-use Rattle.std.proofs.Common.{rules}
 use Rattle.engine.proofs.run_root.Goals as goal
 
 pub encode_in_place-n-requires : goal.encode_in_place-n-requires

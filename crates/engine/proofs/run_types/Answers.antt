@@ -1,6 +1,5 @@
 -- `engine::run_types` meets its contract. Assumes nothing.
 use Rattle.engine.proofs.Typing.{some_root, run_found, ill_typed_book}
-use Rattle.std.proofs.Common.{rules}
 use Rattle.engine.proofs.run_types.Goals as goal
 
 pub run_root-requires : goal.run_root-requires
