@@ -1,8 +1,5 @@
 -- `joining::judge` meets its contract. Assumes nothing.
-use mathlib.Core.Path.{sym}
 use mathlib.Core.Logic.{inl, inr}
-use native.Mathlib.Omega.{arith}
-use lib.Seq.{length-take-le}
 use Rattle.joining.proofs.Judging.{no_work, not_lent, lengths_judged}
 use Rattle.joining.proofs.judge.Goals as goal
 

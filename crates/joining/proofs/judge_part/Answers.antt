@@ -1,6 +1,6 @@
 -- `joining::judge_part` meets its contract. Assumes nothing.
 use Rattle.std.proofs.Common.{rules}
-use Rattle.joining.proofs.Judging.{joint_judgeable, part_refused, part_judged}
+use Rattle.joining.proofs.Judging.{part_refused, part_judged}
 use Rattle.joining.proofs.judge_part.Goals as goal
 
 pub returns-in-Refused : goal.returns-in-Refused

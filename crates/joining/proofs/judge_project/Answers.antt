@@ -1,6 +1,6 @@
 -- `joining::judge_project` meets its contract. Assumes nothing.
 use Rattle.std.proofs.Common.{rules}
-use Rattle.joining.proofs.Judging.{part_judgeable, project_refused, project_judged}
+use Rattle.joining.proofs.Judging.{project_refused, project_judged}
 use Rattle.joining.proofs.judge_project.Goals as goal
 
 pub returns-in-Refused : goal.returns-in-Refused
