@@ -2,7 +2,7 @@
 // Input past 65,536 bytes is not read: a book of that length is refused as too long.
 #![tactic(auto)]
 
-ghost use Rattle.std.specs.Prelude.{◌≡◌, length};
+ghost use Rattle.std.specs.Prelude.{◌≡◌, ◌≤◌, IfOk, length};
 
 use answers::{CheckOutcome, Refusal, RunOutcome, Stop};
 use cells::{Cell, read_cell};
@@ -91,10 +91,25 @@ fn check_and_print(rt: &impl Print, book: &[u8], work: &mut [u8]) -> io::Result<
     Ok(())
 }
 
+// The bytes of the input, as many as there are and the buffer holds; answers how many.
+fn read_full<R: Read>(input: &mut R, buffer: &mut [u8]) -> io::Result<usize>
+    ensures { IfOk result (λ n. n ≤ length buffer.new) }
+{
+    let mut filled = 0;
+    while filled < buffer.len() {
+        let n = input.read(&mut buffer[filled..])?;
+        if n == 0 {
+            return Ok(filled);
+        }
+        filled += n;
+    }
+    Ok(filled)
+}
+
 // A read or a write that fails ends the program with its error.
 fn main(rt: HostRuntime) -> io::Result<()> {
-    let mut input = Vec::new(rt.alloc());
+    let mut input = [0u8; 65536];
     let mut work = [0u8; 65536];
-    rt.reader().take(65536).read_to_end(&mut input)?;
-    check_and_print(&rt, &input, &mut work)
+    let n = read_full(&mut rt.reader(), &mut input)?;
+    check_and_print(&rt, &input[..n], &mut work)
 }
