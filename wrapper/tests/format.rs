@@ -139,7 +139,7 @@ fn sample(line: &str, definitions: &str) -> (Vec<u8>, Said, Vec<u8>) {
 #[test]
 fn the_samples_of_the_definitions_are_answered_as_they_say() {
     let definitions = text("crates/answers/specs/Samples.antt");
-    for list in ["samples", "fieldReads", "sumsAndChoices", "bodies", "wideNumbers", "orders", "marks"] {
+    for list in ["samples", "field_reads", "sums_and_choices", "bodies", "wide_numbers", "orders", "marks"] {
         for line in listed(list, &definitions) {
             let (book, said, left) = sample(line, &definitions);
             match said {
@@ -174,7 +174,7 @@ fn expected(shown: &str, definitions: &str) -> (Joined, Vec<u8>, Vec<u8>) {
 #[test]
 fn the_sample_joins_of_the_definition_are_answered_as_they_say() {
     let definitions = text("crates/joining/specs/Samples.antt");
-    for line in listed("joinSamples", &definitions) {
+    for line in listed("join_samples", &definitions) {
         let (_, books) = line.rsplit_once("\" ").expect("a name");
         let (project, books) = books.split_once(' ').expect("a project");
         let (part, shown) = books.split_once(' ').expect("a part");
@@ -193,7 +193,7 @@ fn the_sample_joins_of_the_definition_are_answered_as_they_say() {
 #[test]
 fn the_sample_sheets_of_the_definition_are_answered_as_they_say() {
     let definitions = text("crates/sheets/specs/Samples.antt");
-    for line in listed("sheetSamples", &definitions) {
+    for line in listed("sheet_samples", &definitions) {
         let (_, sample) = line.rsplit_once("\" ").expect("a name");
         let (book, shown) = sample.split_once(' ').expect("a book");
         let book = bytes(book, &definitions);
@@ -384,7 +384,7 @@ fn kinds(version: Version) -> Vec<(String, String)> {
             Some("term") => "terms",
             _ => "plain",
         };
-        (meaning.clone(), format!("{kind} {sort}-sort {}", fields.iter().map(used).collect::<Vec<_>>().join(" ")))
+        (meaning.clone(), format!("{kind} {sort}_sort {}", fields.iter().map(used).collect::<Vec<_>>().join(" ")))
     };
     let (own, other) = match version {
         Version::One => ("version 1", "version 2"),
@@ -427,7 +427,7 @@ fn same_as_the_evaluators(version: Version) {
         let Row { kind, meaning: word, sort, labelled, .. } = row;
         let sort = if *sort == Sort::Type { "type" } else { "term" };
         let label = if *labelled { "plain" } else { "unused" };
-        assert_eq!(shown, &format!("{kind} {sort}-sort {label} {}", row.fields_in(version).map(used).join(" ")));
+        assert_eq!(shown, &format!("{kind} {sort}_sort {label} {}", row.fields_in(version).map(used).join(" ")));
         assert!(meaning.contains(word), "{kind}: {meaning}");
     }
 }

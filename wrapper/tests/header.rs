@@ -118,8 +118,8 @@ fn named(answer: &str) -> String {
 
 /// The tags of the definition under the header's names, and the last number before them: up to it, the tags are refusals.
 fn defined_tags() -> BTreeMap<String, usize> {
-    let mut tags = numbers(["tagOf (", " n) = ", ""], &definition());
-    tags.append(&mut numbers(["stopTag ", " = ", ""], &definition()));
+    let mut tags = numbers(["tag_of (", " n) = ", ""], &definition());
+    tags.append(&mut numbers(["stop_tag ", " = ", ""], &definition()));
     let last = tags.values().min().expect("a tag") - 1;
     let tags = tags.into_iter().map(|(name, tag)| (named(&name), tag));
     tags.chain([("LAST_REFUSAL".to_string(), last)]).collect()
@@ -184,7 +184,7 @@ fn the_header_and_the_wrapper_have_the_books_of_the_definition() {
         all.retain(|name, _| name.starts_with("OF_"));
         all
     };
-    let books = numbers(["whichNumber ", " = ", ""], &definition_of_joins());
+    let books = numbers(["which_number_lem ", " = ", ""], &definition_of_joins());
     assert_eq!(books.keys().collect::<Vec<_>>(), ["Joint", "Part", "Project"]);
     let books = books.into_iter().map(|(book, number)| (format!("OF_{}", book.to_uppercase()), number));
     assert_eq!(of_join(constants()), books.collect());
@@ -230,7 +230,7 @@ fn the_header_and_the_wrapper_have_the_places_of_the_definition() {
     let in_header = BTreeMap::from(in_header);
     let in_wrapper = numbers(["const ", "_PLACE: u32 = ", ";"], &read("src/lib.rs")).into_iter();
     assert_eq!(in_wrapper.map(|(name, bit)| (name.to_lowercase(), 1 << bit)).collect::<BTreeMap<_, _>>(), in_header);
-    let defined = [definition(), definition_of_joins()].map(|text| numbers(["", "Place = ", ""], &text));
+    let defined = [definition(), definition_of_joins()].map(|text| numbers(["", "_place = ", ""], &text));
     assert_eq!(defined.into_iter().flatten().collect::<BTreeMap<_, _>>(), in_header);
     assert_eq!(in_macro("TAG", "& ") + 1, in_header["second"] / in_header["tag"], "the mask of the tag");
     assert_eq!(in_header["which"], in_header["second"]);
@@ -258,8 +258,8 @@ fn the_mark_is_the_second_figure_of_the_definition() {
         let cases = [("accepted", accepted), ("refused", refused), ("stopped", stopped)];
         BTreeMap::from(cases.map(|(case, figure)| (case.to_string(), figure)))
     };
-    assert_eq!(figures("valueOf"), in_order([Some(0), Some(1), Some(1)]));
-    assert_eq!(figures("secondOf"), in_order([None, None, Some(2)]));
+    assert_eq!(figures("value_of"), in_order([Some(0), Some(1), Some(1)]));
+    assert_eq!(figures("second_of"), in_order([None, None, Some(2)]));
     assert!(is_second_figure("MARK"));
 }
 
@@ -271,7 +271,7 @@ fn is_second_figure(name: &str) -> bool {
 /// The count of a sheet stands beside a check's tag and value.
 #[test]
 fn the_count_of_a_sheet_is_the_second_figure_of_the_definition() {
-    let packed = "\npackedSheet x = x .steps * secondPlace + tagOf (x .answer) * tagPlace + valueOf (x .answer)\n";
+    let packed = "\npacked_sheet x = x.steps * second_place + tag_of x.answer * tag_place + value_of x.answer\n";
     assert!(read("../crates/sheets/specs/Exported.antt").contains(packed));
     assert!(is_second_figure("STEPS"));
 }
@@ -297,7 +297,7 @@ fn the_header_and_the_engine_agree() {
 fn a_source_in_rattle_is_understood() {
     let source = "
         // Not this: pub extern \"C\" fn old(book: &[u8]) -> u64
-        #[no_mangle]
+        #[unsafe(no_mangle)]
         pub extern \"C\" fn one(book: &[u8], work: &mut [u8],
             limit: u32,
         ) -> u64 { 0 }

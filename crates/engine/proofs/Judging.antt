@@ -22,7 +22,6 @@ use Rattle.answers.specs.declared.Refusal.TheVariants.{Buffer}
 use Rattle.book.specs.Form.{FormCheck, FormsAs}
 use Rattle.book.proofs.Formed.{formed}
 use Rattle.book.specs.declared.Form.{Form}
-use Rattle.book.specs.declared.Form.TheVariants as Form
 use Rattle.engine.specs.Stages.{FirstRows, row_1, rows_2_to_10, LeftByRefusal, Formed, Gives, AfterTyping}
 
 pub cleared_work : {v : List ℕ} {n : ℕ} → v ≡ replicate n 0 → n ≡ work_length → v ≡ zeros work_length

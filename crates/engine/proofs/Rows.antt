@@ -64,6 +64,11 @@ module _ (b w : List ℕ) where
   cell_row i bad_unnamed h e o = unnamed h e
   cell_row i bad_reference h e o = reference h e
   cell_row i bad_sort h e o = sort h e
+  cell_row i bad_length h e o = elim o [ ]
+  cell_row i bad_trailer h e o = elim o [ ]
+  cell_row i bad_count h e o = elim o [ ]
+  cell_row i bad_root h e o = elim o [ ]
+  cell_row i bad_size h e o = elim o [ ]
 
   -- ---- rows 2 to 10
 

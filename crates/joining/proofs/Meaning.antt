@@ -7,7 +7,7 @@ use mathlib.Core.List.{List, [], ◌∷◌}
 use lib.Dec.{lit<}
 use lib.ListN.{length, take}
 use lib.Seq.{take_at, drop_at, take_all}
-use Rattle.calculus.specs.Syntax.{Ty, Term, size, size_type}
+use Rattle.calculus.specs.Syntax.{Ty, Term, size_type}
 use Rattle.calculus.specs.Typing.{Typed}
 use Rattle.format.specs.Cell.{IsBytes}
 use Rattle.format.specs.Book.{size_limit, WellFormed, root_term}

@@ -1,7 +1,7 @@
 -- Joins with their whole answers, by document 02, (vi). Books, joints and the types left in the work buffer are literals. Assumes nothing.
 use Rattle.std.specs.Prelude.{ℕ, ◌≡◌, List, [], ◌∷◌, ◌++◌, length, take}
 use Prim.Native.String.{String}
-use Rattle.answers.specs.Answer.{refused, accepted, result}
+use Rattle.answers.specs.Answer.{accepted, result}
 use Rattle.answers.specs.Engine.{IsWork, padded}
 use Rattle.answers.specs.Definition.{refusal_result}
 use Rattle.answers.specs.Samples.{line}

@@ -9,7 +9,7 @@ use mathlib.Core.Option.{some}
 use lib.Dec.{T}
 use lib.ListN.{length, take, drop}
 use lib.Seq.{sets, sets-eq, length-take-le}
-use Rattle.calculus.specs.Syntax.{Ty, Term, anno, app, fix, proj, sum, choice, size}
+use Rattle.calculus.specs.Syntax.{Ty, Term, var, lit, unit, lam, merge, rcd, anno, app, fix, proj, sum, choice, size}
 use Rattle.calculus.specs.Decide.{is_value}
 use Rattle.calculus.specs.Evaluate.{next}
 use Rattle.calculus.specs.Step.{Step, s_anno, s_cast}
@@ -202,6 +202,12 @@ module _ {w : List ℕ} (p : Place) {e : Term} (s : Standing w (Redex p) e) (r :
   redex_of (fix g A) f (of_fix i x) k m = Reduction.at_fix (runs_term f x)
   redex_of (proj l v) f (of_proj c x y i) k m = absurd (k (kind_of_lem c))
   redex_of (sum v u) f (of_sum d) k m = absurd (m (kind_of_lem d.cell))
+  redex_of (var _) f x5 k m = elim x5 [ ]
+  redex_of (lit _) f x6 k m = elim x6 [ ]
+  redex_of unit f x6 k m = elim x6 [ ]
+  redex_of (lam _ _ _) f x10 k m = elim x10 [ ]
+  redex_of (merge _ _) f x10 k m = elim x10 [ ]
+  redex_of (rcd _ _) f x11 k m = elim x11 [ ]
 
   pub redex_at : ((cell_at w p.root).kind ≡ 25 → ⊥) → ((cell_at w p.root).kind ≡ 26 → ⊥) → Reduction.Redex w p.root s.focus
   redex_at k m = redex_of s.focus (standing_fits s r) s.at.parts k m

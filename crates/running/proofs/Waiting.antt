@@ -1,6 +1,6 @@
 -- What waits around a focus: it is not touched by what is written in the gap; its cells are counted; and made whole again, cell by cell, it
 -- holds the term with whatever stands for the focus. Over kind and field. Assumes nothing.
-use Prim.Native.Nat.{ℕ, suc, ◌+◌, ◌-◌, ◌≤◌, ◌<◌}
+use Prim.Native.Nat.{ℕ, suc, ◌+◌, ◌≤◌, ◌<◌}
 use native.Mathlib.Omega.{arith}
 use mathlib.Core.Bool.{true, false}
 use mathlib.Core.Path.{◌≡◌, sym}

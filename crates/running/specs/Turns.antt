@@ -14,7 +14,6 @@ use Rattle.answers.specs.Answer.{stopped}
 use Rattle.answers.specs.Definition.{ended, run_from}
 use Rattle.layout.specs.Encoding.{EncodedTree}
 use Rattle.answers.specs.Cases.{stop_answer}
-use Rattle.answers.specs.declared.Stop.{Stop}
 use Rattle.answers.specs.declared.Stop.TheVariants.{Value, Spent, Room}
 use Rattle.running.specs.Places.{Standing, Runnable, FocusReady, Settled}
 use Rattle.running.specs.declared.Focus.{Focus}

@@ -11,42 +11,37 @@ use book::{Form, check_form};
 use cells::{Cell, write_cell};
 use engine::{check, run};
 use equality::same_tree;
-use libc::STDOUT_FILENO;
+use std::io;
 
-fn print_refusal(r: Refusal) {
-    io::write_all(STDOUT_FILENO, b"refused ");
-    io::print_decimal(STDOUT_FILENO, answers::row(r) as u64);
-    io::write_all(STDOUT_FILENO, b" ");
-    io::print_decimal(STDOUT_FILENO, answers::cell(r) as u64);
-    io::write_all(STDOUT_FILENO, b"\n");
+fn print_refusal(rt: &impl Print, r: Refusal) -> io::Result<()> {
+    println!(rt; "refused {} {}", answers::row(r), answers::cell(r))
 }
 
-fn print_word(word: &[u8], n: usize) {
-    io::write_all(STDOUT_FILENO, word);
-    io::print_decimal(STDOUT_FILENO, n as u64);
-    io::write_all(STDOUT_FILENO, b"\n");
+fn print_word(rt: &impl Print, word: &[u8], n: usize) -> io::Result<()> {
+    rt.write_all(word)?;
+    println!(rt; "{n}")
 }
 
-fn print_stop(s: Stop, mark: usize) {
+fn print_stop(rt: &impl Print, s: Stop, mark: usize) -> io::Result<()> {
     match s {
-        Stop::Value(n) => print_word(b"value ", n as usize),
-        Stop::Spent(n) => print_word(b"spent ", n as usize),
-        Stop::Room(n) => print_word(b"room ", n as usize),
+        Stop::Value(n) => print_word(rt, b"value ", n as usize)?,
+        Stop::Spent(n) => print_word(rt, b"spent ", n as usize)?,
+        Stop::Room(n) => print_word(rt, b"room ", n as usize)?,
     }
-    print_word(b"mark ", mark);
+    print_word(rt, b"mark ", mark)
 }
 
-fn print_checked(o: CheckOutcome) {
+fn print_checked(rt: &impl Print, o: CheckOutcome) -> io::Result<()> {
     match o {
-        CheckOutcome::Refused(r) => print_refusal(r),
-        CheckOutcome::Accepted(n) => print_word(b"accepted ", n),
+        CheckOutcome::Refused(r) => print_refusal(rt, r),
+        CheckOutcome::Accepted(n) => print_word(rt, b"accepted ", n),
     }
 }
 
-fn print_ran(o: RunOutcome) {
+fn print_ran(rt: &impl Print, o: RunOutcome) -> io::Result<()> {
     match o {
-        RunOutcome::Refused(r) => print_refusal(r),
-        RunOutcome::Stopped(s, mark) => print_stop(s, mark),
+        RunOutcome::Refused(r) => print_refusal(rt, r),
+        RunOutcome::Stopped(s, mark) => print_stop(rt, s, mark),
     }
 }
 
@@ -86,34 +81,43 @@ fn chain(book: &mut [u8], leaf: Cell, kind: u8, label: u8, both: bool, k: usize)
     8 * (k + 2)
 }
 
-fn check_chain(leaf: Cell, kind: u8, label: u8, both: bool, k: usize)
+fn check_chain(
+    rt: &impl Print,
+    leaf: Cell,
+    kind: u8,
+    label: u8,
+    both: bool,
+    k: usize,
+) -> io::Result<()>
     requires { Leaf leaf k }
 {
     let mut book = [0u8; 32768];
-    let mut work = io::large_buffer();
+    let mut work = [0u8; 65536];
     let n = chain(&mut book, leaf, kind, label, both, k);
-    print_checked(check(&book[..n], &mut work));
+    print_checked(rt, check(&book[..n], &mut work))
 }
 
-fn run_and_print(book: &[u8], limit: u32) {
-    let mut work = io::large_buffer();
-    print_ran(run(book, &mut work, limit));
+fn run_and_print(rt: &impl Print, book: &[u8], limit: u32) -> io::Result<()> {
+    let mut work = [0u8; 65536];
+    print_ran(rt, run(book, &mut work, limit))
 }
 
 // The fixpoint at Int whose body is its own variable: Int, the variable, the fixpoint.
-fn run_fixpoint(limit: u32) {
+fn run_fixpoint(rt: &impl Print, limit: u32) -> io::Result<()> {
     run_and_print(
+        rt,
         b"\x01\x00\x00\x00\x00\x00\x00\x00\x10\x00\x00\x00\x00\x00\x00\x00\x17\x00\x01\x00\x00\x00\x00\x00\xf0\x01\x03\x00\x02\x00\x00\x00",
         limit,
-    );
+    )
 }
 
 // A function that returns 1, its input the intersection of 100 function types, applied to a function with a body of 68 cells.
-fn run_ignored() {
+fn run_ignored(rt: &impl Print) -> io::Result<()> {
     run_and_print(
+        rt,
         b"\x01\x00\x00\x00\x00\x00\x00\x00\x03\x00\x00\x00\x00\x00\x00\x00\x04\x00\x01\x00\x01\x00\x00\x00\x04\x00\x02\x00\x02\x00\x00\x00\x04\x00\x03\x00\x03\x00\x00\x00\x04\x00\x04\x00\x04\x00\x00\x00\x04\x00\x05\x00\x05\x00\x00\x00\x04\x00\x06\x00\x06\x00\x00\x00\x04\x00\x07\x00\x06\x00\x00\x00\x04\x00\x08\x00\x03\x00\x00\x00\x11\x00\x00\x00\x01\x00\x00\x00\x15\x00\x0a\x00\x09\x00\x00\x00\x02\x00\x00\x00\x00\x00\x00\x00\x15\x00\x0a\x00\x0c\x00\x00\x00\x12\x00\x00\x00\x00\x00\x00\x00\x16\x00\x0e\x00\x0e\x00\x00\x00\x16\x00\x0f\x00\x0f\x00\x00\x00\x16\x00\x10\x00\x10\x00\x00\x00\x16\x00\x11\x00\x11\x00\x00\x00\x16\x00\x12\x00\x12\x00\x00\x00\x14\x00\x0d\x00\x13\x00\x00\x00\x15\x00\x14\x00\x00\x00\x00\x00\x14\x00\x0b\x00\x15\x00\x00\x00\xf0\x01\x17\x00\x16\x00\x00\x00",
         10000,
-    );
+    )
 }
 
 // What comparing two cells of a book comes to: rows 2 to 10 refuse it, it has no such cell, or both are the same tree or not.
@@ -145,60 +149,57 @@ fn compare_cells(book: &[u8], i: usize, j: usize) -> Compared
     Compared::Different
 }
 
-fn print_same(book: &[u8], i: usize, j: usize) {
+fn print_same(rt: &impl Print, book: &[u8], i: usize, j: usize) -> io::Result<()> {
     match compare_cells(book, i, j) {
-        Compared::Malformed => {
-            io::write_all(STDOUT_FILENO, b"malformed\n");
-        }
-        Compared::Missing => {
-            io::write_all(STDOUT_FILENO, b"no such cell\n");
-        }
-        Compared::Same => {
-            io::write_all(STDOUT_FILENO, b"same\n");
-        }
-        Compared::Different => {
-            io::write_all(STDOUT_FILENO, b"different\n");
-        }
+        Compared::Malformed => println!(rt; "malformed"),
+        Compared::Missing => println!(rt; "no such cell"),
+        Compared::Same => println!(rt; "same"),
+        Compared::Different => println!(rt; "different"),
     }
 }
 
 // Functions over two cells of the same variable, the second with another output, merged.
-fn compare_functions(i: usize, j: usize) {
+fn compare_functions(rt: &impl Print, i: usize, j: usize) -> io::Result<()> {
     print_same(
+        rt,
         b"\x01\x00\x00\x00\x00\x00\x00\x00\x10\x00\x00\x00\x00\x00\x00\x00\x15\x00\x01\x00\x00\x00\x00\x00\x10\x00\x00\x00\x00\x00\x00\x00\x02\x00\x00\x00\x00\x00\x00\x00\x04\x00\x00\x00\x04\x00\x00\x00\x15\x00\x03\x00\x00\x00\x05\x00\x16\x00\x02\x00\x06\x00\x00\x00\xf0\x01\x08\x00\x07\x00\x00\x00",
         i,
         j,
-    );
+    )
 }
 
 // Functions with the body x + x, over one cell for the variable and over two, merged.
-fn compare_sums(i: usize, j: usize) {
+fn compare_sums(rt: &impl Print, i: usize, j: usize) -> io::Result<()> {
     print_same(
+        rt,
         b"\x01\x00\x00\x00\x00\x00\x00\x00\x10\x00\x00\x00\x00\x00\x00\x00\x1a\x00\x01\x00\x01\x00\x00\x00\x15\x00\x02\x00\x00\x00\x00\x00\x10\x00\x00\x00\x00\x00\x00\x00\x10\x00\x00\x00\x00\x00\x00\x00\x1a\x00\x04\x00\x05\x00\x00\x00\x15\x00\x06\x00\x00\x00\x00\x00\x16\x00\x03\x00\x07\x00\x00\x00\xf0\x01\x09\x00\x08\x00\x00\x00",
         i,
         j,
-    );
+    )
 }
 
 // Functions with the bodies -1 and 65535, which differ in field c alone, and the top value for a root.
-fn compare_numbers(i: usize, j: usize) {
+fn compare_numbers(rt: &impl Print, i: usize, j: usize) -> io::Result<()> {
     print_same(
+        rt,
         b"\x01\x00\x00\x00\x00\x00\x00\x00\x11\x00\x00\x00\xff\xff\xff\xff\x15\x00\x01\x00\x00\x00\x00\x00\x11\x00\x00\x00\xff\xff\x00\x00\x15\x00\x03\x00\x00\x00\x00\x00\x12\x00\x00\x00\x00\x00\x00\x00\xf0\x01\x06\x00\x05\x00\x00\x00",
         i,
         j,
-    );
+    )
 }
 
 // Two chains of merges, the top value doubled four times over, neither of which the root reaches.
-fn compare_chains(i: usize, j: usize) {
+fn compare_chains(rt: &impl Print, i: usize, j: usize) -> io::Result<()> {
     print_same(
+        rt,
         b"\x12\x00\x00\x00\x00\x00\x00\x00\x12\x00\x00\x00\x00\x00\x00\x00\x16\x00\x01\x00\x01\x00\x00\x00\x16\x00\x02\x00\x02\x00\x00\x00\x16\x00\x03\x00\x03\x00\x00\x00\x16\x00\x04\x00\x04\x00\x00\x00\x12\x00\x00\x00\x00\x00\x00\x00\x16\x00\x06\x00\x06\x00\x00\x00\x16\x00\x07\x00\x07\x00\x00\x00\x16\x00\x08\x00\x08\x00\x00\x00\x16\x00\x09\x00\x09\x00\x00\x00\xf0\x01\x0b\x00\x00\x00\x00\x00",
         i,
         j,
-    );
+    )
 }
 
-fn main() {
+// A write that fails ends the program with its error.
+fn main(rt: HostRuntime) -> io::Result<()> {
     let top = Cell {
         kind: 18,
         label: 0,
@@ -214,24 +215,24 @@ fn main() {
         c: 0,
     };
     // the top value, merged with itself 11 times over by sharing, and 12 times
-    check_chain(top, 22, 0, true, 11);
-    check_chain(top, 22, 0, true, 12);
+    check_chain(&rt, top, 22, 0, true, 11)?;
+    check_chain(&rt, top, 22, 0, true, 12)?;
     // 4,094 records round a number
-    check_chain(one, 24, 7, false, 4094);
-    run_fixpoint(2046);
-    run_fixpoint(2047);
-    run_ignored();
+    check_chain(&rt, one, 24, 7, false, 4094)?;
+    run_fixpoint(&rt, 2046)?;
+    run_fixpoint(&rt, 2047)?;
+    run_ignored(&rt)?;
     // the variables, the functions, their outputs; a cell past the last
-    compare_functions(1, 3);
-    compare_functions(2, 6);
-    compare_functions(0, 5);
-    compare_functions(7, 8);
-    compare_sums(2, 6);
-    compare_sums(3, 7);
-    compare_numbers(1, 3);
-    compare_numbers(2, 4);
+    compare_functions(&rt, 1, 3)?;
+    compare_functions(&rt, 2, 6)?;
+    compare_functions(&rt, 0, 5)?;
+    compare_functions(&rt, 7, 8)?;
+    compare_sums(&rt, 2, 6)?;
+    compare_sums(&rt, 3, 7)?;
+    compare_numbers(&rt, 1, 3)?;
+    compare_numbers(&rt, 2, 4)?;
     // the chains, and parts of them
-    compare_chains(5, 10);
-    compare_chains(4, 9);
-    compare_chains(5, 9);
+    compare_chains(&rt, 5, 10)?;
+    compare_chains(&rt, 4, 9)?;
+    compare_chains(&rt, 5, 9)
 }

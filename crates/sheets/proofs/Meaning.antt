@@ -13,7 +13,7 @@ use Rattle.calculus.specs.Syntax.{Ty, size_type}
 use Rattle.calculus.specs.Typing.{Typed}
 use Rattle.calculus.specs.Sheet.{Sheet, is_sheet, count_steps}
 use Rattle.calculus.proofs.Bools.{T_dec, T_true, T_false, and_says, not_says, eqb_says}
-use Rattle.calculus.proofs.Sheet.{is_sheet_says}
+use Rattle.calculus.proofs.SheetStep.{is_sheet_says}
 use Rattle.format.specs.Cell.{IsBytes}
 use Rattle.format.specs.Book.{Finding, form_finding, WellFormed, version_of, root_of, root_term, type_book}
 use Rattle.format.proofs.Tests.{form_finding_says}

@@ -15,14 +15,12 @@ use Rattle.answers.specs.Definition.{check, judge, shown, refusal_result}
 use Rattle.answers.specs.Cases.{refusal_answer, check_answer}
 use Rattle.answers.specs.declared.Refusal.{Refusal}
 use Rattle.answers.specs.declared.CheckOutcome.{CheckOutcome}
-use Rattle.answers.specs.declared.CheckOutcome.TheVariants as CheckOutcome
 use Rattle.answers.proofs.Cases.{refusal_number}
 use Rattle.answers.proofs.Demands.{clash}
 use Rattle.book.specs.Form.{FormsAs}
 use Rattle.book.specs.declared.Form.{Form}
 use Rattle.book.specs.declared.Form.TheVariants.{Malformed}
 use Rattle.counting.specs.declared.Counted.{Counted}
-use Rattle.counting.specs.declared.Counted.TheVariants as Counted
 use Rattle.counting.specs.declared.Counted.TheVariants.{Steps}
 use Rattle.counting.specs.Counting.{counted, Countable, Counts}
 use Rattle.engine.specs.Stages.{FirstRows, row_1, rows_2_to_10, LeftByRefusal, Formed, Gives, AfterTyping}

@@ -1,0 +1,8 @@
+-- `joining::refuse_zeroed` meets its contract. Assumes nothing.
+use Rattle.answers.specs.Engine.{zeros}
+use Rattle.joining.proofs.refuse_zeroed.Goals as goal
+
+pub returns : goal.returns
+unfolding zeros
+returns c =
+    record { says = c.refused.ensures; zeroed = c.clear.ensures }

@@ -1,0 +1,6 @@
+-- `running::contract_anno` meets its contract. Assumes nothing.
+use Rattle.running.proofs.Contracting.{became_is}
+use Rattle.running.proofs.contract_anno.Goals as goal
+
+pub returns-in-Became : goal.returns-in-Became
+returns-in-Became c = search became_is
