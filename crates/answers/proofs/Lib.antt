@@ -7,5 +7,6 @@ pub mod Demands
 pub mod Impostors
 pub mod Cases
 pub mod Restamping
+pub mod OrderRuns
 pub mod Order
 pub mod Sheets
