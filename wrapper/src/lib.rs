@@ -116,7 +116,7 @@ const TO_VALUE: u8 = 33;
 const SPENT: u8 = 34;
 const NO_ROOM: u8 = 35;
 
-// The lowest bit of the tag and of the second figure. The same file has them as powers of 2, `tagPlace` and `secondPlace`.
+// The lowest bit of the tag and of the second figure. The same file has them as powers of 2, `tag_place` and `second_place`.
 const TAG_PLACE: u32 = 32;
 const SECOND_PLACE: u32 = 40;
 

@@ -5,5 +5,6 @@ pub mod Meaning
 pub mod EitherWay
 pub mod Cases
 pub mod Uses
+pub mod TypeShown
 pub mod Previews
 pub mod Samples

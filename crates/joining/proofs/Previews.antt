@@ -8,7 +8,7 @@ use mathlib.Core.Bool.{true, false, not, ◌&&◌}
 use mathlib.Core.List.{List, []}
 use lib.Dec.{eqb, ltb}
 use lib.ListN.{length, take}
-use Rattle.calculus.specs.Syntax.{Ty, Term, merge, size_type}
+use Rattle.calculus.specs.Syntax.{Ty, merge, size_type}
 use Rattle.calculus.specs.Typing.{Typed}
 use Rattle.calculus.proofs.Typing.{typed_unique, typed_size}
 use Rattle.format.specs.Cell.{IsBytes}
@@ -31,20 +31,10 @@ use Rattle.joining.specs.Previews.{Previews, Foreseen, PreviewAgrees, JoinFollow
 use Rattle.joining.proofs.Stages.{tested}
 use Rattle.joining.proofs.Judging.{check_alike, filled_long}
 use Rattle.joining.proofs.Meaning.{joins}
+use Rattle.joining.proofs.TypeShown.{type_shown}
 use Rattle.joining.proofs.Cases.{never_stopped, same_joined}
 
 -- ---- the call
-
--- the size that an accepted join gives is that of the type of the merge
-type_shown : {l k : List ℕ} {n : ℕ} {q w v : List ℕ} {r : Joined} → Joins l k n q w v r → (m : ℕ) → join_answer r.answer ≡ accepted m →
-    (A : Ty) × Typed [] (merge (root_term (take n l)) (root_term q)) A × (m ≡ size_type A)
-type_shown {w = w} c m e =
-    let x = c.writes m e in
-    let o = x.3.owed in
-    let t = o.demand2.accepts.0 o.accepts in
-    let s = ap (λ (y : Result). y.answer) (o.demand2.shows t.1.0 t.0 t.1.1 w x.1.work) in
-    let z : accepted m ≡ accepted (size_type t.1.0) = sym x.3.answer ∙ s in
-    (t.1.0, subst (λ (y : Term). Typed [] y t.1.0) x.2.opens t.1.1, cc)
 
 pub previews : (l : List ℕ) (n : ℕ) (q w : List ℕ) {v d k : List ℕ} {r : Joined} → Judged l d v r (joined l n q w) → IsBytes l → IsBytes q → k ≡ l → Previews l k n q w v r
 previews l n q w j yl yq e =

@@ -32,8 +32,7 @@ loop-x-smaller t c = (own c.loop-x.invariant c.loop-x-test.true).first_lower
 
 pub loop-x-preserved : goal.loop-x-preserved
 loop-x-preserved t c =
-    to_left c.loop-x.invariant c.loop-x-test.true c.read_cell-y.ensures (λ k. ⊎_elim (λ w. w.1) (λ w. absurd (w k)) c.else-y-eq4.either) c.single_part-right.ensures (joins (rw c.in-Absent.is (beside_none _)))
-    c.read_cell-x-else-y-eq4.ensures
+    to_left c.loop-x.invariant c.loop-x-test.true c.read_cell-y.ensures (λ k. ⊎_elim (λ w. w.1) (λ w. absurd (w k)) c.else-y-eq4.either) c.single_part-right.ensures (joins (rw c.in-Absent.is (beside_none _))) c.read_cell-x-else-y-eq4.ensures
 
 pub loop-x-smaller-in_default : goal.loop-x-smaller-in_default
 loop-x-smaller-in_default t c = (own c.loop-x.invariant c.loop-x-test.true).first_lower
