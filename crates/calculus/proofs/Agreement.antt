@@ -19,7 +19,7 @@ use Rattle.calculus.proofs.Typing.{typed_by_list}
 use Rattle.calculus.proofs.Inference.{no_field_refused, infer_says}
 use Rattle.calculus.proofs.Evaluation.{cast_says, next_says}
 -- Proved there, told here:
--- sums-and-choices : SumsAndChoices
+-- sums_and_choices : SumsAndChoices
 pub use Rattle.calculus.proofs.Sums.{sums_and_choices}
 
 -- every part stands where it stood

@@ -13,9 +13,9 @@ use Rattle.calculus.proofs.Bools.{T_same, T_true, T_false, and_says}
 use Rattle.calculus.proofs.Subtyping.{top_like_above, below_heads, both_say, halves_say, arrows_say, fields_say}
 use Rattle.calculus.proofs.Disjointness.{list→disjoint, disjoint→list, list_sym, top_like_list}
 -- Proved there, told here:
--- topLike?-says : (A : Ty) → T (topLike? A) ↔ TopLike A
--- below?-says : (A B : Ty) → T (below? A B) ↔ Below A B
--- disjoint?-says : (A B : Ty) → T (disjoint? A B) ↔ DisjointByList A B
+-- is_top_like_says : (A : Ty) → T (is_top_like A) ↔ TopLike A
+-- is_below_says : (A B : Ty) → T (is_below A B) ↔ Below A B
+-- is_disjoint_says : (A B : Ty) → T (is_disjoint A B) ↔ DisjointByList A B
 pub use Rattle.calculus.proofs.Subtyping.{is_top_like_says, is_below_says}
 pub use Rattle.calculus.proofs.Disjointness.{is_disjoint_says}
 

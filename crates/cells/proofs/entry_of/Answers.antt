@@ -7,9 +7,6 @@ use Rattle.format.specs.Table.{table, row_in, row_for}
 use Rattle.cells.proofs.Table.{lines, right_at}
 use Rattle.cells.proofs.entry_of.Goals as goal
 
--- no goal for: array-read-entry-at : tie.Need-array-read-entry-at
--- array-read-entry-at c = search rules
-
 pub returns : goal.returns
 unfolding row_for row_in table
-returns c = rw c.entry_at.ensures (right_at (0 ∷ lines (table Two)) 0 refl c.args.kind {-?place-} _ c.place.ensures.0 {-?entry_at-arg2-} (omega arith))
+returns c = rw c.entry_at.ensures (right_at (0 ∷ lines (table Two)) 0 refl c.args.kind _ c.place.ensures.0 {-?entry_at-arg2-} (omega arith))
