@@ -9,4 +9,4 @@ use Rattle.cells.proofs.entry_of.Goals as goal
 
 pub returns : goal.returns
 unfolding row_for row_in table
-returns c = rw c.entry_at.ensures (right_at (0 ∷ lines (table Two)) 0 refl c.args.kind _ c.place.ensures.0 {-?entry_at-arg2-} (omega arith))
+returns c = rw c.entry_at.ensures (right_at (0 ∷ lines (table Two)) 0 refl c.args.kind _ c.place.ensures.0 (omega arith))
