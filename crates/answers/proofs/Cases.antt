@@ -9,7 +9,6 @@ use lib.Dec.{lit<}
 use lib.ListN.{get_elem?}
 use Rattle.answers.specs.Answer.{Answer, refused, accepted, stopped, value, spent, room}
 use Rattle.answers.specs.Cases.{refusal_answer, stop_answer, check_answer, run_answer}
-use Rattle.answers.specs.Exported.{second_of}
 use Rattle.answers.specs.declared.Refusal.{Refusal}
 use Rattle.answers.specs.declared.Refusal.TheVariants.{Buffer, Length, Trailer, Count, Kind, Unnamed, Reference, Sort, Root, Size}
 use Rattle.answers.specs.declared.Refusal.TheVariants.{Unbound, Application, Projection, Merge, Mismatch}
@@ -99,16 +98,3 @@ run_fixes (RunOutcome-as-Refused q) (RunOutcome-as-Refused r) e = ap RunOutcome-
 run_fixes (RunOutcome-as-Refused q) (Stopped s m) e = absurd (refused_alone q (stop_answer s m) (stop_of_lem s m).1 e)
 run_fixes (Stopped s m) (RunOutcome-as-Refused r) e = absurd (refused_alone r (stop_answer s m) (stop_of_lem s m).1 (sym e))
 run_fixes (Stopped s m) (Stopped t n) e = some-injective (Stopped s m) (Stopped t n) (sym (stop_of_lem s m).0 ∙ ap stop_of e ∙ (stop_of_lem t n).0)
-
--- ---- the mark of a run
-
-pub refused_mark : {o : RunOutcome} {q : Refusal} → o ≡ RunOutcome-as-Refused q → 0 ≡ second_of (run_answer o)
-refused_mark {q = q} e = sym (ap (λ (o : RunOutcome). second_of (run_answer o)) e ∙ ap second_of (refusal_number q).2)
-
-pub stopped_mark : {o : RunOutcome} {s : Stop} {m : ℕ} → o ≡ Stopped s m → m ≡ second_of (run_answer o)
-stopped_mark {s = s} {m} e = sym (ap (λ (o : RunOutcome). second_of (run_answer o)) e ∙ by s)
-  where
-    by : (s : Stop) → second_of (stop_answer s m) ≡ m
-    by (Value n) = refl
-    by (Spent n) = refl
-    by (Room n) = refl

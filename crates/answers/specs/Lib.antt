@@ -9,3 +9,4 @@ pub mod Order
 pub mod Sheets
 pub mod Cases
 pub mod Exported
+pub mod Lines

@@ -1,6 +1,6 @@
 pub mod Fields
 pub mod Cells
 pub mod Sizes
-pub mod Root
+pub mod RootRows
 pub mod Formed
 pub mod Parts

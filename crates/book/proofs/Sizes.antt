@@ -1,5 +1,5 @@
 -- Unshared sizes, capped at 4,096: a cell's from those of the lower cells, one more in a list of them. Assumes nothing.
-use Prim.Native.Nat.{ℕ, ◌+◌, ◌≤◌, ◌<◌, min}
+use Prim.Native.Nat.{ℕ, ◌+◌, ◌<◌, min}
 use mathlib.Core.Path.{◌≡◌, refl, ap, ◌∙◌}
 use mathlib.Core.Bool.{true}
 use mathlib.Core.Option.{none, some}
@@ -17,9 +17,10 @@ use Rattle.format.proofs.Unsharing.{tree_at_cell}
 use Rattle.format.proofs.Tests.{FieldOk, Each, cell_fault_says}
 use Rattle.cells.specs.declared.Cell.{Cell}
 use Rattle.cells.specs.declared.Entry.{Entry}
-use Rattle.cells.specs.Coded.{as_cell, use_of}
+use Rattle.cells.specs.Coded.{as_cell, use_of, Refers}
 use Rattle.book.specs.Form.{SizesUpTo, field_size_lem}
-use Rattle.book.proofs.Fields.{Read, lower, uses_of}
+use Rattle.cells.proofs.Rows.{uses}
+use Rattle.book.proofs.Fields.{Read, lower}
 
 -- a field of a cell that passed test 7
 reference_passed : (s : List ℕ) (i : ℕ) (u : Use) (x : ℕ) → FieldOk s i u x → reference_ok_lem i u x ≡ true
@@ -43,9 +44,9 @@ pub record Sized (s z : List ℕ) (i : ℕ) (e : Entry) (t : Cell) : Type 0 wher
   pub b_size : field_size_lem z (use_of e.b) t.b ≡ min 4096 b
   pub c_size : field_size_lem z (use_of e.c) t.c ≡ min 4096 c
   pub whole : cells (tree_at s i) ≡ 1 + (a + b + c)
-  pub a_lower : 2 ≤ e.a → t.a < i
-  pub b_lower : 2 ≤ e.b → t.b < i
-  pub c_lower : 2 ≤ e.c → t.c < i
+  pub a_lower : Refers e.a → t.a < i
+  pub b_lower : Refers e.b → t.b < i
+  pub c_lower : Refers e.c → t.c < i
 
 pub sized : {s : List ℕ} {z : List ℕ} {i : ℕ} {e : Entry} {t : Cell} → Read Two s i e t → cell_fault Two s i ≡ none → SizesUpTo s z i → Sized s z i e t
 unfolding cell_tree cells
@@ -54,7 +55,7 @@ sized {s} {z} {i} {e} {t} read ok h =
     let w = k.row in
     let r : row_of t.kind ≡ some w = rw (← read.is) at k.found in
     let f : Each (FieldOk s i) w (as_cell t) = rw (← read.is) at k.fields in
-    let u = uses_of t.kind e w (read.row ∙ r) in
+    let u = uses t.kind e w (read.row ∙ r) in
     let x : FieldOk s i (use_of e.a) t.a = rw u.a at f.a in
     let y : FieldOk s i (use_of e.b) t.b = rw u.b at f.b in
     let v : FieldOk s i (use_of e.c) t.c = rw u.c at f.c in
@@ -71,10 +72,7 @@ sized {s} {z} {i} {e} {t} read ok h =
       c_lower = lower i e.c t.c (reference_passed s i (use_of e.c) t.c v);
     }
 
--- no sizes, and one more
-pub sizes_none : (s z : List ℕ) → SizesUpTo s z 0
-sizes_none s z = record { sizes = λ i h. absurd (omega arith) }
-
+-- one more size
 pub sizes_more : (s z : List ℕ) (i v : ℕ) → i < length z → SizesUpTo s z i → v ≡ min 4096 (cells (tree_at s i)) → SizesUpTo s (set z i v) (i + 1)
 sizes_more s z i v l h e = record { sizes = λ j k. go j k (ℕ_discrete j i) }
   where

@@ -9,80 +9,49 @@ ghost use Rattle.format.specs.declared.Version.TheVariants.{Two};
 ghost use Rattle.format.specs.Version.{version_from_lem};
 ghost use Rattle.format.specs.Tree.{cells, tree_at};
 ghost use Rattle.format.specs.Book.{length_ok_lem, unnamed_ok_lem, reference_ok_lem, sort_ok_lem, cell_fault};
-ghost use Rattle.cells.specs.Coded.{use_of};
-ghost use Rattle.book.specs.Form.{version_ok_lem, mark_ok_lem, counted_ok_lem, Named, FieldsWithin, EveryField, CellCheck, CellsCheck};
+ghost use Rattle.cells.specs.Coded.{use_of, Refers};
+ghost use Rattle.book.specs.Form.{version_in, counted_ok_lem, is_of_sort_lem, MayAsk, Asks, CellCheck, CellsCheck};
 ghost use Rattle.book.specs.Form.{field_size_lem, SizesUpTo, RootReady, RootCheck, FormCheck};
 
 use answers::Refusal;
-use cells::{Cell, Entry, entry_for, entry_of, read_cell, read_pair, wide};
+use cells::{Cell, Entry, Sort, Use, entry_for, entry_of, read_cell, read_pair};
 use format::Version;
-
-// A type, as a use of a field or as a sort; a lower number is no reference.
-const TYPE: u8 = 2;
-
-// A term.
-const TERM: u8 = 3;
 
 // The limit of unshared sizes; they are counted up to one more.
 const LIMIT: usize = 4095;
 
 const CAP: usize = LIMIT + 1;
 
+// The root of a book that rows 2 to 10 pass: its cell, and the version of the book.
 #[derive(Clone, Copy)]
-pub enum Check {
-    Clear,
-    Bad(Refusal),
-}
-
-#[derive(Clone, Copy)]
-pub enum Form {
-    Malformed(Refusal),
-    // the version and the root cell
-    WellFormed(Version, usize),
+pub struct Root {
+    pub version: Version,
+    pub cell: usize,
 }
 
 // 2: the length.
 fn length_ok(b: &[u8]) -> bool
     ensures { result ≡ length_ok_lem b.now }
 {
-    if b.len() < 16 {
-        return false;
-    }
-    if 32768 < b.len() {
-        return false;
-    }
-    b.len() % 8 == 0
+    16 <= b.len() && b.len() <= 32768 && b.len() % 8 == 0
 }
 
-// The version that byte 1 of the trailer stands for.
+// The version that byte 1 of a trailer stands for, past row 3; of any other byte it is the second: it cannot fail, so it is no `TryFrom`.
 pub fn version_from(x: u8) -> Version
     ensures { result ≡ version_from_lem x }
 {
-    if x == 1 { Version::One } else { Version::Two }
+    Version::try_from(x).unwrap_or(Version::Two)
 }
 
-// 1 and 2 are versions.
-fn version_ok(x: u8) -> bool
-    ensures { result ≡ version_ok_lem x }
-{
-    if x == 1 { true } else { x == 2 }
-}
-
-// 3: bytes 0, 1, 6 and 7 of the trailer.
-fn mark_ok(t: &[u8]) -> bool
+// 3: bytes 0, 1, 6 and 7 of the trailer. Byte 1 is the version.
+fn read_version(t: &[u8]) -> Result<Version, Refusal>
     requires { length t.now ≡ 8 }
-    ensures { result ≡ mark_ok_lem t.now }
+    ensures { result ≡ version_in t.now }
 {
-    if t[0] != 0xf0 {
-        return false;
+    if t[0] != 0xf0 || t[6] != 0 || t[7] != 0 {
+        return Err(Refusal::Trailer);
     }
-    if !version_ok(t[1]) {
-        return false;
-    }
-    if t[6] != 0 {
-        return false;
-    }
-    t[7] == 0
+    Version::try_from(t[1]).map_err(|_| Refusal::Trailer)
 }
 
 // 4: the count and the root.
@@ -90,141 +59,99 @@ fn counted_ok(t: &[u8], n: usize) -> bool
     requires { length t.now ≡ 8 }
     ensures { result ≡ counted_ok_lem t.now n }
 {
-    if read_pair(t, 2) != n {
-        return false;
-    }
-    read_pair(t, 4) < n
+    read_pair(t, 2) == n && read_pair(t, 4) < n
+}
+
+// Cell x is of the sort.
+fn is_of_sort(s: &[u8], x: usize, sort: Sort) -> bool
+    requires { 8 * x < length s.now }
+    ensures { result ≡ is_of_sort_lem s.now x sort }
+{
+    entry_of(s[8 * x]).sort == Some(sort)
 }
 
 // 6: an unused field is zero.
-fn unnamed_ok(u: u8, x: usize) -> bool
+fn unnamed_ok(u: Use, x: usize) -> bool
     ensures { result ≡ unnamed_ok_lem (use_of u) x }
 {
-    if u == 0 { x == 0 } else { true }
+    match u {
+        Use::Unused => x == 0,
+        _ => true,
+    }
 }
 
 // 7: a reference is lower than its cell.
-fn reference_ok(i: usize, u: u8, x: usize) -> bool
+fn reference_ok(i: usize, u: Use, x: usize) -> bool
     ensures { result ≡ reference_ok_lem i (use_of u) x }
 {
-    if u < TYPE { true } else { x < i }
+    match u {
+        Use::Unused | Use::Plain => true,
+        Use::ToType | Use::ToTerm => x < i,
+    }
 }
 
 // 8: a reference is to a cell of its sort.
-fn sort_ok(s: &[u8], u: u8, x: usize) -> bool
-    requires { 2 ≤ u → 8 * x < length s.now }
+fn sort_ok(s: &[u8], u: Use, x: usize) -> bool
+    requires { Refers u → 8 * x < length s.now }
     ensures { result ≡ sort_ok_lem s.now (use_of u) x }
 {
-    if u < TYPE {
-        return true;
+    match u {
+        Use::Unused | Use::Plain => true,
+        Use::ToType => is_of_sort(s, x, Sort::Types),
+        Use::ToTerm => is_of_sort(s, x, Sort::Terms),
     }
-    let sort = entry_of(s[8 * x]).sort;
-    if u == TYPE {
-        return sort == TYPE;
-    }
-    TYPE < sort
 }
 
-// 6, of every field.
-fn unnamed_all(e: Entry, t: Cell) -> bool
-    requires { Named e t }
-    ensures { EveryField unnamed_ok_lem e t result }
+// A question of a use and a number, asked of every field of a cell.
+fn every_field<F: Fn(Use, usize) -> bool>(e: Entry, t: Cell, asks: F) -> bool
+    requires { MayAsk (F.pre asks) e t }
+    ensures { Asks (F.post asks) e t result }
 {
-    if !unnamed_ok(e.label, wide(t.label)) {
-        return false;
-    }
-    if !unnamed_ok(e.a, t.a) {
-        return false;
-    }
-    if !unnamed_ok(e.b, t.b) {
-        return false;
-    }
-    unnamed_ok(e.c, t.c)
-}
-
-// 7, of every field; no row has a reference for a label.
-fn reference_all(i: usize, e: Entry, t: Cell) -> bool
-    requires { Named e t }
-    ensures { EveryField (reference_ok_lem i) e t result }
-{
-    if !reference_ok(i, e.a, t.a) {
-        return false;
-    }
-    if !reference_ok(i, e.b, t.b) {
-        return false;
-    }
-    reference_ok(i, e.c, t.c)
-}
-
-// 8, of every field.
-fn sort_all(s: &[u8], e: Entry, t: Cell) -> bool
-    requires named { Named e t }
-    requires fields_within { FieldsWithin s.now e t }
-    ensures { EveryField (sort_ok_lem s.now) e t result }
-{
-    if !sort_ok(s, e.a, t.a) {
-        return false;
-    }
-    if !sort_ok(s, e.b, t.b) {
-        return false;
-    }
-    sort_ok(s, e.c, t.c)
+    asks(e.label, usize::from(t.label)) && asks(e.a, t.a) && asks(e.b, t.b) && asks(e.c, t.c)
 }
 
 // Rows 5 to 8 of one cell, in a book of this version.
-fn check_cell(s: &[u8], i: usize, version: Version) -> Check
+fn check_cell(s: &[u8], i: usize, version: Version) -> Result<(), Refusal>
     requires { 8 * i + 8 ≤ length s.now }
     ensures { CellCheck version s.now i result }
 {
     let t = read_cell(s, i);
     let e = entry_for(version, t.kind);
-    if e.sort < TYPE {
-        return Check::Bad(Refusal::Kind(i));
+    if e.sort.is_none() {
+        return Err(Refusal::Kind(i));
     }
-    if !unnamed_all(e, t) {
-        return Check::Bad(Refusal::Unnamed(i));
+    if !every_field(e, t, unnamed_ok) {
+        return Err(Refusal::Unnamed(i));
     }
-    if !reference_all(i, e, t) {
-        return Check::Bad(Refusal::Reference(i));
+    if !every_field(e, t, |u, x| reference_ok(i, u, x)) {
+        return Err(Refusal::Reference(i));
     }
-    if !sort_all(s, e, t) {
-        return Check::Bad(Refusal::Sort(i));
+    if !every_field(e, t, |u, x| sort_ok(s, u, x)) {
+        return Err(Refusal::Sort(i));
     }
-    Check::Clear
+    Ok(())
 }
 
-// Rows 5 to 8, cells ascending.
-fn check_cells(s: &[u8], n: usize, version: Version) -> Check
+// Rows 5 to 8, cells ascending. A count beside s, as `CellsCheck` has it.
+fn check_cells(s: &[u8], n: usize, version: Version) -> Result<(), Refusal>
     requires { 8 * n ≤ length s.now }
     ensures { CellsCheck version s.now n result }
 {
-    let mut i = 0;
-    while i < n {
-        let found = check_cell(s, i, version);
-        let Check::Clear = found else {
-            return found;
-        };
-        i += 1;
+    for i in 0..n {
+        check_cell(s, i, version)?;
     }
-    Check::Clear
-}
-
-// A size as a number.
-fn count(x: u16) -> usize
-    ensures { result ≡ x }
-{
-    x as usize
+    Ok(())
 }
 
 // What a field adds to the size of its cell; z has the sizes of the lower cells.
-fn field_size(z: &[u16; CAP], u: u8, x: usize) -> usize
-    requires { 2 ≤ u → x < 4096 }
+fn field_size(z: &[u16; CAP], u: Use, x: usize) -> usize
+    requires { Refers u → x < 4096 }
     ensures { result ≡ field_size_lem z.now (use_of u) x }
 {
-    if u < TYPE {
-        return 0;
+    match u {
+        Use::Unused | Use::Plain => 0,
+        Use::ToType | Use::ToTerm => usize::from(z[x]),
     }
-    count(z[x])
 }
 
 // The unshared size of cell i, capped.
@@ -237,7 +164,7 @@ fn cell_size(s: &[u8], z: &[u16; CAP], i: usize) -> usize
     let t = read_cell(s, i);
     let e = entry_of(t.kind);
     let size = 1 + field_size(z, e.a, t.a) + field_size(z, e.b, t.b) + field_size(z, e.c, t.c);
-    if size < CAP { size } else { CAP }
+    size.min(CAP)
 }
 
 // The unshared size of the root, capped, from those of the cells up to it.
@@ -245,52 +172,44 @@ fn root_size(s: &[u8], root: usize) -> usize
     requires { RootReady s.now root }
     ensures { result ≡ min 4096 (cells (tree_at s.now root)) }
 {
+    // an array of fixed length, used whole: no heap
     let mut z = [0u16; CAP];
-    let mut i = 0;
-    while i <= root {
+    for i in 0..=root {
         z[i] = cell_size(s, &z, i) as u16;
-        i += 1;
     }
-    count(z[root])
+    usize::from(z[root])
 }
 
 // Rows 9 and 10.
-fn check_root(s: &[u8], root: usize) -> Check
+fn check_root(s: &[u8], root: usize) -> Result<(), Refusal>
     requires { RootReady s.now root }
     ensures { RootCheck s.now root result }
 {
-    if !sort_ok(s, TERM, root) {
-        return Check::Bad(Refusal::Root(root));
+    if !is_of_sort(s, root, Sort::Terms) {
+        return Err(Refusal::Root(root));
     }
     if LIMIT < root_size(s, root) {
-        return Check::Bad(Refusal::Size(root));
+        return Err(Refusal::Size(root));
     }
-    Check::Clear
+    Ok(())
 }
 
 // Rows 2 to 10, in their order.
-pub fn check_form(b: &[u8]) -> Form
+pub fn check_form(b: &[u8]) -> Result<Root, Refusal>
     ensures { FormCheck b.now result }
 {
     if !length_ok(b) {
-        return Form::Malformed(Refusal::Length);
+        return Err(Refusal::Length);
     }
     let n = b.len() / 8 - 1;
     let cells = &b[..8 * n];
     let trailer = &b[8 * n..];
-    if !mark_ok(trailer) {
-        return Form::Malformed(Refusal::Trailer);
-    }
+    let version = read_version(trailer)?;
     if !counted_ok(trailer, n) {
-        return Form::Malformed(Refusal::Count);
+        return Err(Refusal::Count);
     }
-    let version = version_from(trailer[1]);
-    if let Check::Bad(q) = check_cells(cells, n, version) {
-        return Form::Malformed(q);
-    }
-    let root = read_pair(trailer, 4);
-    if let Check::Bad(q) = check_root(cells, root) {
-        return Form::Malformed(q);
-    }
-    Form::WellFormed(version, root)
+    check_cells(cells, n, version)?;
+    let cell = read_pair(trailer, 4);
+    check_root(cells, cell)?;
+    Ok(Root { version, cell })
 }

@@ -5,6 +5,7 @@ pub mod Makes
 pub mod Back
 pub mod Inside
 pub mod Rows
+pub mod Moves
 pub mod Table
 pub mod Written
 pub mod Unshared

@@ -1,5 +1,5 @@
 -- The row of a kind as the code has it, the fields of a cell by that row, and their measures. Over kind and field. Assumes nothing.
-use Prim.Native.Nat.{ℕ, zero, suc, ◌+◌, ◌*◌, ◌≤◌, ◌<◌}
+use Prim.Native.Nat.{ℕ, ◌+◌, ◌*◌, ◌<◌}
 use native.Mathlib.Omega.{arith}
 use mathlib.Core.Path.{◌≡◌, refl, sym, ap, ◌∙◌}
 use mathlib.Core.Bool.{Bool}
@@ -9,7 +9,13 @@ use Rattle.format.specs.Table.{Sort, type_sort, term_sort, unused, plain, refers
 use Rattle.format.specs.Cell.{Cell, cell_at}
 use Rattle.format.specs.Tree.{Tree, raw, node}
 use Rattle.cells.specs.Held.{label_by_lem, HeldField, f_unused, f_plain}
-use Rattle.cells.specs.Coded.{use_of, row_from}
+use Rattle.std.specs.Prelude.{Some, None}
+use Rattle.std.specs.Prelude as Std
+use Rattle.cells.specs.Coded.{use_of, row_from, Refers}
+use Rattle.cells.specs.declared.Sort as Sorts
+use Rattle.cells.specs.declared.Sort.TheVariants.{Types, Terms}
+use Rattle.cells.specs.declared.Use as Code
+use Rattle.cells.specs.declared.Use.TheVariants.{Unused, Plain, ToType, ToTerm}
 use Rattle.cells.specs.declared.Entry.{Entry}
 use Rattle.cells.proofs.Held.{fields_of, row_at, lower}
 
@@ -34,34 +40,19 @@ uses k y r e = go y.sort refl
           c = ap (λ (x : Row). x.c) j;
         }
 
-    go : (n : ℕ) → y.sort ≡ n → Uses y r
-    go zero q = absurd (none-ne-some r (rw q at e))
-    go (suc zero) q = absurd (none-ne-some r (rw q at e))
-    go (suc (suc zero)) q = by_sort type_sort (rw q at e)
-    go (suc (suc (suc n))) q = by_sort term_sort (rw q at e)
+    go : (n : Std.Option Sorts.Sort) → y.sort ≡ n → Uses y r
+    go None q = absurd (none-ne-some r (rw q at e))
+    go (Some Types) q = by_sort type_sort (rw q at e)
+    go (Some Terms) q = by_sort term_sort (rw q at e)
 
--- a use that is no number refers
-pub refers_at : (u : ℕ) → 2 ≤ u → (o : Sort) × (use_of u ≡ refers o)
-refers_at zero h = absurd (omega arith)
-refers_at (suc zero) h = absurd (omega arith)
-refers_at (suc (suc zero)) h = (type_sort, refl)
-refers_at (suc (suc (suc u))) h = (term_sort, refl)
-
--- and above a type's it refers to a term
-pub term_use : (u : ℕ) → 3 ≤ u → use_of u ≡ refers term_sort
-term_use zero h = absurd (omega arith)
-term_use (suc zero) h = absurd (omega arith)
-term_use (suc (suc zero)) h = absurd (omega arith)
-term_use (suc (suc (suc u))) h = refl
-
-pub label_unnamed : (u l : ℕ) → u ≡ 0 → 0 ≡ label_by_lem (use_of u) l
+pub label_unnamed : (u : Code.Use) (l : ℕ) → u ≡ Unused → 0 ≡ label_by_lem (use_of u) l
 label_unnamed u l e = rw e
 
-pub label_named : (u l : ℕ) → (u ≡ 0 → ⊥) → l ≡ label_by_lem (use_of u) l
-label_named zero l n = absurd (n refl)
-label_named (suc zero) l n = refl
-label_named (suc (suc zero)) l n = refl
-label_named (suc (suc (suc u))) l n = refl
+pub label_named : (u : Code.Use) (l : ℕ) → (u ≡ Unused → ⊥) → l ≡ label_by_lem (use_of u) l
+label_named Unused l n = absurd (n refl)
+label_named Plain l n = refl
+label_named ToType l n = refl
+label_named ToTerm l n = refl
 
 -- t as cell i, of row y: the tree that it stands for, its fields held below i
 pub record FieldsOf (q : Bool) (s : List ℕ) (i : ℕ) (t : Cell) (y : Entry) (x : Tree) : Type 0 where
@@ -99,18 +90,26 @@ pub plain_is : {q : Bool} {s : List ℕ} {n x : ℕ} {f : Tree} → HeldField q 
 plain_is f_plain = refl
 
 -- A field that refers to nothing costs no call.
-abbrev pub field_measure : ℕ → ℕ → ℕ
-field_measure zero x = 0
-field_measure (suc zero) x = 0
-field_measure (suc (suc u)) x = 2 * x + 2
+abbrev pub field_measure : Code.Use → ℕ → ℕ
+field_measure Unused x = 0
+field_measure Plain x = 0
+field_measure ToType x = 2 * x + 2
+field_measure ToTerm x = 2 * x + 2
 
-pub field_less : {q : Bool} {s : List ℕ} {i x t : ℕ} {z : Tree} (u : ℕ) → HeldField q s i (use_of u) x z → 2 * i + 1 ≡ t → field_measure u x < t
-field_less zero h e = omega arith
-field_less (suc zero) h e = omega arith
-field_less (suc (suc zero)) h e = omega (arith, lower h)
-field_less (suc (suc (suc u))) h e = omega (arith, lower h)
+pub field_less : {q : Bool} {s : List ℕ} {i x t : ℕ} {z : Tree} (u : Code.Use) → HeldField q s i (use_of u) x z → 2 * i + 1 ≡ t → field_measure u x < t
+field_less Unused h e = omega arith
+field_less Plain h e = omega arith
+field_less ToType h e = omega (arith, lower h)
+field_less ToTerm h e = omega (arith, lower h)
 
-pub cell_less : (u x : ℕ) {t : ℕ} → 2 ≤ u → field_measure u x ≡ t → 2 * x + 1 < t
-cell_less zero x h e = absurd (omega arith)
-cell_less (suc zero) x h e = absurd (omega arith)
-cell_less (suc (suc u)) x h e = omega arith
+unnamed : {o : Sort} → unused ≡ refers o → ⊥
+unnamed e = cc
+
+numbered : {o : Sort} → plain ≡ refers o → ⊥
+numbered e = cc
+
+pub cell_less : (u : Code.Use) (x : ℕ) {t : ℕ} → Refers u → field_measure u x ≡ t → 2 * x + 1 < t
+cell_less Unused x h e = absurd (unnamed h.1)
+cell_less Plain x h e = absurd (numbered h.1)
+cell_less ToType x h e = omega arith
+cell_less ToTerm x h e = omega arith

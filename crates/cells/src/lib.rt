@@ -5,13 +5,16 @@
 ghost use Rattle.std.specs.Prelude.{◌≡◌, ◌+◌, ◌*◌, ◌/◌, ◌%◌, ◌≤◌, ◌<◌, [], ◌∷◌, length};
 ghost use Rattle.std.proofs.lemmas.List.Edits.{sets};
 ghost use Rattle.format.specs.Cell.{pair, cell_at, cell_bytes};
-ghost use Rattle.format.specs.Table.{row_for, row_of, inside};
-ghost use Rattle.cells.specs.Coded.{as_cell, CellFits, place_of, entry_from, use_of, row_from};
+ghost use Rattle.format.specs.Table.{Row, row_for, row_of, inside};
+ghost use Rattle.cells.specs.Coded.{as_cell, CellFits, place_of, use_of, row_from};
 ghost use Rattle.cells.specs.Held.{label_by_lem};
+ghost use Rattle.cells.specs.Moves.{moved_field, FieldMoves, moved_cell, CellMoves};
+ghost use Rattle.std.proofs.Math.Option.{some};
 
 use format::Version;
 
-// A cell: kind, label and the fields a, b, c.
+// A cell: kind, label and the fields a, b, c. The kind is a number, by which all crates dispatch (document 01, "dispatch on kind numbers"), and so is the
+// mark of a type cell, which stands in the bytes of field c. Cells refer to each other by number, in lent buffers: no heap.
 #[derive(Clone, Copy)]
 pub struct Cell {
     pub kind: u8,
@@ -21,19 +24,13 @@ pub struct Cell {
     pub c: usize,
 }
 
-pub fn wide(x: u8) -> usize
-    ensures { result ≡ x }
-{
-    x as usize
-}
-
-// The field of two bytes at a position, little-endian.
+// The field of two bytes at a position, little-endian. By arithmetic, as `pair` of the format: `from_le_bytes` takes an array, made of both bytes first.
 pub fn read_pair(s: &[u8], at: usize) -> usize
     requires { at + 1 < length s.now }
     ensures { result ≡ pair s.now at }
 {
-    let low = wide(s[at]);
-    let high = wide(s[at + 1]);
+    let low = usize::from(s[at]);
+    let high = usize::from(s[at + 1]);
     low + 256 * high
 }
 
@@ -71,103 +68,149 @@ pub fn write_cell(s: &mut [u8], i: usize, t: Cell)
     write_pair(s, at + 6, t.c);
 }
 
-// A row of the table of kinds. Sort: 2 a type, 3 a term, 0 unknown. Label, a, b and c: 0 unused, 1 plain, 2 a type, 3 a term.
-#[derive(Clone, Copy)]
-pub struct Entry {
-    pub sort: u8,
-    pub label: u8,
-    pub a: u8,
-    pub b: u8,
-    pub c: u8,
+// What a cell is, and what a reference is to.
+#[derive(Clone, Copy, PartialEq, Eq)]
+pub enum Sort {
+    Types,
+    Terms,
 }
 
-// A line of the table of kinds is a sum: the sort of the kind, whether it has a label, and what stands in each field that it names.
-const TYPE: u16 = 0o20000;
+// What a kind makes of a field.
+#[derive(Clone, Copy, PartialEq, Eq)]
+pub enum Use {
+    Unused,
+    Plain,
+    // a reference to a type
+    ToType,
+    // and to a term
+    ToTerm,
+}
 
-const TERM: u16 = 0o30000;
+// A row of the table of kinds; an unknown kind has no sort.
+#[derive(Clone, Copy)]
+pub struct Entry {
+    pub sort: Option<Sort>,
+    pub label: Use,
+    pub a: Use,
+    pub b: Use,
+    pub c: Use,
+}
 
-const LABEL: u16 = 0o1000;
+const UNKNOWN: Entry = Entry {
+    sort: None,
+    label: Use::Unused,
+    a: Use::Unused,
+    b: Use::Unused,
+    c: Use::Unused,
+};
 
-const A_NUMBER: u16 = 0o100;
+// A type, and a term, whose fields are unused.
+const TYPE: Entry = Entry {
+    sort: Some(Sort::Types),
+    ..UNKNOWN
+};
 
-const A_TYPE: u16 = 0o200;
+const TERM: Entry = Entry {
+    sort: Some(Sort::Terms),
+    ..UNKNOWN
+};
 
-const A_TERM: u16 = 0o300;
+// Two types, two terms, a term and a type.
+const TYPES: Entry = Entry {
+    a: Use::ToType,
+    b: Use::ToType,
+    ..TYPE
+};
 
-const B_NUMBER: u16 = 0o10;
+const TERMS: Entry = Entry {
+    a: Use::ToTerm,
+    b: Use::ToTerm,
+    ..TERM
+};
 
-const B_TYPE: u16 = 0o20;
+const TYPED: Entry = Entry {
+    a: Use::ToTerm,
+    b: Use::ToType,
+    ..TERM
+};
 
-const B_TERM: u16 = 0o30;
+// A labelled term.
+const LABELLED: Entry = Entry {
+    label: Use::Plain,
+    a: Use::ToTerm,
+    ..TERM
+};
 
-const C_NUMBER: u16 = 0o1;
+// 17 in books of version 1: number, in b and c
+const NUMBER_OF_ONE: Entry = Entry {
+    b: Use::Plain,
+    c: Use::Plain,
+    ..TERM
+};
 
-const C_TYPE: u16 = 0o2;
-
-const C_TERM: u16 = 0o3;
-
-const TABLE: [u16; 18] = [
+// A `static`, which stands in no frame of the recursive functions that read it.
+static TABLE: [Entry; 18] = [
     // every other kind
-    0,
+    UNKNOWN,
     // 1, 2: Int, Top
     TYPE,
     TYPE,
     // 3: function type, a input, b output
-    TYPE + A_TYPE + B_TYPE,
+    TYPES,
     // 4: intersection
-    TYPE + A_TYPE + B_TYPE,
+    TYPES,
     // 5: record type
-    TYPE + LABEL + A_TYPE,
+    Entry {
+        label: Use::Plain,
+        a: Use::ToType,
+        ..TYPE
+    },
     // 16: variable
-    TERM + A_NUMBER,
+    Entry {
+        a: Use::Plain,
+        ..TERM
+    },
     // 17: number, in a, b and c
-    TERM + A_NUMBER + B_NUMBER + C_NUMBER,
+    Entry {
+        a: Use::Plain,
+        ..NUMBER_OF_ONE
+    },
     // 18: top value
     TERM,
     // 19: annotation
-    TERM + A_TERM + B_TYPE,
+    TYPED,
     // 20: application
-    TERM + A_TERM + B_TERM,
+    TERMS,
     // 21: function, a body, b input, c output
-    TERM + A_TERM + B_TYPE + C_TYPE,
+    Entry {
+        c: Use::ToType,
+        ..TYPED
+    },
     // 22: merge
-    TERM + A_TERM + B_TERM,
+    TERMS,
     // 23: fixpoint, a body
-    TERM + A_TERM + B_TYPE,
+    TYPED,
     // 24: record
-    TERM + LABEL + A_TERM,
+    LABELLED,
     // 25: field read
-    TERM + LABEL + A_TERM,
+    LABELLED,
     // 26: sum
-    TERM + A_TERM + B_TERM,
+    TERMS,
     // 27: choice, a tested, b for zero, c for anything else
-    TERM + A_TERM + B_TERM + C_TERM,
+    Entry {
+        c: Use::ToTerm,
+        ..TERMS
+    },
 ];
-
-// 17 in books of version 1: number, in b and c
-const NUMBER_OF_ONE: u16 = TERM + B_NUMBER + C_NUMBER;
 
 // The place of a kind in the table.
 fn place(kind: u8) -> usize
     ensures { (result ≡ place_of kind) × (result < 18) }
 {
     match kind {
-        1..=5 => wide(kind),
-        16..=27 => wide(kind) - 10,
+        1..=5 => usize::from(kind),
+        16..=27 => usize::from(kind) - 10,
         _ => 0,
-    }
-}
-
-// A line of the table as a row.
-fn entry_at(line: u16) -> Entry
-    ensures { result ≡ entry_from line }
-{
-    Entry {
-        sort: (line / 4096 % 8) as u8,
-        label: (line / 512 % 8) as u8,
-        a: (line / 64 % 8) as u8,
-        b: (line / 8 % 8) as u8,
-        c: (line % 8) as u8,
     }
 }
 
@@ -175,7 +218,7 @@ fn entry_at(line: u16) -> Entry
 pub fn entry_of(kind: u8) -> Entry
     ensures { row_from kind result ≡ row_of kind }
 {
-    entry_at(TABLE[place(kind)])
+    TABLE[place(kind)]
 }
 
 // The same for books of this version: version 1 does not name field a of a number.
@@ -186,16 +229,54 @@ pub fn entry_for(version: Version, kind: u8) -> Entry
         return entry_of(kind);
     }
     match version {
-        Version::One => entry_at(NUMBER_OF_ONE),
+        Version::One => NUMBER_OF_ONE,
         Version::Two => entry_of(kind),
     }
 }
 
 // The label of a cell whose row has this use of it: 0 if the row does not name it.
-pub fn label_by(u: u8, label: u8) -> u8
+pub fn label_by(u: Use, label: u8) -> u8
     ensures { result ≡ label_by_lem (use_of u) label }
 {
-    if u == 0 { 0 } else { label }
+    match u {
+        Use::Unused => 0,
+        _ => label,
+    }
+}
+
+// Cells that move together: cell `from` comes to stand at `to`, and those behind it follow.
+#[derive(Clone, Copy)]
+pub struct Move {
+    pub from: usize,
+    pub to: usize,
+}
+
+impl Move {
+    // The number n of a field of this use: a reference goes with its cells.
+    pub fn field(self, u: Use, n: usize) -> usize
+        requires { FieldMoves self.from self.to (use_of u) n }
+        ensures { result ≡ moved_field self.from self.to (use_of u) n }
+    {
+        match u {
+            Use::Unused | Use::Plain => n,
+            Use::ToType | Use::ToTerm => n - self.from + self.to,
+        }
+    }
+
+    // A cell with its references moved.
+    pub fn cell(self, t: Cell) -> Cell
+        requires { CellMoves self.from self.to (as_cell t) }
+        ensures moved { (r : Row) → row_of t.kind ≡ some r → as_cell result ≡ moved_cell self.from self.to r (as_cell t) }
+        ensures fits { CellFits result }
+    {
+        let e = entry_of(t.kind);
+        Cell {
+            a: self.field(e.a, t.a),
+            b: self.field(e.b, t.b),
+            c: self.field(e.c, t.c),
+            ..t
+        }
+    }
 }
 
 // How many binders are over field a of a term of this kind that is under k: a function and a fixpoint bind one.

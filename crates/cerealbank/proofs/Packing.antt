@@ -21,37 +21,40 @@ use Rattle.sheets.specs.declared.SheetOutcome.TheVariants as Sheet
 use Rattle.sheets.specs.declared.SheetOutcome.TheVariants.{NoSheet}
 use Rattle.sheets.specs.Sheet.{sheet_answer, sheet_steps_lem, sheeted}
 use Rattle.sheets.specs.Sheets.{Sheets}
-use Rattle.cerealbank.specs.Packed.{AnswerFits, PackedAnswer, Packs, SheetFits, PackedSheet, PacksSheet, JoinFits, PackedJoin, PacksJoin, PacksPreview, ExportedAgree}
+use Rattle.cerealbank.specs.Packed.{FiguresFit, PackedFigures, Packs, PacksSheet, JoinFits, PackedJoin, PacksJoin, PacksPreview, ExportedAgree}
 
-pub packs : {v : List ℕ} {r : ℕ} {a : Answer} (x : Result) → AnswerFits x.answer → a ≡ x.answer → v ≡ x.left → PackedAnswer a r → Packs v r x
-packs {r = r} x f e l p =
-    let q : PackedAnswer x.answer r = rw e at p in
+pub packs : {v : List ℕ} {r k : ℕ} {a : Answer} (x : Result) → FiguresFit x.answer (second_of x.answer) → a ≡ x.answer → k ≡ second_of a → v ≡ x.left →
+    PackedFigures a k r → Packs v r x
+packs {r = r} {k = k} x f e s l p =
+    let q : PackedFigures x.answer k r = rw e at p in
+    let t : k ≡ second_of x.answer = s ∙ ap second_of e in
     let n = q.is in
-    let t = q.tag in
+    let b = q.tag in
     let g = f.value in
-    record { answer = n; value = omega arith; tag = omega arith; second = omega arith; left = l }
+    record { answer = omega arith; value = omega arith; tag = omega arith; second = omega arith; left = l }
+
+-- an answer of the code is the definition's, so its figures fit too
+pub fits_too : {k : ℕ} {a b : Answer} → FiguresFit b (second_of b) → a ≡ b → k ≡ second_of a → FiguresFit a k
+fits_too f e s = record { value = subst (λ (a : Answer). value_of a < tag_place) (sym e) f.value; second = omega (arith, s, ap second_of e, f.second) }
 
 -- no check has a second figure
-pub check_second : (o : CheckOutcome) → second_of (check_answer o) ≡ 0
-check_second (Refused q) = ap second_of (refusal_number q).2
+pub check_second : (o : CheckOutcome) → 0 ≡ second_of (check_answer o)
+check_second (Refused q) = sym (ap second_of (refusal_number q).2)
 check_second (Accepted n) = refl
-
-pub packed_check : (o : CheckOutcome) {t n : ℕ} → t ≡ tag_of (check_answer o) → t < 256 → n ≡ value_of (check_answer o) → PackedAnswer (check_answer o) (t * 4294967296 + n)
-packed_check o e l v = let z = check_second o in record { is = omega arith; tag = omega arith }
 
 -- ---- the sheet call
 
 -- the count, which stands beside an acceptance alone, is less than the limit of a size
 module _ {b w v : List ℕ} {o : SheetOutcome} (c : Sheets b w v o) (f : value_of (sheeted b w).answer < tag_place) where
-  pub sheet_fits : SheetFits o
-  sheet_fits = record { value = subst (λ (a : Answer). value_of a < tag_place) (sym c.answer) f; steps = by o refl }
+  pub sheet_fits : FiguresFit (sheet_answer o) (sheet_steps_lem o)
+  sheet_fits = record { value = subst (λ (a : Answer). value_of a < tag_place) (sym c.answer) f; second = by o refl }
     where
       by : (x : SheetOutcome) → o ≡ x → sheet_steps_lem o < 16777216
       by (Sheet.Refused q) e = let z : sheet_steps_lem o ≡ 0 = ap sheet_steps_lem e in omega arith
       by (NoSheet i) e = let z : sheet_steps_lem o ≡ 0 = ap sheet_steps_lem e in omega arith
       by (Sheet.Accepted n k) e = let a : sheet_answer o ≡ accepted n = ap sheet_answer e in omega (arith, c.count n a, (c.runs n a).counts)
 
-  pub packs_sheet : {r : ℕ} → PackedSheet o r → PacksSheet v r (sheeted b w)
+  pub packs_sheet : {r : ℕ} → PackedFigures (sheet_answer o) (sheet_steps_lem o) r → PacksSheet v r (sheeted b w)
   packs_sheet p =
       let t : tag_of (sheeted b w).answer < 256 = subst (λ (a : Answer). tag_of a < 256) c.answer p.tag in
       let e = rw (c.steps, c.answer) at p.is in

@@ -32,14 +32,14 @@ use Rattle.joining.specs.Join.{JoinResult, joined}
 use Rattle.joining.proofs.Stages.{Ends, at_buffer, at_lent, at_project, at_part, at_full, at_joint, at_end, ends}
 use Rattle.joining.proofs.Meaning.{take_bytes, joint_is}
 use Rattle.sheets.specs.Sheet.{SheetResult, is_row17, with_steps, sheeted}
-use Rattle.cerealbank.specs.Packed.{AnswerFits}
+use Rattle.cerealbank.specs.Packed.{FiguresFit}
 use Rattle.cerealbank.proofs.Packing.{ResultFits}
 
-abbrev Fits : Result → Type 0
-Fits x = AnswerFits x.answer
+abbrev pub Fits : Result → Type 0
+Fits x = FiguresFit x.answer (second_of x.answer)
 
 -- a refusal has no second figure
-refused_fits : {n i : ℕ} → i < 65536 → AnswerFits (refused n i)
+refused_fits : {n i : ℕ} → i < 65536 → FiguresFit (refused n i) 0
 refused_fits h = record { value = omega arith; second = omega arith }
 
 -- ---- the cells that rows 2 to 10 name
@@ -83,7 +83,7 @@ module _ (b w : List ℕ) (y : IsBytes b) (g : Ty → Result) (h : (A : Ty) → 
       by true = form_fits (form_finding b) refl
       by false = refused_fits (omega arith)
 
-pub check_fits : (b w : List ℕ) → IsBytes b → AnswerFits (check b w).answer
+pub check_fits : (b w : List ℕ) → IsBytes b → Fits (check b w)
 unfolding check shown
 check_fits b w y =
     judge_fits b w y (shown (version_of b))
@@ -93,7 +93,7 @@ check_fits b w y =
 mark_small : {v : Version} {e : Term} {l : ℕ} {r : Result} (x : TakesSteps v e l r) → x.mark ≤ size_limit
 mark_small x = let (k, f, i, r, z) = x.greatest.attained in omega (arith, x.small k f i r, z)
 
-pub run_fits : (b w : List ℕ) (l : ℕ) → IsBytes b → IsLimit l → AnswerFits (run b w l).answer
+pub run_fits : (b w : List ℕ) (l : ℕ) → IsBytes b → IsLimit l → Fits (run b w l)
 unfolding run
 run_fits b w l y i = judge_fits b w y (reported b l) steps
   where

@@ -10,14 +10,14 @@ use Rattle.joining.specs.declared.Joined.{Joined}
 use Rattle.joining.specs.Join.{JoinResult, join_answer, joined}
 use Rattle.joining.specs.Exported.{which_number_lem, which_place, bytes_place, packed_join}
 
--- An answer whose figures fit their bits.
-pub record AnswerFits (a : Answer) : Type 0 where
+-- An answer and a second figure s that fit their bits.
+pub record FiguresFit (a : Answer) (s : ℕ) : Type 0 where
   pub value : value_of a < tag_place
-  pub second : second_of a < 16777216
+  pub second : s < 16777216
 
--- It in one number.
-pub record PackedAnswer (a : Answer) (r : ℕ) : Type 0 where
-  pub is : r ≡ packed a
+-- They in one number.
+pub record PackedFigures (a : Answer) (s r : ℕ) : Type 0 where
+  pub is : r ≡ s * second_place + tag_of a * tag_place + value_of a
   pub tag : tag_of a < 256
 
 -- The number r and the bytes v are those of the result x.
@@ -30,16 +30,6 @@ pub record Packs (v : List ℕ) (r : ℕ) (x : Result) : Type 0 where
   -- bits 40 to 63: of a run that is not refused its mark, else zero
   pub second : r / second_place ≡ second_of x.answer
   pub left : v ≡ x.left
-
--- An answer of the sheet call whose figures fit their bits.
-pub record SheetFits (o : SheetOutcome) : Type 0 where
-  pub value : value_of (sheet_answer o) < tag_place
-  pub steps : sheet_steps_lem o < 16777216
-
--- It in one number.
-pub record PackedSheet (o : SheetOutcome) (r : ℕ) : Type 0 where
-  pub is : r ≡ sheet_steps_lem o * second_place + tag_of (sheet_answer o) * tag_place + value_of (sheet_answer o)
-  pub tag : tag_of (sheet_answer o) < 256
 
 -- The number r and the bytes v are those of the sheet call's result x.
 pub record PacksSheet (v : List ℕ) (r : ℕ) (x : SheetResult) : Type 0 where

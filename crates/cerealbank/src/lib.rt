@@ -1,73 +1,58 @@
 // The engine for C and Rust: numbers and byte slices only. A slice is a pointer and then a length.
 #![tactic(auto)]
 
-ghost use Rattle.answers.specs.Cases.{check_answer, run_answer};
 ghost use Rattle.answers.specs.Definition.{definition};
 ghost use Rattle.joining.specs.Join.{joined};
 ghost use Rattle.sheets.specs.Sheet.{sheeted};
-ghost use Rattle.cerealbank.specs.Packed.{AnswerFits, PackedAnswer, Packs, SheetFits, PackedSheet, PacksSheet, JoinFits, PackedJoin, PacksJoin, PacksPreview};
+ghost use Rattle.cerealbank.specs.Packed.{FiguresFit, PackedFigures, Packs, PacksSheet, JoinFits, PackedJoin, PacksJoin, PacksPreview};
 
-use answers::{CheckOutcome, RunOutcome, check_tag, check_value, run_mark, run_tag, run_value};
+use answers::Figures;
 use engine::{check, run};
-use joining::{Joined, join, join_tag, join_value, preview, which_number};
-use sheets::{SheetOutcome, sheet, sheet_steps, sheet_tag, sheet_value};
+use joining::{Joined, join, preview};
+use sheets::sheet;
 
-// The tag in bits 32 to 39, its value in bits 0 to 31.
-fn pack_check(o: CheckOutcome) -> u64
-    requires { AnswerFits (check_answer o) }
-    ensures { PackedAnswer (check_answer o) result }
+// The tag in bits 32 to 39, its value in bits 0 to 31, a second figure above them.
+fn pack<T: Figures + Copy>(o: T, second: u64) -> u64
+    requires { FiguresFit (T.answer o) second }
+    ensures { PackedFigures (T.answer o) second result }
 {
-    (check_tag(o) as u64) * 4294967296 + (check_value(o) as u64)
-}
-
-// The same of a run, its mark above them.
-fn pack_run(o: RunOutcome) -> u64
-    requires { AnswerFits (run_answer o) }
-    ensures { PackedAnswer (run_answer o) result }
-{
-    (run_mark(o) as u64) * 1099511627776 + (run_tag(o) as u64) * 4294967296 + (run_value(o) as u64)
+    second * 1099511627776 + (o.tag() as u64) * 4294967296 + (o.value() as u64)
 }
 
 #[unsafe(no_mangle)]
 pub extern "C" fn cerealbank_check(book: &[u8], work: &mut [u8]) -> u64
     ensures { Packs work.new result (definition.check book.now work.old) }
 {
-    pack_check(check(book, work))
+    pack(check(book, work), 0)
 }
 
+// The mark of a run stands above.
 #[unsafe(no_mangle)]
 pub extern "C" fn cerealbank_run(book: &[u8], work: &mut [u8], limit: u32) -> u64
     ensures { Packs work.new result (definition.run book.now work.old limit) }
 {
-    pack_run(run(book, work, limit))
+    let o = run(book, work, limit);
+    pack(o, o.mark() as u64)
 }
 
-// The same of the sheet call, the count of steps above them.
-fn pack_sheet(o: SheetOutcome) -> u64
-    requires { SheetFits o }
-    ensures { PackedSheet o result }
-{
-    (sheet_steps(o) as u64) * 1099511627776
-        + (sheet_tag(o) as u64) * 4294967296
-        + (sheet_value(o) as u64)
-}
-
+// The count of steps stands above.
 #[unsafe(no_mangle)]
 pub extern "C" fn cerealbank_sheet(book: &[u8], work: &mut [u8]) -> u64
     ensures { PacksSheet work.new result (sheeted book.now work.old) }
 {
-    pack_sheet(sheet(book, work))
+    let o = sheet(book, work);
+    pack(o, o.steps() as u64)
 }
 
-// The same of a join and a preview: the book that is meant in bits 40 to 47, the byte count in bits 48 to 63.
+// A join and a preview: the book that is meant in bits 40 to 47, the byte count in bits 48 to 63.
 fn pack_join(j: Joined) -> u64
     requires { JoinFits j }
     ensures { PackedJoin j result }
 {
-    let which = j.which;
-    let answer = j.answer;
-    let second = (j.bytes as u64) * 256 + (which_number(which) as u64);
-    second * 1099511627776 + (join_tag(answer) as u64) * 4294967296 + (join_value(answer) as u64)
+    pack(
+        j.answer,
+        (j.bytes as u64) * 256 + u64::from(u8::from(j.which)),
+    )
 }
 
 #[unsafe(no_mangle)]
@@ -82,6 +67,7 @@ pub extern "C" fn cerealbank_join(
     pack_join(join(project, length, part, work))
 }
 
+// A call of its own: C lends the project as constant.
 #[unsafe(no_mangle)]
 pub extern "C" fn cerealbank_preview(
     project: &[u8],

@@ -1,11 +1,10 @@
 -- Whether a held term is a closed value, by the kind of its cell. Assumes nothing.
-use Prim.Native.Nat.{ℕ, ◌<◌}
+use Prim.Native.Nat.{ℕ, ◌≤◌, ◌<◌}
 use mathlib.Core.Path.{◌≡◌, refl, sym, ap, ◌∙◌}
 use mathlib.Core.Bool.{Bool, true, false, ◌&&◌}
 use mathlib.Core.List.{List}
-use native.Mathlib.Decide.{ℕ_discrete}
-use borrow.Author.Tests.{ne_eqb}
-use lib.Dec.{eqb}
+use native.Mathlib.Decide.{dec_lt}
+use native.Mathlib.Omega.{arith}
 use Rattle.calculus.specs.Syntax.{Term}
 use Rattle.calculus.specs.Decide.{is_value, is_closed}
 use Rattle.format.specs.Table.{term_sort}
@@ -85,23 +84,24 @@ module _ {s : List ℕ} {i : ℕ} {e : Term} {x : Cell} (at_i : x ≡ cell_at s 
     is = ap is_closed_value p.is;
   }
 
-  pub number_value : x.kind ≡ 17 → true ≡ is_closed_value e
+  pub plain_value : 17 ≤ x.kind → x.kind < 19 → true ≡ is_closed_value e
   unfolding is_value is_closed
-  number_value k = sym (ap is_closed_value (lit_at h (rw at_i at k)))
+  plain_value m n =
+      elim (dec_lt x.kind 18) [
+        | yes p ↦ let k : x.kind ≡ 17 = omega (arith, m, p) in sym (ap is_closed_value (lit_at h (rw at_i at k)))
+        | no p ↦ let k : x.kind ≡ 18 = omega (arith, n, p) in sym (ap is_closed_value (unit_at h (rw at_i at k)))
+      ]
 
--- of the other kinds only the top value is a value
-pub other_value : {s : List ℕ} {i : ℕ} {e : Term} {x : Cell} → x ≡ cell_at s i → HoldsTerm s i e →
-    (x.kind ≡ 22 → ⊥) → (x.kind ≡ 24 → ⊥) → (x.kind ≡ 21 → ⊥) → (x.kind ≡ 17 → ⊥) → eqb x.kind 18 ≡ is_closed_value e
+-- no other term is a value
+pub no_closed_value : {s : List ℕ} {i : ℕ} {e : Term} {x : Cell} → x ≡ cell_at s i → HoldsTerm s i e →
+    (x.kind ≡ 22 → ⊥) → (x.kind ≡ 24 → ⊥) → (x.kind ≡ 21 → ⊥) → (x.kind ≡ 17 → ⊥) → (x.kind ≡ 18 → ⊥) → false ≡ is_closed_value e
 unfolding is_value is_closed
-other_value {e = e} {x = x} at_i h m r f n =
+no_closed_value {e = e} {x = x} at_i h m r f n u =
     let k : kind_of term_sort e ≡ x.kind = sym (ap (λ (t : Cell). t.kind) at_i ∙ kind_of_held h) in
-    elim (ℕ_discrete x.kind 18) [
-      | yes p ↦ rw p (sym (ap is_closed_value (unit_at h (rw at_i at p))))
-      | no u ↦ ne_eqb x.kind 18 u ∙ sym (ap (λ b. b && is_closed 0 e) (fold_else _ _ _ _ _ e (rw k record {
-        number = n;
-        top_value = u;
-        function = f;
-        merged = m;
-        recorded = r;
-      })))
-    ]
+    sym (ap (λ b. b && is_closed 0 e) (fold_else _ _ _ _ _ e (rw k record {
+      number = n;
+      top_value = u;
+      function = f;
+      merged = m;
+      recorded = r;
+    })))

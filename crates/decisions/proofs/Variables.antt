@@ -1,6 +1,6 @@
 -- Closedness by the row of a kind: one law for all kinds but the variable, and what the calls of `closed` need and say.
 -- Assumes nothing.
-use Prim.Native.Nat.{ℕ, zero, suc, ◌+◌, ◌*◌, ◌≤◌, ◌<◌}
+use Prim.Native.Nat.{ℕ, suc, ◌+◌, ◌*◌, ◌≤◌, ◌<◌}
 use native.Mathlib.Omega.{arith}
 use mathlib.Core.Path.{◌≡◌, refl, sym, ap, ◌∙◌}
 use mathlib.Core.Bool.{Bool, true, false, ◌&&◌}
@@ -17,10 +17,12 @@ use Rattle.format.specs.Terms.{to_term_in, to_term}
 use Rattle.format.proofs.Tests.{All, ◌also◌, view}
 use Rattle.cells.specs.Held.{HeldField}
 use Rattle.cells.specs.Coded.{use_of, row_from}
+use Rattle.cells.specs.declared.Use as Code
+use Rattle.cells.specs.declared.Use.TheVariants.{Unused, Plain, ToType, ToTerm}
 use Rattle.cells.specs.declared.Entry.{Entry}
 use Rattle.cells.proofs.Held.{row_at, lower, holds, var_at}
 use Rattle.cells.proofs.Inside.{inside_most}
-use Rattle.cells.proofs.Rows.{uses, term_use, FieldsOf, by_entry, field_measure, field_less, cell_less}
+use Rattle.cells.proofs.Rows.{uses, FieldsOf, by_entry, field_measure, field_less, cell_less}
 use Rattle.decisions.specs.Questions.{closed_in, TermAt, TermSays, ClosedAt, ClosedSays}
 use Rattle.decisions.proofs.Parts.{and_both, and_none}
 
@@ -73,48 +75,48 @@ closed_law k kind r e o n l a b c =
 
 -- ---- a field
 
-no_term : (u k : ℕ) (f : Tree) → u < 3 → closed_in (use_of u) k f ≡ true
-no_term zero k f h = refl
-no_term (suc zero) k f h = refl
-no_term (suc (suc zero)) k f h = refl
-no_term (suc (suc (suc u))) k f h = absurd (omega arith)
+no_term : (u : Code.Use) (k : ℕ) (f : Tree) → (u ≡ ToTerm → ⊥) → closed_in (use_of u) k f ≡ true
+no_term Unused k f n = refl
+no_term Plain k f n = refl
+no_term ToType k f n = refl
+no_term ToTerm k f n = absurd (n refl)
 
-pub none_closed : {s : List ℕ} {u i k : ℕ} → u < 3 → ClosedSays s u i k true
-none_closed {u = u} {k = k} l = record { says = λ c f h. sym (no_term u k f l) }
+pub none_closed : {s : List ℕ} {u : Code.Use} {i k : ℕ} → (u ≡ ToTerm → ⊥) → ClosedSays s u i k true
+none_closed {u = u} {k = k} n = record { says = λ c f h. sym (no_term u k f n) }
 
 -- a term
-pub closed_at : {s : List ℕ} {i k : ℕ} → k + suc i ≤ 131072 → TermAt s i → ClosedAt s 3 i k
+pub closed_at : {s : List ℕ} {i k : ℕ} → k + suc i ≤ 131072 → TermAt s i → ClosedAt s ToTerm i k
 closed_at {i = i} l t = record { at = record { cell = suc i; tree = t.holds.tree; holds = t.holds.held }; small = l }
 
-pub closed_says : {s : List ℕ} {i k : ℕ} {r : Bool} → ClosedSays s 3 i k r → TermSays s i (is_closed k) r
+pub closed_says : {s : List ℕ} {i k : ℕ} {r : Bool} → ClosedSays s ToTerm i k r → TermSays s i (is_closed k) r
 closed_says {k = k} w = record { says = λ e h. w.says _ _ h.held ∙ ap (is_closed k) (sym h.is) }
 
-as_term : {s : List ℕ} {u i c : ℕ} {f : Tree} → 3 ≤ u → HeldField true s c (use_of u) i f → HeldField true s c (refers term_sort) i f
-as_term {u = u} more h = rw (term_use u more) at h
+as_term : {s : List ℕ} {u : Code.Use} {i c : ℕ} {f : Tree} → u ≡ ToTerm → HeldField true s c (use_of u) i f → HeldField true s c (refers term_sort) i f
+as_term more h = rw more at h
 
-pub term_within : {s : List ℕ} {u i c : ℕ} {f : Tree} → 3 ≤ u → HeldField true s c (use_of u) i f → 8 * i + 8 ≤ length s
+pub term_within : {s : List ℕ} {u : Code.Use} {i c : ℕ} {f : Tree} → u ≡ ToTerm → HeldField true s c (use_of u) i f → 8 * i + 8 ≤ length s
 term_within more h = (row_at (as_term more h)).within
 
-pub few_binders : {s : List ℕ} {u i k : ℕ} → 3 ≤ u → ClosedAt s u i k → k < 131072
+pub few_binders : {s : List ℕ} {u : Code.Use} {i k : ℕ} → u ≡ ToTerm → ClosedAt s u i k → k < 131072
 few_binders more p = omega (arith, lower (as_term more p.at.holds), p.small)
 
-pub variable_closed : {s : List ℕ} {u i k : ℕ} {x : Cell} → 3 ≤ u → x ≡ cell_at s i → x.kind ≡ 16 → ClosedSays s u i k (ltb x.a k)
+pub variable_closed : {s : List ℕ} {u : Code.Use} {i k : ℕ} {x : Cell} → u ≡ ToTerm → x ≡ cell_at s i → x.kind ≡ 16 → ClosedSays s u i k (ltb x.a k)
 unfolding is_closed
-variable_closed {u = u} {k = k} more at_i m = record {
-  says = λ c f h. rw (at_i, term_use u more) (sym (ap (is_closed k) (var_at (holds (as_term more h)) (rw at_i at m))));
+variable_closed {k = k} more at_i m = record {
+  says = λ c f h. rw (at_i, more) (sym (ap (is_closed k) (var_at (holds (as_term more h)) (rw at_i at m))));
 }
 
 -- x stands in cell i, no variable, of row e; g binders are over its field a
-pub record Inner (s : List ℕ) (u i k : ℕ) (x : Cell) (e : Entry) (g : ℕ) : Type 0 where
-  pub more : 3 ≤ u
+pub record Inner (s : List ℕ) (u : Code.Use) (i k : ℕ) (x : Cell) (e : Entry) (g : ℕ) : Type 0 where
+  pub term : u ≡ ToTerm
   pub cell : x ≡ cell_at s i
   pub inner : x.kind ≡ 16 → ⊥
   pub row : row_from x.kind e ≡ row_of x.kind
   pub skips : g ≡ inside x.kind k
 
-module _ {s : List ℕ} {u i k : ℕ} {x : Cell} {e : Entry} {g : ℕ} (w : Inner s u i k x e g) where
+module _ {s : List ℕ} {u : Code.Use} {i k : ℕ} {x : Cell} {e : Entry} {g : ℕ} (w : Inner s u i k x e g) where
   by_fields : {c : ℕ} {f : Tree} → HeldField true s c (use_of u) i f → FieldsOf true s i x e f
-  by_fields h = by_entry w.cell w.row (as_term w.more h)
+  by_fields h = by_entry w.cell w.row (as_term w.term h)
 
   by_rule : (r : Row) → row_of x.kind ≡ some r → r.sort ≡ term_sort → (l : ℕ) (a b c : Tree)
       → is_closed k (to_term (node x.kind l a b c)) ≡ (closed_in (use_of e.c) k c && (closed_in (use_of e.a) g a && closed_in (use_of e.b) k b))
@@ -125,24 +127,24 @@ module _ {s : List ℕ} {u i k : ℕ} {x : Cell} {e : Entry} {g : ℕ} (w : Inne
       closed_in (use_of u) k f ≡ (closed_in (use_of e.c) k o.c && (closed_in (use_of e.a) g o.a && closed_in (use_of e.b) k o.b))
   fields_closed {f = f} h =
       let o = by_fields h in
-      let v = row_at (as_term w.more h) in
-      ap (λ z. closed_in z k f) (term_use u w.more) ∙ ap (λ t. is_closed k (to_term t)) o.is
+      let v = row_at (as_term w.term h) in
+      ap (λ z. closed_in (use_of z) k f) w.term ∙ ap (λ t. is_closed k (to_term t)) o.is
       ∙ by_rule v.row (rw w.cell v.found) v.marked.0 _ o.a o.b o.c
 
   -- a field, asked at less than t
-  abbrev pub Asked : ℕ → ℕ → ℕ → ℕ → Type 0
+  abbrev pub Asked : ℕ → Code.Use → ℕ → ℕ → Type 0
   Asked t v n d = (field_measure v n < t) × ClosedAt s v n d
 
   pub parts : {t : ℕ} → ClosedAt s u i k → field_measure u i ≡ t → Asked t e.a x.a g × (Asked t e.b x.b k × Asked t e.c x.c k)
   parts {t} p m =
       let o = by_fields p.at.holds in
-      let l = lower (as_term w.more p.at.holds) in
+      let l = lower (as_term w.term p.at.holds) in
       let d = p.small in
       (part e.a o.holds_a (omega (arith, l, d, w.skips, inside_most x.kind k)), (part e.b o.holds_b (omega (arith, l, d)), part e.c o.holds_c (omega (arith, l, d))))
     where
-      part : {n d : ℕ} {f : Tree} (v : ℕ) → HeldField true s i (use_of v) n f → d + i ≤ 131072 → Asked t v n d
+      part : {n d : ℕ} {f : Tree} (v : Code.Use) → HeldField true s i (use_of v) n f → d + i ≤ 131072 → Asked t v n d
       part v h l = (
-        omega (arith, cell_less u i (omega (arith, w.more)) m, field_less v h refl),
+        omega (arith, cell_less u i (term_sort, ap use_of w.term) m, field_less v h refl),
         record { at = record { cell = i; tree = _; holds = h }; small = l },
       )
 

@@ -3,12 +3,14 @@
 use Prim.Native.Nat.{ℕ, ◌+◌, ◌*◌, ◌≤◌, ◌<◌}
 use mathlib.Core.Path.{◌≡◌, refl, sym, ap, ◌∙◌}
 use mathlib.Core.Bool.{Bool, true, false, ◌&&◌, ◌||◌}
+use mathlib.Core.Logic.{inl, inr}
 use mathlib.Core.List.{List}
 use native.Mathlib.Omega.{arith}
+use native.Mathlib.Decide.{dec_lt}
 use Rattle.calculus.specs.Syntax.{Term}
-use Rattle.format.specs.Cell.{Cell}
+use Rattle.format.specs.Cell.{Cell, cell_at}
 use Rattle.cells.specs.Held.{HoldsTerm}
-use Rattle.decisions.specs.Questions.{PairAt, PairSays, TermAt, TermSays}
+use Rattle.decisions.specs.Questions.{InOrder, PairAt, PairSays, TermAt, TermSays}
 use Rattle.decisions.proofs.Parts.{Splits, Whenever, both, either, none, some}
 use Rattle.decisions.proofs.Single.{OneSplits, one_both, one_none}
 
@@ -16,19 +18,29 @@ use Rattle.decisions.proofs.Single.{OneSplits, one_both, one_none}
 pub kind_read : {x y : Cell} {k n : ℕ} → x ≡ y → k ≡ y.kind → k ≡ n → x.kind ≡ n
 kind_read e f g = ap (λ (t : Cell). t.kind) e ∙ sym f ∙ g
 
+-- and the other way about
+pub kind_stands : {x y : Cell} {n : ℕ} → x ≡ y → x.kind ≡ n → y.kind ≡ n
+kind_stands e k = sym (ap (λ (t : Cell). t.kind) e) ∙ k
+
+-- a walk that has left the kind of its start is below it
+pub gone_on : (s : List ℕ) {i k n m : ℕ} → k ≤ i → (cell_at s i).kind ≡ n → m ≡ (cell_at s k).kind → (m ≡ n → ⊥) → k < i
+gone_on s {i} {k} l e f d =
+    let u : k ≡ i → ⊥ = λ q. d (f ∙ ap (λ j. (cell_at s j).kind) q ∙ e) in
+    elim (dec_lt k i) [ yes p ↦ p | no p ↦ absurd (u (omega (arith, l, p))) ]
+
 -- The answer about the parts that cells i and j hold is the answer about a and b.
 pub record Leads {X : Type 0} (H : ℕ → X → Type 0) (q : X → X → Bool) (a b i j : ℕ) : Type 0 where
   pub at : PairAt H i j
   pub lower : i + j ≤ a + b
   pub on : (r : Bool) → PairSays H i j q r → PairSays H a b q r
 
-or_other : (p q : Bool) → (p || q) ≡ (q || p)
+pub or_other : (p q : Bool) → (p || q) ≡ (q || p)
 or_other true true = refl
 or_other true false = refl
 or_other false true = refl
 or_other false false = refl
 
-and_other : (p q : Bool) → (p && q) ≡ (q && p)
+pub and_other : (p q : Bool) → (p && q) ≡ (q && p)
 and_other true true = refl
 and_other true false = refl
 and_other false true = refl
@@ -49,8 +61,16 @@ module _ {X : Type 0} {H : ℕ → X → Type 0} {q : X → X → Bool} where
     is = p.is ∙ other (q p.first.first p.first.second) (q p.second.first p.second.second);
   }
 
-  pub or_swapped : {n a b c d : ℕ} {x y : X} → Splits H q ◌||◌ n a b c d x y → Splits H q ◌||◌ n c d a b x y
-  or_swapped = swapped ◌||◌ or_other
+  -- the two parts in the walk's order, of the first cell and of the second
+  pub left_in_order : {o : Bool → Bool → Bool} → ((p q : Bool) → o p q ≡ o q p) → {n a b f g j : ℕ} {x y : X} → InOrder a b f g → Splits H q o n a j b j x y →
+      Splits H q o n f j g j x y
+  left_in_order {o} other (inl h) p = rw (h.0, h.1) p
+  left_in_order {o} other (inr h) p = rw (h.0, h.1) (swapped o other p)
+
+  pub right_in_order : {o : Bool → Bool → Bool} → ((p q : Bool) → o p q ≡ o q p) → {n a b f g i : ℕ} {x y : X} → InOrder a b f g → Splits H q o n i a i b x y →
+      Splits H q o n i f i g x y
+  right_in_order {o} other (inl h) p = rw (h.0, h.1) p
+  right_in_order {o} other (inr h) p = rw (h.0, h.1) (swapped o other p)
 
   pub and_swapped : {n a b c d : ℕ} {x y : X} → Splits H q ◌&&◌ n a b c d x y → Splits H q ◌&&◌ n c d a b x y
   and_swapped = swapped ◌&&◌ and_other
@@ -90,7 +110,7 @@ module _ {s : List ℕ} {q : Term → Bool} where
   pub one_walk_starts : {i : ℕ} → TermAt s i → OneLeads s q i i
   one_walk_starts p = record { at = p; lower = omega arith; on = λ r u. u }
 
-  pub one_swapped : {i a b : ℕ} {e : Term} → OneSplits s q i a b e → OneSplits s q i b a e
+  one_swapped : {i a b : ℕ} {e : Term} → OneSplits s q i a b e → OneSplits s q i b a e
   one_swapped p = record {
     first = p.second;
     second = p.first;
@@ -98,6 +118,10 @@ module _ {s : List ℕ} {q : Term → Bool} where
     second_less = p.first_less;
     is = p.is ∙ and_other (q p.first.term) (q p.second.term);
   }
+
+  pub one_in_order : {i a b f g : ℕ} {e : Term} → InOrder a b f g → OneSplits s q i a b e → OneSplits s q i f g e
+  one_in_order (inl h) p = rw (h.0, h.1) p
+  one_in_order (inr h) p = rw (h.0, h.1) (one_swapped p)
 
   module _ {i k a b : ℕ} {p : Bool} (l : OneLeads s q i k) (w : (e : Term) → HoldsTerm s k e → OneSplits s q k a b e) (u : TermSays s a q p) where
     pub one_goes_on : p ≡ true → OneLeads s q i b
@@ -143,7 +167,7 @@ pub record OneHalves (q : Term → Bool) (μ : ℕ) : Type 0 where
   pub leads : OneLeads s q i k
   pub halves : (e : Term) → HoldsTerm s k e → OneSplits s q k a b e
   pub small : i < 131072
-  pub measure : 2 * i + 1 ≡ μ
+  pub measure : 2 * i ≡ μ
 
 pub one_own : {q : Term → Bool} {μ : ℕ} (w : OneHalves q μ) → OneSplits w.s q w.k w.a w.b w.leads.at.term
 one_own w = w.halves _ w.leads.at.holds

@@ -9,6 +9,11 @@ use Rattle.format.specs.Tree.{Tree}
 use Rattle.format.specs.Terms.{to_term}
 use Rattle.cells.specs.Held.{HeldField, HoldsType, HoldsTerm}
 use Rattle.cells.specs.Coded.{use_of}
+use Rattle.cells.specs.declared.Use as Code
+
+-- f and g are the halves a and b of an intersection or a merge, in either order.
+abbrev pub InOrder : (a b f g : ℕ) → Type 0
+InOrder a b f g = ((f ≡ a) × (g ≡ b)) ⊎ ((f ≡ b) × (g ≡ a))
 
 -- Two cells hold something, each by H.
 pub record PairAt {X : Type 0} (H : ℕ → X → Type 0) (a b : ℕ) : Type 0 where
@@ -57,7 +62,7 @@ pub record HalvesSay (s : List ℕ) (i j a b : ℕ) (q : Term → Term → Ty �
   pub says : (e f : Term) (A B : Ty) → HoldsTerm s i e → HoldsTerm s j f → HoldsType s a A → HoldsType s b B → r ≡ q e f A B
 
 -- A field of this use and number, in some cell, and the tree that it holds.
-pub record FieldAt (s : List ℕ) (u n : ℕ) : Type 0 where
+pub record FieldAt (s : List ℕ) (u : Code.Use) (n : ℕ) : Type 0 where
   pub cell : ℕ
   pub tree : Tree
   pub holds : HeldField true s cell (use_of u) n tree
@@ -70,12 +75,12 @@ closed_in (refers type_sort) k t = true
 closed_in (refers term_sort) k t = is_closed k (to_term t)
 
 -- A field under k binders, each of a cell of its own.
-pub record ClosedAt (s : List ℕ) (u n k : ℕ) : Type 0 where
+pub record ClosedAt (s : List ℕ) (u : Code.Use) (n k : ℕ) : Type 0 where
   pub at : FieldAt s u n
   pub small : k + at.cell ≤ 131072
 
 -- r is whether what the field holds is closed so.
-pub record ClosedSays (s : List ℕ) (u n k : ℕ) (r : Bool) : Type 0 where
+pub record ClosedSays (s : List ℕ) (u : Code.Use) (n k : ℕ) (r : Bool) : Type 0 where
   pub says : (c : ℕ) (f : Tree) → HeldField true s c (use_of u) n f → r ≡ closed_in (use_of u) k f
 
 -- two types, the second neither top-like nor an intersection
@@ -89,15 +94,15 @@ pub record TwoPlain (s : List ℕ) (a b : ℕ) : Type 0 where
   pub under : UnderPlain s a b
   pub first_single : (cell_at s a).kind ≡ 4 → ⊥
 
--- two types, the first no intersection
-pub record SingleType (s : List ℕ) (a b : ℕ) : Type 0 where
+-- two types, the first an intersection
+pub record LeftInter (s : List ℕ) (a b : ℕ) : Type 0 where
   pub types : TypesAt s a b
-  pub first_single : (cell_at s a).kind ≡ 4 → ⊥
+  pub inter : (cell_at s a).kind ≡ 4
 
--- nor the second
-pub record SingleTypes (s : List ℕ) (a b : ℕ) : Type 0 where
-  pub first : SingleType s a b
-  pub second_single : (cell_at s b).kind ≡ 4 → ⊥
+-- or the second
+pub record RightInter (s : List ℕ) (a b : ℕ) : Type 0 where
+  pub types : TypesAt s a b
+  pub inter : (cell_at s b).kind ≡ 4
 
 -- a number, a function or a record: 17, 21, 24
 abbrev pub Plain : ℕ → Type 0
@@ -113,20 +118,20 @@ pub record PlainPair (s : List ℕ) (i j : ℕ) : Type 0 where
   pub first : PlainAt s i j
   pub plain : Plain (cell_at s j).kind
 
--- a term that is no merge
-pub record OneAt (s : List ℕ) (i : ℕ) : Type 0 where
+-- a merge
+pub record MergeAt (s : List ℕ) (i : ℕ) : Type 0 where
   pub at : TermAt s i
-  pub single : (cell_at s i).kind ≡ 22 → ⊥
+  pub merge : (cell_at s i).kind ≡ 22
 
--- two terms, the first no merge
-pub record FirstSingle (s : List ℕ) (i j : ℕ) : Type 0 where
+-- two terms, the first a merge
+pub record LeftMerge (s : List ℕ) (i j : ℕ) : Type 0 where
   pub terms : TermsAt s i j
-  pub single : (cell_at s i).kind ≡ 22 → ⊥
+  pub merge : (cell_at s i).kind ≡ 22
 
--- a number, a function or a record, and a term that is no merge
-pub record PlainSingle (s : List ℕ) (i j : ℕ) : Type 0 where
+-- a number, a function or a record, and a merge
+pub record RightMerge (s : List ℕ) (i j : ℕ) : Type 0 where
   pub first : PlainAt s i j
-  pub single : (cell_at s j).kind ≡ 22 → ⊥
+  pub merge : (cell_at s j).kind ≡ 22
 
 -- a yes says that the two terms are consistent; a no says nothing
 pub record Agreeing (s : List ℕ) (i j : ℕ) (r : Bool) : Type 0 where

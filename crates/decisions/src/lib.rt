@@ -1,17 +1,17 @@
 // Questions about the types and terms that cells hold: subtyping, disjointness, closed, closed value, consistent. Answers only:
 // nothing is written, and no function keeps an array. A type cell's field c says whether the type is top-like, so that each pair of
-// nodes is left at once where either side is.
+// nodes is left at once where either side is. The two cells that a question is about are its arguments: most calls change one of them. Kinds and marks are numbers, as in cells: document 01, "dispatch on kind numbers".
 #![tactic(auto)]
 
 ghost use Rattle.calculus.specs.Decide.{is_below, is_disjoint, is_consistent};
 ghost use Rattle.calculus.specs.Infer.{is_mergeable};
 ghost use Rattle.decisions.specs.Questions.{TypesAt, TypesSay, TermAt, TermSays, TermsAt, TermsSay, HalvesAt, HalvesSay};
 ghost use Rattle.decisions.specs.Questions.{ClosedAt, ClosedSays, is_closed_value, PlainAt, PlainPair, UnderPlain, TwoPlain};
-ghost use Rattle.decisions.specs.Questions.{OneAt, FirstSingle, PlainSingle, Agreeing, SingleType, SingleTypes};
+ghost use Rattle.decisions.specs.Questions.{InOrder, MergeAt, LeftMerge, RightMerge, Agreeing, LeftInter, RightInter};
 ghost use Rattle.std.specs.Prelude.{◌+◌, ◌*◌, ◌≤◌, ◌<◌, ◌≡◌, length};
 ghost use Rattle.format.specs.Cell.{cell_at};
 
-use cells::{binders, entry_of, read_cell};
+use cells::{Cell, Use, binders, entry_of, read_cell};
 use equality::same_tree;
 
 fn kind_at(s: &[u8], i: usize) -> u8
@@ -19,6 +19,19 @@ fn kind_at(s: &[u8], i: usize) -> u8
     ensures { result ≡ (cell_at s.now i).kind }
 {
     read_cell(s, i).kind
+}
+
+// The halves of an intersection or a merge, as a walk takes them: first the one that it asks about, which has no parts if the other has none; then the
+// one that it goes on with.
+fn two_halves(s: &[u8], x: Cell) -> (usize, usize)
+    requires { 8 * x.b + 8 ≤ length s.now }
+    ensures { InOrder x.a x.b result.0 result.1 }
+{
+    if kind_at(s, x.b) == x.kind {
+        (x.a, x.b)
+    } else {
+        (x.b, x.a)
+    }
 }
 
 // A type is below itself, so the same cell on both sides is an answer. The right side is split first, then the left.
@@ -40,8 +53,7 @@ pub fn subtype(s: &[u8], a: usize, b: usize) -> bool
     part_below(s, a, b)
 }
 
-// Whether a part of the type at a is below the one at b, which is neither top-like nor an intersection. Of two halves the one that is no
-// intersection is asked first, and the walk goes on with the other.
+// Whether a part of the type at a is below the one at b, which is neither top-like nor an intersection.
 #[cycle(subtyping)]
 fn part_below(s: &[u8], a: usize, b: usize) -> bool
     requires { UnderPlain s.now a b }
@@ -49,18 +61,11 @@ fn part_below(s: &[u8], a: usize, b: usize) -> bool
 {
     let mut i = a;
     while kind_at(s, i) == 4 {
-        let x = read_cell(s, i);
-        if kind_at(s, x.b) == 4 {
-            if half_below(s, x.a, b) {
-                return true;
-            }
-            i = x.b;
-        } else {
-            if half_below(s, x.b, b) {
-                return true;
-            }
-            i = x.a;
+        let (half, rest) = two_halves(s, read_cell(s, i));
+        if half_below(s, half, b) {
+            return true;
         }
+        i = rest;
     }
     single_below(s, i, b)
 }
@@ -101,65 +106,10 @@ fn single_below(s: &[u8], a: usize, b: usize) -> bool
     true
 }
 
-// The left side is split first, then the right. Of two halves the one that is no intersection is asked first, and the walk goes on with
-// the other.
+// The left side is split first, then the right.
 #[cycle(disjointness)]
 pub fn disjoint(s: &[u8], a: usize, b: usize) -> bool
     requires { TypesAt s.now a b }
-    ensures { TypesSay s.now a b is_disjoint result }
-{
-    if read_cell(s, b).c == 1 {
-        return true;
-    }
-    let mut i = a;
-    while kind_at(s, i) == 4 {
-        let x = read_cell(s, i);
-        if x.c == 1 {
-            return true;
-        }
-        if kind_at(s, x.b) == 4 {
-            if !disjoint(s, x.a, b) {
-                return false;
-            }
-            i = x.b;
-        } else {
-            if !apart_each(s, x.b, b) {
-                return false;
-            }
-            i = x.a;
-        }
-    }
-    apart_each(s, i, b)
-}
-
-// A type that is no intersection against each part of the one at b.
-#[cycle(disjointness)]
-fn apart_each(s: &[u8], a: usize, b: usize) -> bool
-    requires { SingleType s.now a b }
-    ensures { TypesSay s.now a b is_disjoint result }
-{
-    let mut j = b;
-    while kind_at(s, j) == 4 {
-        let y = read_cell(s, j);
-        if kind_at(s, y.b) == 4 {
-            if !apart_each(s, a, y.a) {
-                return false;
-            }
-            j = y.b;
-        } else {
-            if !apart_pair(s, a, y.b) {
-                return false;
-            }
-            j = y.a;
-        }
-    }
-    apart_pair(s, a, j)
-}
-
-// Two types that are no intersections.
-#[cycle(disjointness)]
-fn apart_pair(s: &[u8], a: usize, b: usize) -> bool
-    requires { SingleTypes s.now a b }
     ensures { TypesSay s.now a b is_disjoint result }
 {
     let x = read_cell(s, a);
@@ -169,6 +119,12 @@ fn apart_pair(s: &[u8], a: usize, b: usize) -> bool
     }
     if y.c == 1 {
         return true;
+    }
+    if x.kind == 4 {
+        return apart_left(s, a, b);
+    }
+    if y.kind == 4 {
+        return apart_right(s, a, b);
     }
     if x.kind != y.kind {
         return true;
@@ -182,14 +138,53 @@ fn apart_pair(s: &[u8], a: usize, b: usize) -> bool
     false
 }
 
+// The same of an intersection on the left, part by part, up to a rest that is top-like.
+#[cycle(disjointness)]
+fn apart_left(s: &[u8], a: usize, b: usize) -> bool
+    requires { LeftInter s.now a b }
+    ensures { TypesSay s.now a b is_disjoint result }
+{
+    let mut i = a;
+    while kind_at(s, i) == 4 {
+        let x = read_cell(s, i);
+        if x.c == 1 {
+            return true;
+        }
+        let (half, rest) = two_halves(s, x);
+        if !disjoint(s, half, b) {
+            return false;
+        }
+        i = rest;
+    }
+    disjoint(s, i, b)
+}
+
+// The same of an intersection on the right, part by part. A loop a side: one walk for both would be handed a closure, which in a cycle of calls states its own
+// `requires`, `ensures` and measure, longer than the loop.
+#[cycle(disjointness)]
+fn apart_right(s: &[u8], a: usize, b: usize) -> bool
+    requires { RightInter s.now a b }
+    ensures { TypesSay s.now a b is_disjoint result }
+{
+    let mut j = b;
+    while kind_at(s, j) == 4 {
+        let (half, rest) = two_halves(s, read_cell(s, j));
+        if !disjoint(s, a, half) {
+            return false;
+        }
+        j = rest;
+    }
+    disjoint(s, a, j)
+}
+
 // Whether no variable in a field of use u skips k binders or more. A field that is no term has no variable.
-fn closed(s: &[u8], u: u8, i: usize, k: usize) -> bool
+fn closed(s: &[u8], u: Use, i: usize, k: usize) -> bool
     requires { ClosedAt s.now u i k }
     ensures { ClosedSays s.now u i k result }
 {
-    if u < 3 {
+    let Use::ToTerm = u else {
         return true;
-    }
+    };
     let x = read_cell(s, i);
     if x.kind == 16 {
         return x.a < k;
@@ -206,42 +201,28 @@ fn equal_numbers(s: &[u8], i: usize, j: usize) -> bool
 {
     let x = read_cell(s, i);
     let y = read_cell(s, j);
-    if x.kind != 17 {
-        return false;
-    }
-    if y.kind != 17 {
-        return false;
-    }
-    if x.a != y.a {
+    if x.kind != 17 || y.kind != 17 || x.a != y.a {
         return false;
     }
     x.b + 65536 * x.c == y.b + 65536 * y.c
 }
 
-// The left side is split first, then the right. Of two halves the one that is no merge is asked first, and the walk goes on with the other.
+// The left side is split first, then the right.
 #[cycle(consistency)]
 pub fn consistent(s: &[u8], i: usize, j: usize) -> bool
     requires { TermsAt s.now i j }
     ensures { TermsSay s.now i j is_consistent result }
 {
-    let mut k = i;
-    while kind_at(s, k) == 22 {
-        let x = read_cell(s, k);
-        if kind_at(s, x.b) == 22 {
-            if !consistent_half(s, x.a, j) {
-                return false;
-            }
-            k = x.b;
-        } else {
-            if !consistent_half(s, x.b, j) {
-                return false;
-            }
-            k = x.a;
-        }
+    let x = read_cell(s, i);
+    match x.kind {
+        18 => true,
+        22 => consistent_left(s, i, j),
+        17 | 21 | 24 => consistent_plain(s, i, j),
+        _ => false,
     }
-    consistent_one(s, k, j)
 }
 
+// The same of a part: equal numbers agree at once, before any call.
 #[cycle(consistency)]
 fn consistent_half(s: &[u8], i: usize, j: usize) -> bool
     requires { TermsAt s.now i j }
@@ -253,72 +234,53 @@ fn consistent_half(s: &[u8], i: usize, j: usize) -> bool
     consistent(s, i, j)
 }
 
-// A term on the left that is no merge.
+// The same of a merge on the left, part by part.
 #[cycle(consistency)]
-fn consistent_one(s: &[u8], i: usize, j: usize) -> bool
-    requires { FirstSingle s.now i j }
+fn consistent_left(s: &[u8], i: usize, j: usize) -> bool
+    requires { LeftMerge s.now i j }
     ensures { TermsSay s.now i j is_consistent result }
 {
-    let x = read_cell(s, i);
-    let kind = x.kind;
-    match kind {
+    let mut k = i;
+    while kind_at(s, k) == 22 {
+        let (half, rest) = two_halves(s, read_cell(s, k));
+        if !consistent_half(s, half, j) {
+            return false;
+        }
+        k = rest;
+    }
+    consistent_half(s, k, j)
+}
+
+// A number, a function or a record on the left.
+#[cycle(consistency)]
+fn consistent_plain(s: &[u8], i: usize, j: usize) -> bool
+    requires { PlainAt s.now i j }
+    ensures { TermsSay s.now i j is_consistent result }
+{
+    let y = read_cell(s, j);
+    match y.kind {
         18 => true,
-        17 | 21 | 24 => consistent_each(s, i, j),
+        22 => consistent_right(s, i, j),
+        17 | 21 | 24 => consistent_pair(s, i, j),
         _ => false,
     }
 }
 
-// A number, a function or a record against each part of the term at j.
+// The same against a merge, part by part: a loop a side, as for disjointness.
 #[cycle(consistency)]
-fn consistent_each(s: &[u8], i: usize, j: usize) -> bool
-    requires { PlainAt s.now i j }
+fn consistent_right(s: &[u8], i: usize, j: usize) -> bool
+    requires { RightMerge s.now i j }
     ensures { TermsSay s.now i j is_consistent result }
 {
     let mut k = j;
     while kind_at(s, k) == 22 {
-        let y = read_cell(s, k);
-        if kind_at(s, y.b) == 22 {
-            if !each_half(s, i, y.a) {
-                return false;
-            }
-            k = y.b;
-        } else {
-            if !each_half(s, i, y.b) {
-                return false;
-            }
-            k = y.a;
+        let (half, rest) = two_halves(s, read_cell(s, k));
+        if !consistent_half(s, i, half) {
+            return false;
         }
+        k = rest;
     }
-    each_one(s, i, k)
-}
-
-#[cycle(consistency)]
-fn each_half(s: &[u8], i: usize, j: usize) -> bool
-    requires { PlainAt s.now i j }
-    ensures { TermsSay s.now i j is_consistent result }
-{
-    if equal_numbers(s, i, j) {
-        return true;
-    }
-    consistent_each(s, i, j)
-}
-
-// The same against a term that is no merge.
-#[cycle(consistency)]
-fn each_one(s: &[u8], i: usize, j: usize) -> bool
-    requires { PlainSingle s.now i j }
-    ensures { TermsSay s.now i j is_consistent result }
-{
-    if equal_numbers(s, i, j) {
-        return true;
-    }
-    let y = read_cell(s, j);
-    let kind = y.kind;
-    match kind {
-        18 => true,
-        17 | 21 | 24 => consistent_pair(s, i, j),
-        _ => false,
-    }
+    consistent_half(s, i, k)
 }
 
 // Two terms, each a number, a function or a record. Disjointness is asked only where two functions differ.
@@ -344,44 +306,37 @@ fn consistent_pair(s: &[u8], i: usize, j: usize) -> bool
     disjoint(s, x.c, y.c)
 }
 
-// Whether the term at i is a closed value, in one walk.
+// Whether the term at i is a closed value.
 #[cycle(closed_values)]
 fn closed_value(s: &[u8], i: usize) -> bool
     requires { TermAt s.now i × (i < 131072) }
     ensures { TermSays s.now i is_closed_value result }
 {
-    let mut k = i;
-    while kind_at(s, k) == 22 {
-        let x = read_cell(s, k);
-        if kind_at(s, x.b) == 22 {
-            if !closed_value(s, x.a) {
-                return false;
-            }
-            k = x.b;
-        } else {
-            if !single_value(s, x.b) {
-                return false;
-            }
-            k = x.a;
-        }
+    let x = read_cell(s, i);
+    match x.kind {
+        22 => closed_parts(s, i),
+        24 => closed_value(s, x.a),
+        21 => closed(s, Use::ToTerm, x.a, 1),
+        17 | 18 => true,
+        _ => false,
     }
-    single_value(s, k)
 }
 
-// The same of a term that is no merge.
+// The same of a merge, part by part: a loop of its own, as for disjointness.
 #[cycle(closed_values)]
-fn single_value(s: &[u8], i: usize) -> bool
-    requires { OneAt s.now i × (i < 131072) }
+fn closed_parts(s: &[u8], i: usize) -> bool
+    requires { MergeAt s.now i × (i < 131072) }
     ensures { TermSays s.now i is_closed_value result }
 {
-    let x = read_cell(s, i);
-    if x.kind == 24 {
-        return closed_value(s, x.a);
+    let mut k = i;
+    while kind_at(s, k) == 22 {
+        let (half, rest) = two_halves(s, read_cell(s, k));
+        if !closed_value(s, half) {
+            return false;
+        }
+        k = rest;
     }
-    if x.kind == 21 {
-        return closed(s, 3, x.a, 1);
-    }
-    x.kind == 17 || x.kind == 18
+    closed_value(s, k)
 }
 
 // Whether the halves i and j of a merge, of the types at a and b, may stand together.

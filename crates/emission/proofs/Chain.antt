@@ -16,8 +16,7 @@ use Rattle.cells.specs.declared.Cell.{Cell as Struct}
 use Rattle.cells.specs.declared.Entry.{Entry}
 use Rattle.cells.specs.Held.{label_by_lem}
 use Rattle.emission.specs.Emits.{Space, Emits, LastReady, Finishes, refer_by, RowReady}
-use Rattle.emission.specs.declared.Emitted.{Emitted}
-use Rattle.emission.specs.declared.Emitted.TheVariants.{Next, Full}
+use Rattle.std.specs.Prelude.{Option, Some, None}
 use Rattle.emission.proofs.Compose.{Placed, placed, no_room, placed_raw, placed_space}
 use Rattle.emission.proofs.Compose.{Stands, s_unused, s_plain, s_refers, refer_stands, refer_ready, refer_fits}
 use Rattle.emission.proofs.Compose.{emits_node, too_big}
@@ -44,7 +43,7 @@ module _ {W : Type 0} where
 
 -- ---- the tree, to be emitted from cell m on
 
-abbrev pub Each : {W : Type 0} → (W → Tree) → List ℕ → List ℕ → ℕ → Emitted → Type 0
+abbrev pub Each : {W : Type 0} → (W → Tree) → List ℕ → List ℕ → ℕ → Option ℕ → Type 0
 Each {W} t d e m r = (w : W) → Emits d e m r (t w)
 
 pub record Chain (W : Type 0) (N : W → Tree) (d : List ℕ) (m : ℕ) : Type 0 where
@@ -70,10 +69,10 @@ module _ {W : Type 0} {N : W → Tree} {d : List ℕ} {m : ℕ} (z : Chain W N d
     pub so_far : Second f x g y
     pub third : (w : W) → Placed g h y v (z.c.tree w)
 
-  pub first : {f : List ℕ} {x : ℕ} {r : Emitted} → Each z.a.tree d f m r → r ≡ Next x → First f x
+  pub first : {f : List ℕ} {x : ℕ} {r : Option ℕ} → Each z.a.tree d f m r → r ≡ Some x → First f x
   first p q = record { first = λ w. placed (p w) q }
 
-  pub none_first : {e : List ℕ} {r : Emitted} → Each z.a.tree d e m r → r ≡ Full → Each N d e m Full
+  pub none_first : {e : List ℕ} {r : Option ℕ} → Each z.a.tree d e m r → r ≡ None → Each N d e m None
   unfolding cells
   none_first p q w = rw (z.is w) (too_big (omega (arith, no_room (p w) q)))
 
@@ -104,13 +103,13 @@ module _ {W : Type 0} {N : W → Tree} {d : List ℕ} {m : ℕ} {z : Chain W N d
     pub second_space : Space f x
     second_space = placed_space z.space (k.first z.own)
 
-    pub second : {g : List ℕ} {y : ℕ} {r : Emitted} → Each z.b.tree f g x r → r ≡ Next y → Second z f x g y
+    pub second : {g : List ℕ} {y : ℕ} {r : Option ℕ} → Each z.b.tree f g x r → r ≡ Some y → Second z f x g y
     second p q = record { so_far = k; second = λ w. placed (p w) q }
 
     pub second_none : z.b ≡ of_none → Second z f x f x
     second_none e = record { so_far = k; second = λ w. rw e (placed_raw f x 0 second_space.used) }
 
-    pub none_second : {e : List ℕ} {r : Emitted} → Each z.b.tree f e x r → r ≡ Full → Each N d e m Full
+    pub none_second : {e : List ℕ} {r : Option ℕ} → Each z.b.tree f e x r → r ≡ None → Each N d e m None
     unfolding cells
     none_second p q w = rw (z.is w) (too_big (omega (arith, (k.first w).next, no_room (p w) q)))
 
@@ -118,13 +117,13 @@ module _ {W : Type 0} {N : W → Tree} {d : List ℕ} {m : ℕ} {z : Chain W N d
     pub third_space : Space g y
     third_space = placed_space (second_space k.so_far) (k.second z.own)
 
-    pub third : {h : List ℕ} {v : ℕ} {r : Emitted} → Each z.c.tree g h y r → r ≡ Next v → Third z f x g y h v
+    pub third : {h : List ℕ} {v : ℕ} {r : Option ℕ} → Each z.c.tree g h y r → r ≡ Some v → Third z f x g y h v
     third p q = record { so_far = k; third = λ w. placed (p w) q }
 
     pub third_none : z.c ≡ of_none → Third z f x g y g y
     third_none e = record { so_far = k; third = λ w. rw e (placed_raw g y 0 third_space.used) }
 
-    pub none_third : {e : List ℕ} {r : Emitted} → Each z.c.tree g e y r → r ≡ Full → Each N d e m Full
+    pub none_third : {e : List ℕ} {r : Option ℕ} → Each z.c.tree g e y r → r ≡ None → Each N d e m None
     unfolding cells
     none_third p q w = rw (z.is w) (too_big (omega (arith, (k.so_far.first w).next, (k.second w).next, no_room (p w) q)))
 
@@ -148,7 +147,7 @@ module _ {W : Type 0} {N : W → Tree} {d : List ℕ} {m : ℕ} {z : Chain W N d
           };
         }
 
-    pub emitted : {e : List ℕ} {r : Emitted} → Finishes h e v (as_cell (last_of z x y v)) r → Each N d e m r
+    pub emitted : {e : List ℕ} {r : Option ℕ} → Finishes h e v (as_cell (last_of z x y v)) r → Each N d e m r
     emitted l w =
         let p = k.so_far.so_far.first w in
         let q = k.so_far.second w in

@@ -6,8 +6,9 @@ use native.Mathlib.Numerals.{add-one}
 use native.Mathlib.Omega.{arith}
 use mathlib.Core.Path.{◌≡◌, refl, sym, ap, ap₂, ◌∙◌}
 use mathlib.Core.Bool.{Bool, true}
+use mathlib.Core.Logic.{◌⊎◌, inl, inr}
 use mathlib.Core.List.{List, [], ◌++◌, append_assoc, append-nil}
-use mathlib.Core.Option.{Option, none, some}
+use mathlib.Core.Option.{Option as Maybe, none, some}
 use lib.ListN.{length, length-append}
 use lib.Seq.{sets, length-sets}
 use Rattle.format.specs.declared.Version.TheVariants.{Two}
@@ -16,15 +17,17 @@ use Rattle.format.specs.Cell.{Cell, cell_at, cell_bytes}
 use Rattle.format.specs.Tree.{Tree, cells, refer, encode}
 use Rattle.format.specs.Book.{size_limit}
 use Rattle.format.proofs.Tests.{All, ◌also◌, view}
-use Rattle.cells.specs.Coded.{CellFits, use_of}
+use Rattle.cells.specs.Coded.{CellFits, use_of, Refers}
 use Rattle.cells.specs.declared.Cell.{Cell as Struct}
 use Rattle.cells.specs.declared.Entry.{Entry}
+use Rattle.cells.specs.declared.Use as Code
+use Rattle.cells.specs.declared.Use.TheVariants.{Unused, Plain}
+use Rattle.cells.specs.Moves.{FieldMoves}
 use Rattle.cells.specs.Held.{label_by_lem}
 use Rattle.emission.specs.Emits.{Space, Emits}
 use Rattle.emission.specs.Runs.{Run, r_unused, r_plain, r_refers}
-use Rattle.emission.specs.Copies.{renumber, Inside, RenumberReady, moved_cell, CellOfRun, MoveReady, MovesCell, RunReady, EmitsRun, EndsAt, StartReady, StartsAt, EndReady, EmitsEnd}
-use Rattle.emission.specs.declared.Emitted.{Emitted}
-use Rattle.emission.specs.declared.Emitted.TheVariants.{Next, Full}
+use Rattle.emission.specs.Copies.{renumber, Inside, moved_cell, CellOfRun, MoveReady, MovesCell, RunReady, EmitsRun, EndsAt, StartReady, StartsAt, EndReady, EmitsEnd}
+use Rattle.std.specs.Prelude.{Option, Some, None}
 use Rattle.emission.proofs.Compose.{behind}
 use Rattle.cells.proofs.Rows.{Uses, uses}
 use Rattle.emission.proofs.Emitting.{Read, read_fits}
@@ -32,21 +35,10 @@ use Rattle.emission.proofs.Runs.{grows, ends, whole, counts}
 
 -- ---- a field
 
-pub renumber_refers : (u n x m : ℕ) → 2 ≤ u → n - x + m ≡ renumber (use_of u) n x m
-renumber_refers zero n x m h = absurd (omega arith)
-renumber_refers (suc zero) n x m h = absurd (omega arith)
-renumber_refers (suc (suc zero)) n x m h = refl
-renumber_refers (suc (suc (suc u))) n x m h = refl
-
-inside_refers : (u x i n : ℕ) → 2 ≤ u → Inside (use_of u) x i n → (x ≤ n) × (n < i)
-inside_refers zero x i n h p = absurd (omega arith)
-inside_refers (suc zero) x i n h p = absurd (omega arith)
-inside_refers (suc (suc zero)) x i n h p = p
-inside_refers (suc (suc (suc u))) x i n h p = p
-
-renumber_ready : (u x i n m : ℕ) → i - x + m < size_limit → Inside (use_of u) x i n → RenumberReady u n x m
-renumber_ready u x i n m r p =
-    record { low = λ h. (inside_refers u x i n h p).0; small = λ h. let q = inside_refers u x i n h p in omega (arith, r, q.0, q.1) }
+field_moves : (u : Use) (x i n m : ℕ) → n < 65536 → i - x + m < size_limit → Inside u x i n → FieldMoves x m u n
+field_moves unused x i n m h r p = h
+field_moves plain x i n m h r p = h
+field_moves (refers o) x i n m h r p = (p.0, omega (arith, r, p.0, p.1))
 
 renumber_fits : (u : Use) (x i n m : ℕ) → n < 65536 → i - x + m < size_limit → Inside u x i n → renumber u n x m < 65536
 renumber_fits unused x i n m h r p = omega arith
@@ -70,12 +62,13 @@ module _ {s d : List ℕ} {i x m : ℕ} {t : Cell} {y : Entry} (j : Moving s d i
       let c = j.read.cell in
       (rw (c, ← u.a) q.first, rw (c, ← u.b) q.second, rw (c, ← u.c) q.third)
 
-  pub renumbers : RenumberReady y.a t.a x m × RenumberReady y.b t.b x m × RenumberReady y.c t.c x m
+  pub renumbers : FieldMoves x m (use_of y.a) t.a × FieldMoves x m (use_of y.b) t.b × FieldMoves x m (use_of y.c) t.c
   renumbers =
-      let r = j.ready.room in (
-        renumber_ready y.a x i t.a m r references.0,
-        renumber_ready y.b x i t.b m r references.1,
-        renumber_ready y.c x i t.c m r references.2,
+      let r = j.ready.room in
+      let f = read_fits j.read in (
+        field_moves (use_of y.a) x i t.a m f.0 r references.0,
+        field_moves (use_of y.b) x i t.b m f.1 r references.1,
+        field_moves (use_of y.c) x i t.c m f.2 r references.2,
       )
 
   pub moves_fit : {z : Struct} → z.a ≡ renumber (use_of y.a) t.a x m → z.b ≡ renumber (use_of y.b) t.b x m
@@ -97,7 +90,7 @@ module _ {s d : List ℕ} {i x m : ℕ} {t : Cell} {y : Entry} (j : Moving s d i
 
 -- ---- cells copied, as bytes
 
-moved_by : Option Row → Cell → ℕ → ℕ → Cell
+moved_by : Maybe Row → Cell → ℕ → ℕ → Cell
 moved_by none t v w = t
 moved_by (some r) t v w = moved_cell t r v w
 
@@ -203,7 +196,7 @@ of_run {s = s} {v = v} a (r_refers {y = y} {z = z} {i = w} {r = r} p k m f g h e
 pub forward : {s d : List ℕ} {x end m : ℕ} → RunReady s d x end m → x ≤ end
 forward p = grows p.run
 
-pub run_full : {s d : List ℕ} {x end m : ℕ} → RunReady s d x end m → 4095 - m < end - x → EmitsRun s d d x end m Full
+pub run_full : {s d : List ℕ} {x end m : ℕ} → RunReady s d x end m → 4095 - m < end - x → EmitsRun s d d x end m None
 run_full p h = record { says = λ q o n t r. record { fits = λ f. absurd (omega (arith, h, f, counts r, p.space.used)); full = λ f. refl } }
 
 -- There is room for the run, and its cells before i stand from m on.
@@ -248,7 +241,7 @@ module _ {s d e : List ℕ} {x end m i : ℕ} (c : Copying s d e x end m i) wher
         bytes = b ∙ rw c.at (behind (copied s x m x c.count) (one s x m (x + c.count)) d (8 * m) c.bytes (omega (arith, n)));
       }
 
-  pub run_copied : end ≤ i → EmitsRun s d e x end m (Next (m + (end - x)))
+  pub run_copied : end ≤ i → EmitsRun s d e x end m (Some (m + (end - x)))
   run_copied u =
       record {
         says = λ q o n t r.
@@ -256,7 +249,7 @@ module _ {s d e : List ℕ} {x end m i : ℕ} (c : Copying s d e x end m i) wher
             let g : c.count ≡ cells t = omega (arith, k, u, c.within, c.at) in
             let h : end - x ≡ cells t = omega (arith, k) in
             record {
-              fits = λ f. (ap (λ a. Next (m + a)) h, c.bytes ∙ rw (g, copies s x m m (omega arith) (omega arith) r) refl);
+              fits = λ f. (ap (λ a. Some (m + a)) h, c.bytes ∙ rw (g, copies s x m m (omega arith) (omega arith) r) refl);
               full = λ f. absurd (omega (arith, f, h, c.room, c.ready.space.used));
             };
       }
@@ -297,10 +290,9 @@ bare_row k r e = (view (λ (q : Row). Bare q.a → Bare q.b × Bare q.c) (table 
         also (λ h. absurd h)
         also Prim.tt
 
-bare_use : (u : ℕ) → u < 2 → Bare (use_of u)
-bare_use zero h = Prim.tt
-bare_use (suc zero) h = Prim.tt
-bare_use (suc (suc u)) h = absurd (omega arith)
+bare_use : (u : Code.Use) → (u ≡ Unused) ⊎ (u ≡ Plain) → Bare (use_of u)
+bare_use u (inl e) = rw e Prim.tt
+bare_use u (inr e) = rw e Prim.tt
 
 bare_run : {q : Bool} {s : List ℕ} {x n e : ℕ} {u : Use} {t : Tree} → Bare u → Run q s x u n t e → e ≡ x
 bare_run b r_unused = refl
@@ -310,11 +302,8 @@ bare_run b (r_refers p k m f g h z _) = absurd b
 ends_at : {q : Bool} {s : List ℕ} {x n e : ℕ} {o : Sort} {t : Tree} → Run q s x (refers o) n t e → EndsAt q s x n × (e ≡ suc n)
 ends_at {o = o} {t = t} r = (record { sort = o; tree = t; run = whole r }, ends r)
 
-referred : {q : Bool} {s : List ℕ} {x n e : ℕ} {t : Tree} (u : ℕ) → 2 ≤ u → Run q s x (use_of u) n t e → EndsAt q s x n × (e ≡ suc n)
-referred zero l r = absurd (omega arith)
-referred (suc zero) l r = absurd (omega arith)
-referred (suc (suc zero)) l r = ends_at r
-referred (suc (suc (suc u))) l r = ends_at r
+referred : {q : Bool} {s : List ℕ} {x n e : ℕ} {t : Tree} (u : Code.Use) → Refers u → Run q s x (use_of u) n t e → EndsAt q s x n × (e ≡ suc n)
+referred u l r = ends_at (rw l.1 at r)
 
 -- y is the row of cell i as the code has it, t the cell as it was read
 module _ {q : Bool} {s : List ℕ} {x i : ℕ} (r : EndsAt q s x i) where
@@ -325,7 +314,7 @@ module _ {q : Bool} {s : List ℕ} {x i : ℕ} (r : EndsAt q s x i) where
       go (r_refers p k m f g h z _) = p.within
 
   module _ {t : Cell} {y : Entry} (j : Read s i t y) where
-    pub starts_here : y.a < 2 → i ≡ x
+    pub starts_here : (y.a ≡ Unused) ⊎ (y.a ≡ Plain) → i ≡ x
     starts_here l = go r.run
       where
         go : {e : ℕ} {o : Sort} {f : Tree} → Run q s x (refers o) i f e → i ≡ x
@@ -336,7 +325,7 @@ module _ {q : Bool} {s : List ℕ} {x i : ℕ} (r : EndsAt q s x i) where
             let n = bare_row k v o b in
             omega (arith, bare_run b f, bare_run n.0 g, bare_run n.1 h)
 
-    pub down : 2 ≤ y.a → EndsAt q s x t.a × (t.a < i)
+    pub down : Refers y.a → EndsAt q s x t.a × (t.a < i)
     down l = go r.run
       where
         go : {e : ℕ} {o : Sort} {f : Tree} → Run q s x (refers o) i f e → EndsAt q s x t.a × (t.a < i)
@@ -368,10 +357,10 @@ pub follows_within : {s : List ℕ} {at i : ℕ} → StartReady s at → Follows
 follows_within p f = ends_within (own_end p f)
 
 module _ {s : List ℕ} {at i : ℕ} {t : Cell} {y : Entry} (j : Following s at i t y) where
-  pub started : y.a < 2 → StartsAt s at i
+  pub started : (y.a ≡ Unused) ⊎ (y.a ≡ Plain) → StartsAt s at i
   started l = record { says = λ q x r. starts_here (j.follows.says q x r) j.read l }
 
-  pub goes_down : 2 ≤ y.a → Follows s at t.a × (t.a < i)
+  pub goes_down : Refers y.a → Follows s at t.a × (t.a < i)
   goes_down l = (record { says = λ q x r. (down (j.follows.says q x r) j.read l).0 }, (down (own_end j.ready j.follows) j.read l).1)
 
 -- ---- `emit_run_to`: the run begins at b
@@ -393,7 +382,7 @@ module _ {s d : List ℕ} {at m b : ℕ} (p : EndReady s d at m) (q : StartsAt s
         run = rw (e, add-one) r.run;
       }
 
-  pub end_emits : {e : List ℕ} {l : Emitted} → EmitsRun s d e b (at + 1) m l → EmitsEnd s d e at m l
+  pub end_emits : {e : List ℕ} {l : Option ℕ} → EmitsRun s d e b (at + 1) m l → EmitsEnd s d e at m l
   end_emits w =
       record {
         says = λ k o x t r.
@@ -418,5 +407,5 @@ module _ {s : List ℕ} {x i : ℕ} {o : Sort} {t : Tree} (r : Run true s x (ref
   pub run_ready : {d : List ℕ} {m : ℕ} → Space d m → EndReady s d i m
   run_ready p = record { space = p; from = start_ready }
 
-  pub run_emits : {d e : List ℕ} {m : ℕ} {l : Emitted} → EmitsEnd s d e i m l → Emits d e m l t
+  pub run_emits : {d e : List ℕ} {m : ℕ} {l : Option ℕ} → EmitsEnd s d e i m l → Emits d e m l t
   run_emits w = w.says true o x t r

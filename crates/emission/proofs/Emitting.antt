@@ -1,24 +1,25 @@
 -- What `emit` needs and leaves, call by call, from the cell that it reads and the row of its kind. Over kind and field. Assumes nothing.
-use Prim.Native.Nat.{ℕ, zero, suc, ◌+◌, ◌*◌, ◌≤◌, ◌<◌}
-use native.Mathlib.Omega.{arith}
+use Prim.Native.Nat.{ℕ, ◌+◌, ◌*◌, ◌≤◌, ◌<◌}
 use mathlib.Core.Path.{◌≡◌, refl, ◌∙◌}
 use mathlib.Core.Option.{some}
 use mathlib.Core.Bool.{false}
+use mathlib.Core.Logic.{◌⊎◌, inl, inr}
 use mathlib.Core.List.{List}
 use lib.ListN.{length}
-use Rattle.format.specs.Table.{Sort, term_sort, Use, refers, Row, row_of}
+use Rattle.format.specs.Table.{Sort, type_sort, term_sort, Use, unused, plain, refers, Row, row_of}
 use Rattle.format.specs.Cell.{IsBytes, Cell, cell_at}
 use Rattle.format.specs.Tree.{Tree, node}
 use Rattle.format.specs.Book.{size_limit}
 use Rattle.format.proofs.Tests.{cell_fits}
-use Rattle.cells.specs.Coded.{use_of, row_from}
+use Rattle.cells.specs.Coded.{use_of, row_from, Refers}
 use Rattle.cells.specs.declared.Entry.{Entry}
+use Rattle.cells.specs.declared.Use as Code
+use Rattle.cells.specs.declared.Use.TheVariants.{Unused, Plain, ToType, ToTerm}
 use Rattle.cells.specs.Held.{IsCell, label_by_lem, HeldField, f_unused, f_plain, f_refers}
 use Rattle.cells.proofs.Held.{any_sort}
-use Rattle.cells.proofs.Rows.{refers_at, uses, field_measure, field_less}
+use Rattle.cells.proofs.Rows.{uses, field_measure, field_less}
 use Rattle.emission.specs.Emits.{Space, Emits, RowReady, FieldReady, EmitsField}
-use Rattle.emission.specs.declared.Emitted.{Emitted}
-use Rattle.emission.specs.declared.Emitted.TheVariants.{Next}
+use Rattle.std.specs.Prelude.{Option, Some}
 use Rattle.emission.proofs.Compose.{emits_raw}
 use Rattle.emission.proofs.Chain.{Each, Chain, Third, FieldsOf, row_chain, row_ready}
 use Rattle.emission.proofs.Fields.{field_stands}
@@ -29,22 +30,32 @@ fields_fit s i y e = let f = cell_fits s y i in rw e (f.1, f.2, f.3)
 
 -- ---- the field of a use: nothing, or the tree of its cell
 
-as_term : {s : List ℕ} {n x : ℕ} {t : Tree} (u : ℕ) → 2 ≤ u → HeldField false s n (use_of u) x t → HeldField false s n (refers term_sort) x t
-as_term u l h = any_sort (rw (refers_at u l).1 at h)
+-- a reference is to a type or to a term
+pub a_reference : {u : Code.Use} → (u ≡ ToType) ⊎ (u ≡ ToTerm) → Refers u
+a_reference (inl e) = (type_sort, rw e refl)
+a_reference (inr e) = (term_sort, rw e refl)
 
-pub cell_ready : {s d : List ℕ} {u x m : ℕ} → 2 ≤ u → FieldReady s d u x m → FieldReady s d 3 x m
-cell_ready {u = u} l p = record { space = p.space; cell = p.cell; tree = p.tree; holds = as_term u l p.holds }
+as_term : {s : List ℕ} {n x : ℕ} {t : Tree} (u : Code.Use) → Refers u → HeldField false s n (use_of u) x t → HeldField false s n (refers term_sort) x t
+as_term u l h = any_sort (rw l.1 at h)
 
-pub cell_emits : {s d e : List ℕ} {u x m : ℕ} {r : Emitted} → 2 ≤ u → EmitsField s d e 3 x m r → EmitsField s d e u x m r
-cell_emits {u = u} l p = record { says = λ n t h. p.says n t (as_term u l h) }
+pub cell_ready : {s d : List ℕ} {u : Code.Use} {x m : ℕ} → Refers u → FieldReady s d u x m → FieldReady s d ToTerm x m
+cell_ready l p = record { space = p.space; cell = p.cell; tree = p.tree; holds = as_term _ l p.holds }
 
-pub none_emits : {s d : List ℕ} {x m : ℕ} (u : ℕ) → u < 2 → m ≤ size_limit → EmitsField s d d u x m (Next m)
-none_emits {s} {d} {x} {m} u l h = record { says = λ n t p. go u l n t p }
+pub cell_emits : {s d e : List ℕ} {u : Code.Use} {x m : ℕ} {r : Option ℕ} → Refers u → EmitsField s d e ToTerm x m r → EmitsField s d e u x m r
+cell_emits l p = record { says = λ n t h. p.says n t (as_term _ l h) }
+
+pub none_emits : {s d : List ℕ} {u : Code.Use} {x m : ℕ} → (u ≡ Unused) ⊎ (u ≡ Plain) → m ≤ size_limit → EmitsField s d d u x m (Some m)
+none_emits {s} {d} {u} {x} {m} l h = record { says = λ n t p. go l n t p }
   where
-    go : (u : ℕ) → u < 2 → (n : ℕ) (t : Tree) → HeldField false s n (use_of u) x t → Emits d d m (Next m) t
-    go zero l n t f_unused = emits_raw d m 0 h
-    go (suc zero) l n t f_plain = emits_raw d m x h
-    go (suc (suc u)) l n t p = absurd (omega arith)
+    no_cell : (n : ℕ) (t : Tree) → HeldField false s n unused x t → Emits d d m (Some m) t
+    no_cell n t f_unused = emits_raw d m 0 h
+
+    number : (n : ℕ) (t : Tree) → HeldField false s n plain x t → Emits d d m (Some m) t
+    number n t f_plain = emits_raw d m x h
+
+    go : (u ≡ Unused) ⊎ (u ≡ Plain) → (n : ℕ) (t : Tree) → HeldField false s n (use_of u) x t → Emits d d m (Some m) t
+    go (inl e) n t p = no_cell n t (rw e at p)
+    go (inr e) n t p = number n t (rw e at p)
 
 -- ---- the cell that is read
 
@@ -87,7 +98,7 @@ abbrev pub Trees : List ℕ → ℕ → Type 0
 Trees s i = (n : ℕ) × (x : Tree) × HeldField false s n (refers term_sort) i x
 
 pub record Started (s d : List ℕ) (i m : ℕ) (t : Cell) (y : Entry) : Type 0 where
-  pub ready : FieldReady s d 3 i m
+  pub ready : FieldReady s d ToTerm i m
   pub read : Read s i t y
 
 module _ {s d : List ℕ} {i m : ℕ} {t : Cell} {y : Entry} (j : Started s d i m t y) where
@@ -107,21 +118,21 @@ module _ {s d : List ℕ} {i m : ℕ} {t : Cell} {y : Entry} (j : Started s d i 
   pub ready_a : FieldReady s d y.a t.a m
   ready_a = record { space = j.ready.space; cell = i; tree = own.a; holds = own.holds_a }
 
-  pub each_a : {e : List ℕ} {r : Emitted} → EmitsField s d e y.a t.a m r → Each tree_chain.a.tree d e m r
+  pub each_a : {e : List ℕ} {r : Option ℕ} → EmitsField s d e y.a t.a m r → Each tree_chain.a.tree d e m r
   each_a p w = p.says i _ (fields_of j.read w.2).holds_a
 
   module _ {f : List ℕ} {x : ℕ} where
     pub ready_b : Space f x → FieldReady s f y.b t.b x
     ready_b h = record { space = h; cell = i; tree = own.b; holds = own.holds_b }
 
-    pub each_b : {e : List ℕ} {r : Emitted} → EmitsField s f e y.b t.b x r → Each tree_chain.b.tree f e x r
+    pub each_b : {e : List ℕ} {r : Option ℕ} → EmitsField s f e y.b t.b x r → Each tree_chain.b.tree f e x r
     each_b p w = p.says i _ (fields_of j.read w.2).holds_b
 
     pub ready_c : Space f x → FieldReady s f y.c t.c x
     ready_c h = record { space = h; cell = i; tree = own.c; holds = own.holds_c }
 
-    pub each_c : {e : List ℕ} {r : Emitted} → EmitsField s f e y.c t.c x r → Each tree_chain.c.tree f e x r
+    pub each_c : {e : List ℕ} {r : Option ℕ} → EmitsField s f e y.c t.c x r → Each tree_chain.c.tree f e x r
     each_c p w = p.says i _ (fields_of j.read w.2).holds_c
 
-pub trees : {s d e : List ℕ} {i m : ℕ} {r : Emitted} → Each {W = Trees s i} (λ w. w.1) d e m r → EmitsField s d e 3 i m r
+pub trees : {s d e : List ℕ} {i m : ℕ} {r : Option ℕ} → Each {W = Trees s i} (λ w. w.1) d e m r → EmitsField s d e ToTerm i m r
 trees p = record { says = λ n x h. p (n, x, h) }

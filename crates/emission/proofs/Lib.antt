@@ -1,7 +1,6 @@
 pub mod Compose
 pub mod Chain
 pub mod Fields
-pub mod Ends
 pub mod Emitting
 pub mod Runs
 pub mod EncodedRuns

@@ -1,5 +1,5 @@
 -- A run of cells copied into another buffer, its references moved with it; and where a run begins. Assumes nothing.
-use Rattle.std.specs.Prelude.{ℕ, suc, ◌+◌, ◌*◌, ◌-◌, ◌≤◌, ◌<◌, ◌≡◌, Bool, List, length}
+use Rattle.std.specs.Prelude.{ℕ, suc, ◌+◌, ◌*◌, ◌-◌, ◌≤◌, ◌<◌, ◌≡◌, Bool, List, Option, length}
 use Rattle.std.proofs.Math.Option.{some}
 use Rattle.std.proofs.lemmas.List.Edits.{sets}
 use Rattle.format.specs.Table.{Sort, Use, unused, plain, refers, Row, row_of}
@@ -9,7 +9,6 @@ use Rattle.format.specs.Book.{size_limit}
 use Rattle.cells.specs.Held.{label_by_lem}
 use Rattle.emission.specs.Emits.{Space, Emits}
 use Rattle.emission.specs.Runs.{Run}
-use Rattle.emission.specs.declared.Emitted.{Emitted}
 
 -- A field of number n, of a run that goes from cell x to cell m: 0 if unused, its number if plain, else a reference that goes with the run.
 abbrev pub renumber : Use → ℕ → ℕ → ℕ → ℕ
@@ -22,11 +21,6 @@ abbrev pub Inside : Use → ℕ → ℕ → ℕ → Type 0
 Inside unused x i n = Unit {0}
 Inside plain x i n = Unit {0}
 Inside (refers o) x i n = (x ≤ n) × (n < i)
-
--- A reference that moves from x to m within the limit.
-pub record RenumberReady (u n x m : ℕ) : Type 0 where
-  pub low : 2 ≤ u → x ≤ n
-  pub small : 2 ≤ u → n - x + m ≤ size_limit
 
 -- The cell, of a run that goes from x to m, by the row of its kind.
 abbrev pub moved_cell : Cell → Row → ℕ → ℕ → Cell
@@ -69,7 +63,7 @@ pub record RunReady (s d : List ℕ) (x end m : ℕ) : Type 0 where
   pub run : Run marked s x (refers sort) last tree end
 
 -- The tree of the run is emitted.
-pub record EmitsRun (s d e : List ℕ) (x end m : ℕ) (r : Emitted) : Type 0 where
+pub record EmitsRun (s d e : List ℕ) (x end m : ℕ) (r : Option ℕ) : Type 0 where
   pub says : (q : Bool) (o : Sort) (n : ℕ) (t : Tree) → Run q s x (refers o) n t end → Emits d e m r t
 
 -- A run that begins at x and ends with the cell i.
@@ -94,5 +88,5 @@ pub record EndReady (s d : List ℕ) (i m : ℕ) : Type 0 where
   pub from : StartReady s i
 
 -- The tree of that run is emitted.
-pub record EmitsEnd (s d e : List ℕ) (i m : ℕ) (r : Emitted) : Type 0 where
+pub record EmitsEnd (s d e : List ℕ) (i m : ℕ) (r : Option ℕ) : Type 0 where
   pub says : (q : Bool) (o : Sort) (x : ℕ) (t : Tree) → Run q s x (refers o) i t (suc i) → Emits d e m r t

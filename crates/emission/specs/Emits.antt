@@ -1,5 +1,5 @@
 -- Emitting a held tree into another buffer, as far as there is room: children first, root last. Assumes nothing.
-use Rattle.std.specs.Prelude.{ℕ, ◌+◌, ◌*◌, ◌-◌, ◌≤◌, ◌<◌, ◌≡◌, Bool, true, false, List, eqb, length}
+use Rattle.std.specs.Prelude.{ℕ, ◌+◌, ◌*◌, ◌-◌, ◌≤◌, ◌<◌, ◌≡◌, false, List, Option, None, Some, length}
 use Rattle.std.proofs.lemmas.List.Edits.{sets}
 use Rattle.format.specs.Table.{Use, unused, plain, refers}
 use Rattle.format.specs.Cell as Format
@@ -7,35 +7,21 @@ use Rattle.format.specs.Cell.{cell_bytes}
 use Rattle.format.specs.Tree.{Tree, cells, encode}
 use Rattle.format.specs.Book.{size_limit}
 use Rattle.cells.specs.Held.{label_by_lem, HeldField}
-use Rattle.cells.specs.Coded.{CellFits, use_of}
+use Rattle.cells.specs.Coded.{CellFits, use_of, Refers}
 use Rattle.cells.specs.declared.Cell.{Cell}
 use Rattle.cells.specs.declared.Entry.{Entry}
-use Rattle.emission.specs.declared.Emitted.{Emitted}
-use Rattle.emission.specs.declared.Emitted.TheVariants.{Next, Full}
+use Rattle.cells.specs.declared.Use as Code
 
 -- A buffer to emit into, of which m cells are used.
 pub record Space (d : List ℕ) (m : ℕ) : Type 0 where
   pub long : 32768 ≤ length d
   pub used : m ≤ size_limit
 
--- The tree stands in the buffer from cell m on, and the answer is the next free cell; or it would pass 4,095 cells. In that case nothing
+-- The tree stands in the buffer from cell m on, and the answer is the next free cell; or it would pass 4,095 cells, and it is none. In that case nothing
 -- is decided of the bytes left.
-pub record Emits (d e : List ℕ) (m : ℕ) (r : Emitted) (t : Tree) : Type 0 where
-  pub fits : m + cells t ≤ size_limit → (r ≡ Next (m + cells t)) × (e ≡ sets d (8 * m) (encode m t))
-  pub full : size_limit < m + cells t → r ≡ Full
-
--- No room, or the next free cell.
-abbrev pick_emitted : Bool → ℕ → Emitted
-pick_emitted true n = Full
-pick_emitted false n = Next n
-
--- An answer as a number: 4,096 for no room, else the next free cell.
-abbrev pub emitted_of : ℕ → Emitted
-emitted_of n = pick_emitted (eqb n 4096) n
-
--- The next free cell is within the limit.
-pub record EndsWithin (r : Emitted) : Type 0 where
-  pub says : (x : ℕ) → r ≡ Next x → x ≤ size_limit
+pub record Emits (d e : List ℕ) (m : ℕ) (r : Option ℕ) (t : Tree) : Type 0 where
+  pub fits : m + cells t ≤ size_limit → (r ≡ Some (m + cells t)) × (e ≡ sets d (8 * m) (encode m t))
+  pub full : size_limit < m + cells t → r ≡ None
 
 -- A cell to be written, and a buffer for it.
 pub record LastReady (d : List ℕ) (t : Cell) : Type 0 where
@@ -43,9 +29,9 @@ pub record LastReady (d : List ℕ) (t : Cell) : Type 0 where
   pub fits : CellFits t
 
 -- The cell stands at m, and the answer is the next free cell; or 4,095 cells stand already. In that case nothing is decided of the bytes.
-pub record Finishes (d e : List ℕ) (m : ℕ) (t : Format.Cell) (r : Emitted) : Type 0 where
-  pub fits : m < size_limit → (r ≡ Next (m + 1)) × (e ≡ sets d (8 * m) (cell_bytes t))
-  pub full : size_limit ≤ m → r ≡ Full
+pub record Finishes (d e : List ℕ) (m : ℕ) (t : Format.Cell) (r : Option ℕ) : Type 0 where
+  pub fits : m < size_limit → (r ≡ Some (m + 1)) × (e ≡ sets d (8 * m) (cell_bytes t))
+  pub full : size_limit ≤ m → r ≡ None
 
 -- What a field of number x holds for a tree that ends before a cell: 0 if unused, its number if plain, else the tree's last cell.
 abbrev pub refer_by : Use → ℕ → ℕ → ℕ
@@ -54,9 +40,9 @@ refer_by plain x next = x
 refer_by (refers o) x next = next - 1
 
 -- A tree that ends within the limit, and has a last cell if it is referred to.
-pub record ReferReady (u next : ℕ) : Type 0 where
+pub record ReferReady (u : Code.Use) (next : ℕ) : Type 0 where
   pub small : next ≤ size_limit
-  pub last : 2 ≤ u → 1 ≤ next
+  pub last : Refers u → 1 ≤ next
 
 -- The last cell of a tree of this kind, by its row, where the trees of its fields end before x, v and w.
 abbrev pub row_cell : Format.Cell → Entry → ℕ → ℕ → ℕ → Format.Cell
@@ -78,12 +64,12 @@ pub record RowReady (d : List ℕ) (t : Format.Cell) (y : Entry) (x v w : ℕ) :
   pub third : ReferReady y.c w
 
 -- A held field of a cell n and a buffer to emit it into.
-pub record FieldReady (s d : List ℕ) (u x m : ℕ) : Type 0 where
+pub record FieldReady (s d : List ℕ) (u : Code.Use) (x m : ℕ) : Type 0 where
   pub space : Space d m
   pub cell : ℕ
   pub tree : Tree
   pub holds : HeldField false s cell (use_of u) x tree
 
 -- The tree that the field holds, emitted.
-pub record EmitsField (s d e : List ℕ) (u x m : ℕ) (r : Emitted) : Type 0 where
+pub record EmitsField (s d e : List ℕ) (u : Code.Use) (x m : ℕ) (r : Option ℕ) : Type 0 where
   pub says : (n : ℕ) (t : Tree) → HeldField false s n (use_of u) x t → Emits d e m r t

@@ -1,59 +1,35 @@
 // Emitting: the tree of a cell, copied into another buffer as a tree of its own, children first and root last, as far as there is room
-// for 4,095 cells. By the table of kinds: one function for every kind. What stands as a run already is copied by one loop.
+// for 4,095 cells: the answer is the next free cell, or none for no room. By the table of kinds: one function for every kind. What stands
+// as a run already is copied by one loop.
+// Kinds and marks are numbers: document 01, "dispatch on kind numbers". s, d and m go side by side, in no struct: m is the answer of one call and
+// the argument of the next, and each caller lends s and d anew, so that a struct would be made and taken apart at every call.
 #![tactic(auto)]
 
 ghost use Rattle.std.specs.Prelude.{◌≡◌};
 ghost use Rattle.calculus.specs.Syntax.{unit};
 ghost use Rattle.format.specs.Terms.{from_term};
 ghost use Rattle.cells.specs.Coded.{as_cell, use_of};
-ghost use Rattle.emission.specs.Copies.{RenumberReady, renumber as renumberBy, MoveReady, MovesCell, RunReady, EmitsRun, StartReady, StartsAt, EndReady, EmitsEnd};
-ghost use Rattle.emission.specs.Emits.{Space, Emits, emitted_of, EndsWithin, LastReady, Finishes, ReferReady, refer_by, RowReady, row_cell, FieldReady, EmitsField};
+ghost use Rattle.cells.specs.Moves.{FieldMoves};
+ghost use Rattle.emission.specs.Copies.{renumber as renumberBy, MoveReady, MovesCell, RunReady, EmitsRun, StartReady, StartsAt, EndReady, EmitsEnd};
+ghost use Rattle.emission.specs.Emits.{Space, Emits, LastReady, Finishes, ReferReady, refer_by, RowReady, row_cell, FieldReady, EmitsField};
 
-use cells::{Cell, Entry, entry_of, label_by, read_cell, write_cell};
-
-// The next free cell, or no room.
-#[derive(Clone, Copy)]
-pub enum Emitted {
-    Next(usize),
-    Full,
-}
-
-// An answer as a number: 4,096 for no room.
-pub fn end_of(r: Emitted) -> usize
-    requires { EndsWithin r }
-    ensures { emitted_of result ≡ r }
-{
-    match r {
-        Emitted::Next(x) => x,
-        Emitted::Full => 4096,
-    }
-}
-
-// And back.
-pub fn answer_at(n: usize) -> Emitted
-    ensures { result ≡ emitted_of n }
-{
-    if n == 4096 {
-        return Emitted::Full;
-    }
-    Emitted::Next(n)
-}
+use cells::{Cell, Entry, Move, Use, entry_of, label_by, read_cell, write_cell};
 
 // The last cell of a tree, where there is room for it.
-pub fn finish(d: &mut [u8], m: usize, t: Cell) -> Emitted
+pub fn finish(d: &mut [u8], m: usize, t: Cell) -> Option<usize>
     requires { LastReady d.old t }
     ensures { Finishes d.old d.new m (as_cell t) result }
 {
     if m < 4095 {
         write_cell(d, m, t);
-        Emitted::Next(m + 1)
+        Some(m + 1)
     } else {
-        Emitted::Full
+        None
     }
 }
 
-// The top value, where there is room for it.
-pub fn finish_top(d: &mut [u8], m: usize) -> Emitted
+// The top value, where there is room for it. `running` writes one by another call: a literal each.
+pub fn finish_top(d: &mut [u8], m: usize) -> Option<usize>
     requires { Space d.old m }
     ensures { Emits d.old d.new m result (from_term unit) }
 {
@@ -71,131 +47,98 @@ pub fn finish_top(d: &mut [u8], m: usize) -> Emitted
 }
 
 // What a field holds for a tree that ends before cell next: 0 if unused, its number if plain, else the tree's last cell.
-fn refer(u: u8, x: usize, next: usize) -> usize
+fn refer(u: Use, x: usize, next: usize) -> usize
     requires { ReferReady u next }
     ensures { result ≡ refer_by (use_of u) x next }
 {
-    if u == 0 {
-        return 0;
+    match u {
+        Use::Unused => 0,
+        Use::Plain => x,
+        Use::ToType | Use::ToTerm => next - 1,
     }
-    if u == 1 {
-        return x;
-    }
-    next - 1
 }
 
 // The last cell of a tree, by the row e of its kind: its fields' trees end before the cells x, y and z.
-pub fn finish_row(d: &mut [u8], t: Cell, e: Entry, x: usize, y: usize, z: usize) -> Emitted
+pub fn finish_row(d: &mut [u8], t: Cell, e: Entry, x: usize, y: usize, z: usize) -> Option<usize>
     requires { RowReady d.old (as_cell t) e x y z }
     ensures { Finishes d.old d.new z (row_cell (as_cell t) e x y z) result }
 {
-    let label = label_by(e.label, t.label);
-    finish(
-        d,
-        z,
-        Cell {
-            kind: t.kind,
-            label,
-            a: refer(e.a, t.a, x),
-            b: refer(e.b, t.b, y),
-            c: refer(e.c, t.c, z),
-        },
-    )
+    let last = Cell {
+        label: label_by(e.label, t.label),
+        a: refer(e.a, t.a, x),
+        b: refer(e.b, t.b, y),
+        c: refer(e.c, t.c, z),
+        ..t
+    };
+    finish(d, z, last)
 }
 
 // The tree of a field: no cell for an unused or a plain one.
-pub fn emit_field(s: &[u8], d: &mut [u8], u: u8, x: usize, m: usize) -> Emitted
+#[cycle(emitting)]
+pub fn emit_field(s: &[u8], d: &mut [u8], u: Use, x: usize, m: usize) -> Option<usize>
     requires { FieldReady s.now d.old u x m }
     ensures { EmitsField s.now d.old d.new u x m result }
 {
-    let end = emit_child(s, d, u, x, m);
-    answer_at(end)
-}
-
-// The same; the answer is a number, which takes less stack at each level.
-#[cycle(emitting)]
-fn emit_child(s: &[u8], d: &mut [u8], u: u8, x: usize, m: usize) -> usize
-    requires { FieldReady s.now d.old u x m }
-    ensures { EmitsField s.now d.old d.new u x m (emitted_of result) }
-{
-    if u < 2 {
-        return m;
+    match u {
+        Use::Unused | Use::Plain => Some(m),
+        Use::ToType | Use::ToTerm => emit_tree(s, d, x, m),
     }
-    emit_tree(s, d, x, m)
 }
 
 #[cycle(emitting)]
-fn emit_tree(s: &[u8], d: &mut [u8], i: usize, m: usize) -> usize
-    requires { FieldReady s.now d.old 3 i m }
-    ensures { EmitsField s.now d.old d.new 3 i m (emitted_of result) }
+fn emit_tree(s: &[u8], d: &mut [u8], i: usize, m: usize) -> Option<usize>
+    requires { FieldReady s.now d.old Use.ToTerm i m }
+    ensures { EmitsField s.now d.old d.new Use.ToTerm i m result }
 {
     let t = read_cell(s, i);
     let e = entry_of(t.kind);
-    let x = emit_child(s, d, e.a, t.a, m);
-    if x == 4096 {
-        return 4096;
-    }
-    let y = emit_child(s, d, e.b, t.b, x);
-    if y == 4096 {
-        return 4096;
-    }
-    let z = emit_child(s, d, e.c, t.c, y);
-    if z == 4096 {
-        return 4096;
-    }
-    let r = finish_row(d, t, e, x, y, z);
-    end_of(r)
+    let x = emit_field(s, d, e.a, t.a, m)?;
+    let y = emit_field(s, d, e.b, t.b, x)?;
+    let z = emit_field(s, d, e.c, t.c, y)?;
+    finish_row(d, t, e, x, y, z)
 }
 
-// A field of a cell of a run that goes from x to m: a reference goes with it.
-fn renumber(u: u8, n: usize, x: usize, m: usize) -> usize
-    requires { RenumberReady u n x m }
-    ensures { result ≡ renumberBy (use_of u) n x m }
+// A field of a cell of a run that moves: 0 if unused, a reference goes with the run.
+fn renumber(u: Use, n: usize, run: Move) -> usize
+    requires { FieldMoves run.from run.to (use_of u) n }
+    ensures { result ≡ renumberBy (use_of u) n run.from run.to }
 {
-    if u == 0 {
-        return 0;
+    match u {
+        Use::Unused => 0,
+        Use::Plain | Use::ToType | Use::ToTerm => run.field(u, n),
     }
-    if u == 1 {
-        return n;
-    }
-    n - x + m
 }
 
-// Cell i of a run that goes from x to m.
-fn move_cell(s: &[u8], d: &mut [u8], i: usize, x: usize, m: usize)
-    requires { MoveReady s.now d.old i x m }
-    ensures { MovesCell s.now d.old d.new i x m }
+// Cell i of a run that moves.
+fn move_cell(s: &[u8], d: &mut [u8], i: usize, run: Move)
+    requires { MoveReady s.now d.old i run.from run.to }
+    ensures { MovesCell s.now d.old d.new i run.from run.to }
 {
     let t = read_cell(s, i);
     let e = entry_of(t.kind);
-    let label = label_by(e.label, t.label);
-    write_cell(
-        d,
-        i - x + m,
-        Cell {
-            kind: t.kind,
-            label,
-            a: renumber(e.a, t.a, x, m),
-            b: renumber(e.b, t.b, x, m),
-            c: renumber(e.c, t.c, x, m),
-        },
-    );
+    let moved = Cell {
+        label: label_by(e.label, t.label),
+        a: renumber(e.a, t.a, run),
+        b: renumber(e.b, t.b, run),
+        c: renumber(e.c, t.c, run),
+        ..t
+    };
+    write_cell(d, i - run.from + run.to, moved);
 }
 
 // The cells of a run from x on, before end, emitted from m on.
-pub fn emit_run(s: &[u8], d: &mut [u8], x: usize, end: usize, m: usize) -> Emitted
+pub fn emit_run(s: &[u8], d: &mut [u8], x: usize, end: usize, m: usize) -> Option<usize>
     requires { RunReady s.now d.old x end m }
     ensures { EmitsRun s.now d.old d.new x end m result }
 {
     if 4095 - m < end - x {
-        return Emitted::Full;
+        return None;
     }
-    let mut i = x;
-    while i < end {
-        move_cell(s, d, i, x, m);
-        i += 1;
+    let run = Move { from: x, to: m };
+    for i in x..end {
+        move_cell(s, d, i, run);
     }
-    Emitted::Next(m + (end - x))
+    Some(m + (end - x))
 }
 
 // Where the run begins that ends with the cell at: down by field a, as long as that is a reference.
@@ -207,15 +150,15 @@ pub fn start_of(s: &[u8], at: usize) -> usize
     loop {
         let t = read_cell(s, i);
         let e = entry_of(t.kind);
-        if e.a < 2 {
-            return i;
+        match e.a {
+            Use::Unused | Use::Plain => return i,
+            Use::ToType | Use::ToTerm => i = t.a,
         }
-        i = t.a;
     }
 }
 
 // The run that ends with the cell at, emitted from m on.
-pub fn emit_run_to(s: &[u8], d: &mut [u8], at: usize, m: usize) -> Emitted
+pub fn emit_run_to(s: &[u8], d: &mut [u8], at: usize, m: usize) -> Option<usize>
     requires { EndReady s.now d.old at m }
     ensures { EmitsEnd s.now d.old d.new at m result }
 {

@@ -1,5 +1,5 @@
 -- The part of cells before the trailer of a well-formed book has the book's cells, and what they open to. Assumes nothing.
-use Prim.Native.Nat.{ℕ, ◌+◌, ◌*◌, ◌≤◌, ◌<◌}
+use Prim.Native.Nat.{ℕ, ◌+◌, ◌*◌, ◌/◌, ◌≤◌, ◌<◌}
 use mathlib.Core.Path.{◌≡◌, ◌∙◌}
 use mathlib.Core.Option.{none}
 use mathlib.Core.List.{List}
@@ -63,9 +63,13 @@ pub part_length : (b : List ℕ) → WellFormed b → length (take (8 * count b)
 part_length b f = let k : 8 * count b ≤ length b = omega arith in length-take-le (8 * count b) b k
 
 -- a book's cells before its trailer are as many as its trailer says, and can be loaded
-pub loadable : (b s : List ℕ) {u : Version} → u ≡ version_of b → WellFormed b → length s ≡ 65536 → Loadable (take (8 * count b) b) s (count b) u
+pub part_count : (b : List ℕ) → WellFormed b → length (take (8 * count b) b) / 8 ≡ count b
+part_count b f = omega (arith, part_length b f)
+
+pub loadable : (b s : List ℕ) {u : Version} → u ≡ version_of b → WellFormed b → length s ≡ 65536
+    → Loadable (take (8 * count b) b) s (length (take (8 * count b) b) / 8) u
 loadable b s q f h =
-    record {
+    rw (part_count b f) record {
       cells = part_length b f;
       few = omega (arith, f.formed.short);
       sound = λ i l. rw q (fault_part b (count b) (version_of b) i l (f.formed.sound i l));

@@ -5,6 +5,7 @@ use mathlib.Core.Logic.{◌≢◌}
 use lib.ListN.{length}
 use mathlib.Core.List.{List, []}
 use native.Mathlib.Omega.{arith}
+use Rattle.cells.specs.declared.Use.TheVariants.{ToTerm}
 use Rattle.calculus.specs.Syntax.{Ty, Term, size}
 use Rattle.calculus.specs.Typing.{Typed}
 use Rattle.calculus.specs.Step.{Reaches}
@@ -51,14 +52,14 @@ module _ {q : Version} {w : List ℕ} {i : ℕ} (bytes : IsBytes w) where
   root_small : (e : Term) → RootAt q w i e → cells (from_term e) ≤ size_limit
   root_small e p = omega (arith, term_cells Two e, p.small)
 
-  pub root_ready : {s : List ℕ} → 32768 ≤ length s → SomeRoot q w i → InPlaceReady s w 3 i
+  pub root_ready : {s : List ℕ} → 32768 ≤ length s → SomeRoot q w i → InPlaceReady s w ToTerm i
   root_ready l p =
       record {
         long = omega (arith, p.root.long);
         ready = encode_ready l (term_field bytes p.root.holds) (term_positive Two p.term) (root_small p.term p.root);
       }
 
-  module _ {v : List ℕ} {n : ℕ} (f : EncodesTree w v 3 i n) where
+  module _ {v : List ℕ} {n : ℕ} (f : EncodesTree w v ToTerm i n) where
     root_encoded : (e : Term) → RootAt q w i e → EncodedTerm v n e
     root_encoded e p =
         record {

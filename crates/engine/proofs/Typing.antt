@@ -4,12 +4,14 @@ use mathlib.Core.Path.{◌≡◌, refl, sym, ◌∙◌, ap, subst}
 use mathlib.Core.List.{List, []}
 use native.Mathlib.Omega.{arith}
 use lib.ListN.{length, take, replicate, length-replicate}
+use Rattle.cells.specs.declared.Use.TheVariants.{ToType}
+use Rattle.std.specs.Prelude as Std
+use Rattle.std.specs.Prelude.{Ok, Err}
 use Rattle.calculus.specs.Syntax.{Ty, size}
 use Rattle.calculus.specs.Infer as Infer
 use Rattle.calculus.specs.Infer.{infer}
 use Rattle.calculus.proofs.Inference.{infer_says}
 use Rattle.calculus.proofs.Typing.{typed_size}
-use Rattle.format.specs.declared.Version.{Version}
 use Rattle.format.specs.declared.Version.TheVariants.{Two}
 use Rattle.format.specs.Cell.{IsBytes, Cell}
 use Rattle.format.specs.Table.{term_sort}
@@ -32,10 +34,9 @@ use Rattle.emission.proofs.Fields.{type_field}
 use Rattle.layout.specs.Encoding.{EncodedTree, InPlaceReady, EncodesTree, SomeTree, Closes}
 use Rattle.layout.proofs.Encoded.{encode_ready}
 use Rattle.typing.specs.Finding.{FindReady, Finds, Answered}
-use Rattle.typing.specs.declared.Found.{Found}
-use Rattle.typing.specs.declared.Found.TheVariants.{Typed, Refused}
 use Rattle.answers.specs.declared.RunOutcome.{RunOutcome}
 use Rattle.cells.proofs.Held.{holds, same_held}
+use Rattle.book.specs.declared.Root.{Root}
 use Rattle.engine.specs.Stages.{LeftByRefusal, FindsRoot, finds, refuses, Formed, AfterTyping, RootAt, SomeRoot, RunsRoot}
 use Rattle.engine.proofs.Parts.{cell_part, tree_part, part_length}
 
@@ -77,23 +78,19 @@ module _ (b s : List ℕ) (bytes : IsBytes b) (f : WellFormed b) (l : Loaded (wi
       follow_alike s b (count b) (λ i g h. l.leads i h g ∙ leads_wide (version_of b) part (count b) (part_length b f) i g h ∙ ap (λ (t : Cell). leads_to i t g) (cell_part b (count b) i h)) p (root_of b) f.formed.rooted
 
   -- what typing answers of the root: the book's cells are as they were
-  pub root_found : {t : List ℕ} {r : Found} → Finds s t (count b) 0 (root_of b) r → FindsRoot b t (root_of b) r
-  root_found {t} {r} d = go (infer [] (root_term b)) refl (d.says [] (root_term b) h_empty root_held)
+  pub root_found : {t v : List ℕ} {k : ℕ} {r : Std.Result ℕ Refusal} → Finds s t (count b) k 0 (root_of b) r → v ≡ t → FindsRoot b v (root_of b) r
+  root_found {t} {v} {k} {r} d o = rw o (go (infer [] (root_term b)) refl (d.says [] (root_term b) h_empty root_held))
     where
-      go : (x : Infer.Found) → infer [] (root_term b) ≡ x → Answered s t (count b) (size (root_term b)) (root_of b) r x → FindsRoot b t (root_of b) r
-      go (Infer.found A) e a =
-          let q : r ≡ Typed a.0 a.1 = cc in
-          finds q e a.7 (same_held a.5 f.formed.rooted root_held)
-      go (Infer.refused w p) e a =
-          let q : r ≡ Refused a.0 = cc in
-          refuses q e (a.2 ∙ ap (λ (i : ℕ). refused (reason_number w) i) (path_alike p))
+      go : (F : Infer.Found) → infer [] (root_term b) ≡ F → Answered s t (count b) k (size (root_term b)) (root_of b) r F → FindsRoot b t (root_of b) r
+      go (Infer.found A) e a = finds a.1 e a.6 (same_held a.4 f.formed.rooted root_held)
+      go (Infer.refused w p) e a = refuses a.1 e (a.2 ∙ ap (λ (i : ℕ). refused (reason_number w) i) (path_alike p))
 
 -- what follows from what was found
-module _ {b w t : List ℕ} {u : Version} {i : ℕ} {r : Found} (p : Formed b w u i) (bytes : IsBytes b) (d : FindsRoot b t i r) where
-  found_of : {c k : ℕ} → r ≡ Typed c k → (A : Ty) × (infer [] (root_term b) ≡ Infer.found A) × HoldsType t c A × HoldsTerm t i (root_term b)
-  found_of {c} {k} e = go d
+module _ {b w t : List ℕ} {o : Root} {r : Std.Result ℕ Refusal} (p : Formed b w o) (bytes : IsBytes b) (d : FindsRoot b t o.cell r) where
+  found_of : {c : ℕ} → r ≡ Ok c → (A : Ty) × (infer [] (root_term b) ≡ Infer.found A) × HoldsType t c A × HoldsTerm t o.cell (root_term b)
+  found_of {c} e = go d
     where
-      go : FindsRoot b t i r → (A : Ty) × (infer [] (root_term b) ≡ Infer.found A) × HoldsType t c A × HoldsTerm t i (root_term b)
+      go : FindsRoot b t o.cell r → (A : Ty) × (infer [] (root_term b) ≡ Infer.found A) × HoldsType t c A × HoldsTerm t o.cell (root_term b)
       go (finds {A = A} {c = x} q f h g) =
           let z : x ≡ c = cc in
           (A, f, subst (λ (j : ℕ). HoldsType t j A) z h, g)
@@ -102,25 +99,25 @@ module _ {b w t : List ℕ} {u : Version} {i : ℕ} {r : Found} (p : Formed b w 
   type_small : {A : Ty} → infer [] (root_term b) ≡ Infer.found A → cells (from_type A) ≤ size_limit
   type_small {A} e = omega (arith, type_cells A, typed_size ((infer_says [] (root_term b) A).0 e), root_term_small b bytes p.book.form)
 
-  pub type_ready : {s : List ℕ} {c k : ℕ} → 32768 ≤ length s → length t ≡ length w → r ≡ Typed c k → InPlaceReady s t 2 c
+  pub type_ready : {s : List ℕ} {c : ℕ} → 32768 ≤ length s → length t ≡ length w → r ≡ Ok c → InPlaceReady s t ToType c
   type_ready l h e =
       let a = found_of e in
       record { long = omega (arith, h, p.work); ready = encode_ready l (type_field a.2) (type_positive a.0) (type_small a.1) }
 
-  type_encoded : {v : List ℕ} {c n : ℕ} (A : Ty) → infer [] (root_term b) ≡ Infer.found A → HoldsType t c A → EncodesTree t v 2 c n → EncodedTree v n (from_type A)
+  type_encoded : {v : List ℕ} {c n : ℕ} (A : Ty) → infer [] (root_term b) ≡ Infer.found A → HoldsType t c A → EncodesTree t v ToType c n → EncodedTree v n (from_type A)
   type_encoded {c = c} A e h y = y.says (suc c) (from_type A) (type_field h) (type_positive A) (type_small e)
 
-  pub type_lain : {v : List ℕ} {c k n : ℕ} → length v ≡ length w → r ≡ Typed c k → EncodesTree t v 2 c n → SomeTree v n
+  pub type_lain : {v : List ℕ} {c n : ℕ} → length v ≡ length w → r ≡ Ok c → EncodesTree t v ToType c n → SomeTree v n
   type_lain h e y = let a = found_of e in record { work = h ∙ p.work; tree = from_type a.0; encoded = type_encoded a.0 a.1 a.2 y }
 
-  pub check_found : {v o : List ℕ} {c k n : ℕ} → r ≡ Typed c k → EncodesTree t v 2 c n → Closes u v o n → AfterTyping b (shown (version_of b)) o (accepted n)
+  pub check_found : {v x : List ℕ} {c n : ℕ} → r ≡ Ok c → EncodesTree t v ToType c n → Closes o.version v x n → AfterTyping b (shown (version_of b)) x (accepted n)
   unfolding after_typing shown
   check_found e y z =
       let a = found_of e in
       let l = type_encoded a.0 a.1 a.2 y in
       rw a.1 (record { answer = ap accepted (l.count ∙ type_cells a.0); left = (rw p.book.version at z).says (from_type a.0) l })
 
-  pub root_of_lem : {c k : ℕ} → length t ≡ length w → r ≡ Typed c k → RootAt (version_of b) t i (root_term b)
+  pub root_of_lem : {c : ℕ} → length t ≡ length w → r ≡ Ok c → RootAt (version_of b) t o.cell (root_term b)
   root_of_lem l e =
       let a = found_of e in
       record {
@@ -132,19 +129,19 @@ module _ {b w t : List ℕ} {u : Version} {i : ℕ} {r : Found} (p : Formed b w 
         typed = (infer_says [] (root_term b) a.0).0 a.1;
       }
 
-  pub some_root : {c k : ℕ} → length t ≡ length w → r ≡ Typed c k → SomeRoot u t i
+  pub some_root : {c : ℕ} → length t ≡ length w → r ≡ Ok c → SomeRoot o.version t o.cell
   some_root l e = rw p.book.version (record { term = root_term b; root = root_of_lem l e })
 
-  pub run_found : {v : List ℕ} {c k m : ℕ} {o : RunOutcome} → length t ≡ length w → r ≡ Typed c k → RunsRoot u t v i m o → AfterTyping b (reported b m) v (run_answer o)
+  pub run_found : {v : List ℕ} {c m : ℕ} {x : RunOutcome} → length t ≡ length w → r ≡ Ok c → RunsRoot o.version t v o.cell m x → AfterTyping b (reported b m) v (run_answer x)
   unfolding after_typing
   run_found l e y = let a = found_of e in rw a.1 ((rw p.book.version at y).says (root_term b) (root_of_lem l e))
 
   -- a refusal is answered alike by both calls
-  pub ill_typed_book : {q : Refusal} {v : List ℕ} (g : Ty → Result) → length t ≡ length w → r ≡ Refused q → LeftByRefusal t v → AfterTyping b g v (refusal_answer q)
+  pub ill_typed_book : {q : Refusal} {v : List ℕ} (g : Ty → Result) → length t ≡ length w → r ≡ Err q → LeftByRefusal t v → AfterTyping b g v (refusal_answer q)
   unfolding after_typing refusal_result
   ill_typed_book {q} {v} g l e u = go d
     where
-      go : FindsRoot b t i r → AfterTyping b g v (refusal_answer q)
+      go : FindsRoot b t o.cell r → AfterTyping b g v (refusal_answer q)
       go (finds c f h k) = let z : ◌≡◌ {A = ℕ} 0 1 = cc in absurd (omega arith)
       go (refuses {q = x} c f a) =
           let z : q ≡ x = cc in

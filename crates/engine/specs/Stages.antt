@@ -1,5 +1,6 @@
 -- What the functions behind the public calls need, answer and leave. Assumes nothing.
-use Rattle.std.specs.Prelude.{ℕ, ◌≤◌, ◌≡◌, ◌≢◌, List, [], length}
+use Rattle.std.specs.Prelude as Std
+use Rattle.std.specs.Prelude.{ℕ, ◌≤◌, ◌≡◌, ◌≢◌, List, [], length, Ok, Err}
 use Rattle.calculus.specs.Syntax.{Ty, size, Term}
 use Rattle.calculus.specs.Typing.{Typed}
 use Rattle.format.specs.declared.Version.{Version}
@@ -15,16 +16,13 @@ use Rattle.answers.specs.declared.Refusal.{Refusal}
 use Rattle.answers.specs.declared.RunOutcome.{RunOutcome}
 use Rattle.answers.specs.declared.Refusal.TheVariants.{Buffer}
 use Rattle.book.specs.Form.{FormCheck}
-use Rattle.book.specs.declared.Form.{Form}
-use Rattle.book.specs.declared.Form.TheVariants.{Malformed}
+use Rattle.book.specs.declared.Root.{Root}
 use Rattle.cells.specs.Held.{HoldsType, HoldsTerm}
-use Rattle.typing.specs.declared.Found.{Found}
-use Rattle.typing.specs.declared.Found.TheVariants.{Typed as Found-as-Typed, Refused}
 use Rattle.format.specs.Terms.{TermFits}
 
 -- What every call answers on rows 1 to 10, with a work buffer of n bytes: row 1 is tested first, rows 2 to 10 are the format's.
-pub data FirstRows (b : List ℕ) (n : ℕ) (x : Form) : Type 0 where
-  row_1 : n ≢ work_length → x ≡ Malformed Buffer → FirstRows b n x
+pub data FirstRows (b : List ℕ) (n : ℕ) (x : Std.Result Root Refusal) : Type 0 where
+  row_1 : n ≢ work_length → x ≡ Err Buffer → FirstRows b n x
   rows_2_to_10 : n ≡ work_length → FormCheck b x → FirstRows b n x
 
 -- "Refusal 1 touches nothing; all others zero the work buffer."
@@ -33,25 +31,25 @@ pub record LeftByRefusal (w v : List ℕ) : Type 0 where
   pub untouched : length w ≢ work_length → v ≡ w
 
 -- A well-formed book, its version, and its root's cell.
-pub record Rooted (b : List ℕ) (u : Version) (i : ℕ) : Type 0 where
+pub record Rooted (b : List ℕ) (r : Root) : Type 0 where
   pub form : WellFormed b
-  pub version : u ≡ version_of b
-  pub root : i ≡ root_of b
+  pub version : r.version ≡ version_of b
+  pub root : r.cell ≡ root_of b
 
 -- A work buffer to load it into.
-pub record Findable (b s : List ℕ) (u : Version) (i : ℕ) : Type 0 where
-  pub book : Rooted b u i
+pub record Findable (b s : List ℕ) (r : Root) : Type 0 where
+  pub book : Rooted b r
   pub long : length s ≡ 65536
 
 -- The root's type, held by the work buffer t at c, and the root, still held; or typing's refusal, which names a cell of the book.
-pub data FindsRoot (b t : List ℕ) (i : ℕ) (r : Found) : Type 0 where
-  finds : {A : Ty} {c k : ℕ} → r ≡ Found-as-Typed c k → infer [] (root_term b) ≡ found A → HoldsType t c A → HoldsTerm t i (root_term b) → FindsRoot b t i r
-  refuses : {x : Reason} {p : List ℕ} {q : Refusal} → r ≡ Refused q → infer [] (root_term b) ≡ Infer.refused x p →
+pub data FindsRoot (b t : List ℕ) (i : ℕ) (r : Std.Result ℕ Refusal) : Type 0 where
+  finds : {A : Ty} {c : ℕ} → r ≡ Ok c → infer [] (root_term b) ≡ found A → HoldsType t c A → HoldsTerm t i (root_term b) → FindsRoot b t i r
+  refuses : {x : Reason} {p : List ℕ} {q : Refusal} → r ≡ Err q → infer [] (root_term b) ≡ Infer.refused x p →
       refusal_answer q ≡ refused (reason_number x) (follow b (root_of b) p) → FindsRoot b t i r
 
 -- The same book and a work buffer.
-pub record Formed (b w : List ℕ) (u : Version) (i : ℕ) : Type 0 where
-  pub book : Rooted b u i
+pub record Formed (b w : List ℕ) (r : Root) : Type 0 where
+  pub book : Rooted b r
   pub work : IsWork w
 
 -- The answer a and the bytes v are those of the result x.

@@ -9,17 +9,19 @@ use mathlib.Core.List.{List}
 use lib.Dec.{T, eqb}
 use lib.ListN.{length}
 use Rattle.calculus.proofs.Bools.{eqb_says}
-use Rattle.format.specs.Table.{term_sort, Use, row_of}
+use Rattle.format.specs.Table.{term_sort, Use, plain, row_of}
 use Rattle.format.specs.Cell.{Cell, cell_at}
 use Rattle.format.specs.Tree.{Tree, kind_in, tree_at}
 use Rattle.format.specs.Book.{count, version_of, WellFormed}
 use Rattle.cells.specs.Held.{label_by_lem, HeldField}
-use Rattle.cells.specs.Coded.{use_of, row_from}
+use Rattle.cells.specs.Coded.{use_of, row_from, Refers}
+use Rattle.cells.specs.declared.Use as Code
+use Rattle.cells.specs.declared.Use.TheVariants.{Unused, Plain, ToType, ToTerm}
 use Rattle.cells.specs.declared.Entry.{Entry}
 use Rattle.cells.proofs.Held.{fields_of, row_at, below, any_sort, field_one}
 use Rattle.format.proofs.Tests.{cell_looser}
 use Rattle.cells.proofs.Unshared.{unshares}
-use Rattle.cells.proofs.Rows.{refers_at, FieldsOf, by_entry, unused_is, plain_is, field_measure, field_less}
+use Rattle.cells.proofs.Rows.{FieldsOf, by_entry, unused_is, plain_is, field_measure, field_less}
 use Rattle.equality.specs.Trees.{Unshares, Unshared, Comparable, in_book, in_cells, SameTree, SameField, same_unused, same_plain, same_cells}
 
 -- ---- every cell of a book is a tree, and what is said of cells that are trees is said of the book
@@ -56,18 +58,22 @@ field_same same_unused h k = (λ t. unused_is h ∙ sym (unused_is k), λ q. tt)
 field_same (same_plain e) h k = let a = plain_is h in let b = plain_is k in (λ t. let z = e.0 t in cc, λ q. e.1 (cc))
 field_same {x = x} {y = y} (same_cells w) h k = w.cells _ _ (_, below h (omega arith)) (_, below k (omega arith))
 
-field_ready : {s : List ℕ} {n m x y : ℕ} {f g : Tree} (u : ℕ) → HeldField false s n (use_of u) x f → HeldField false s m (use_of u) y g → 2 ≤ u → Comparable s x y
-field_ready {x = x} {y = y} u h k l =
-    let e = (refers_at u l).1 in in_cells (_, (_, below (rw e at h) (omega arith))) (_, (_, below (rw e at k) (omega arith)))
+field_ready : {s : List ℕ} {n m x y : ℕ} {f g : Tree} (u : Code.Use) → HeldField false s n (use_of u) x f → HeldField false s m (use_of u) y g → Refers u →
+    Comparable s x y
+field_ready u h k r = in_cells (_, (_, below (rw r.1 at h) (omega arith))) (_, (_, below (rw r.1 at k) (omega arith)))
 
-pub unused_same : {s : List ℕ} {x y : ℕ} (u : ℕ) → u ≡ 0 → SameField s x y (use_of u) true
-unused_same u e = rw e same_unused
+-- a use that is neither unused nor plain
+pub refers_else : (u : Code.Use) → (u ≡ Unused → ⊥) → (u ≡ Plain → ⊥) → Refers u
+refers_else Unused n m = absurd (n refl)
+refers_else Plain n m = absurd (m refl)
+refers_else ToType n m = (_, refl)
+refers_else ToTerm n m = (_, refl)
 
-pub plain_same : {s : List ℕ} {x y : ℕ} (u : ℕ) → u ≡ 1 → SameField s x y (use_of u) (eqb x y)
-plain_same {x = x} {y = y} u e = rw e (same_plain (eqb_says x y))
+pub plain_same : {s : List ℕ} {x y : ℕ} → SameField s x y plain (eqb x y)
+plain_same {x = x} {y = y} = same_plain (eqb_says x y)
 
-pub cells_same : {s : List ℕ} {x y : ℕ} {r : Bool} (u : ℕ) → 2 ≤ u → SameTree s x y r → SameField s x y (use_of u) r
-cells_same u l w = rw (refers_at u l).1 (same_cells w)
+pub cells_same : {s : List ℕ} {x y : ℕ} {r : Bool} (u : Code.Use) → Refers u → SameTree s x y r → SameField s x y (use_of u) r
+cells_same u l w = rw l.1 (same_cells w)
 
 -- ---- two cells of one kind, of row e
 
@@ -85,8 +91,8 @@ module _ {s : List ℕ} {i j : ℕ} {x y : Cell} {e : Entry} (w : Alike s i j x 
   second h = by_entry w.second (rw (← w.kinds) w.row) h.1
 
   -- a pair of fields, asked at less than t
-  abbrev pub Asked : ℕ → ℕ → ℕ → ℕ → Type 0
-  Asked t u n m = (field_measure u n < t) × (2 ≤ u → Comparable s n m)
+  abbrev pub Asked : ℕ → Code.Use → ℕ → ℕ → Type 0
+  Asked t u n m = (field_measure u n < t) × (Refers u → Comparable s n m)
 
   pub parts : {t : ℕ} → Comparable s i j → 2 * i + 1 ≡ t → Asked t e.a x.a y.a × (Asked t e.b x.b y.b × Asked t e.c x.c y.c)
   parts {t} p m =
@@ -94,7 +100,7 @@ module _ {s : List ℕ} {i j : ℕ} {x y : Cell} {e : Entry} (w : Alike s i j x 
       let z = second (unshared p).1.1 in
       (part e.a v.holds_a z.holds_a, (part e.b v.holds_b z.holds_b, part e.c v.holds_c z.holds_c))
     where
-      part : {n k : ℕ} {f g : Tree} (u : ℕ) → HeldField false s i (use_of u) n f → HeldField false s j (use_of u) k g → Asked t u n k
+      part : {n k : ℕ} {f g : Tree} (u : Code.Use) → HeldField false s i (use_of u) n f → HeldField false s j (use_of u) k g → Asked t u n k
       part u h k = (field_less u h m, field_ready u h k)
 
   abbrev pub OneLabel : Type 0

@@ -4,16 +4,10 @@
 
 #![tactic(auto)]
 
-ghost use Rattle.std.specs.Prelude.{◌≤◌};
-ghost use Rattle.cells.specs.Coded.{use_of};
+ghost use Rattle.cells.specs.Coded.{use_of, Refers};
 ghost use Rattle.equality.specs.Trees.{Comparable, SameTree, SameField};
 
-use cells::{entry_of, label_by, read_cell};
-
-// Uses of a field: a number, a type; a lower number than a type's is no reference.
-const PLAIN: u8 = 1;
-
-const TYPE: u8 = 2;
+use cells::{Use, entry_of, label_by, read_cell};
 
 // A cell is the same tree as itself. Two are where they are of one kind, and by its row label and fields are the same. At most as many pairs of cells
 // are visited as the smaller tree has cells: 4,095 for cells that a well-formed book's root reaches, about which alone the public calls ask. Of cells
@@ -40,15 +34,13 @@ pub fn same_tree(s: &[u8], i: usize, j: usize) -> bool
 
 // The same of two fields of use u: plain ones by their numbers, references by their cells; unused ones hold nothing.
 #[cycle(same_trees)]
-fn same_field(s: &[u8], u: u8, x: usize, y: usize) -> bool
-    requires { 2 ≤ u → Comparable s.now x y }
+fn same_field(s: &[u8], u: Use, x: usize, y: usize) -> bool
+    requires { Refers u → Comparable s.now x y }
     ensures { SameField s.now x y (use_of u) result }
 {
-    if u == PLAIN {
-        return x == y;
+    match u {
+        Use::Unused => true,
+        Use::Plain => x == y,
+        _ => same_tree(s, x, y),
     }
-    if u < TYPE {
-        return true;
-    }
-    same_tree(s, x, y)
 }

@@ -1,7 +1,8 @@
 -- Document 02, (iv): the versions of a book, and where each stores a number. Assumes nothing.
-use Rattle.std.specs.Prelude.{ℕ, ◌+◌, ◌*◌, ◌^◌, cond, eqb}
+use Rattle.std.specs.Prelude.{ℕ, ◌+◌, ◌*◌, ◌^◌, ◌≡◌, cond, eqb, Result, MatchResult}
 use Rattle.format.specs.declared.Version.{Version}
 use Rattle.format.specs.declared.Version.TheVariants.{One, Two}
+use Rattle.format.specs.declared.UnknownVersion.{UnknownVersion}
 
 -- "byte 1 the version": "Version 2 in the trailer"
 abbrev pub version_byte_lem : Version → ℕ
@@ -11,6 +12,10 @@ version_byte_lem Two = 2
 -- The version that a byte stands for. Of a byte other than 1 and 2 nothing is asked: row 3 comes first.
 abbrev pub version_from_lem : ℕ → Version
 version_from_lem x = cond (eqb x 1) One Two
+
+-- What a byte is read as: the version that it stands for, or that it stands for none.
+abbrev pub Decodes : ℕ → Result Version UnknownVersion → Type 0
+Decodes x r = MatchResult r (λ v. version_byte_lem v ≡ x) (λ _. (v : Version) → version_byte_lem v ≡ x → ⊥)
 
 -- Half of the range of a version's numbers, which is -h .. h - 1: "Sums in version 2 are held to the ends of 48 bits, in version 1 to those of 32."
 abbrev pub half_of : Version → ℕ

@@ -2,7 +2,7 @@
 use Prim.Native.Nat.{ℕ, zero, suc, ◌+◌, ◌*◌, ◌-◌, ◌≤◌, ◌<◌}
 use native.Mathlib.Nat.{zero-add}
 use native.Mathlib.Omega.{arith}
-use mathlib.Core.Path.{◌≡◌, refl, sym, ap, ap₂, subst, ◌∙◌}
+use mathlib.Core.Path.{◌≡◌, refl, sym, ap, subst, ◌∙◌}
 use mathlib.Core.Logic.{◌≢◌, ◌⊎◌}
 use mathlib.Core.List.{List, ◌++◌}
 use lib.ListN.{length, take, drop, replicate, length-append, length-replicate}
@@ -11,10 +11,10 @@ use Rattle.format.specs.Cell.{IsBytes}
 use Rattle.format.specs.Book.{WellFormed, size_limit, version_of}
 use Rattle.format.specs.Joint.{joint_count, joint}
 use Rattle.format.proofs.Joint.{joint_of}
-use Rattle.answers.specs.Answer.{Answer, refused, accepted, Result, result}
+use Rattle.answers.specs.Answer.{refused, accepted, Result, result}
 use Rattle.answers.specs.Engine.{work_length, IsWork, zeros}
 use Rattle.answers.specs.Definition.{check, refusal_result, shown}
-use Rattle.answers.specs.Cases.{check_answer}
+use Rattle.answers.specs.Cases.{refusal_answer, check_answer}
 use Rattle.answers.specs.declared.Refusal.{Refusal}
 use Rattle.answers.specs.declared.Refusal.TheVariants.{Buffer, Length}
 use Rattle.answers.specs.declared.CheckOutcome.{CheckOutcome}
@@ -29,10 +29,11 @@ use Rattle.joining.specs.declared.Which.TheVariants.{Project, Part, Joint}
 use Rattle.joining.specs.declared.JoinAnswer.{JoinAnswer}
 use Rattle.joining.specs.declared.JoinAnswer.TheVariants.{Accepted, Refused, Full}
 use Rattle.joining.specs.declared.Joined.{Joined}
-use Rattle.joining.specs.Join.{JoinResult, join_answer, lent_length, refusal, written, acceptance, after_check, after_books, after_project, after_lengths}
+use Rattle.joining.specs.Join.{JoinResult, join_answer, lent_length, refusal, written, joined}
+use Rattle.joining.specs.Joins.{Lent}
 use Rattle.joining.proofs.Stages as Stages
-use Rattle.joining.proofs.Stages.{of_joint, books_are, too_many, few_enough}
-use Rattle.joining.specs.Stages.{RefusesFor, RefusesZeroed, Judged, ProjectJudgeable, PartJudgeable, JointJudgeable, JudgesJoint, JudgesPart, JudgesProject, Judges}
+use Rattle.joining.proofs.Meaning.{take_bytes}
+use Rattle.joining.specs.Stages.{RefusesFor, RefusesZeroed, Passes, TurnsDown, JointBuffer, Judged, AcceptsJoint, RefusesJoin}
 
 -- ---- what a check says
 
@@ -45,34 +46,44 @@ pub check_alike : (b w v : List ℕ) → IsWork w → IsWork v → check b w ≡
 unfolding check
 check_alike b w v j k = in_work b w (shown (version_of b)) j ∙ sym (in_work b v (shown (version_of b)) k)
 
--- ---- one stage
+-- ---- one book
 
--- a refusal of the book x, with a result's answer and bytes
-refusal_judged : {x : Which} {a : JoinAnswer} {r : Joined} {y : Result} {l d v : List ℕ} → RefusesFor x a r → join_answer a ≡ y.answer → v ≡ y.left →
-    Judged l d v r (refusal x l y)
-refusal_judged f e g =
-    record {
-      which = f.which;
-      answer = ap join_answer f.answer ∙ e;
-      bytes = f.bytes;
-      left = g;
-      written = λ h. absurd (omega (arith, h, f.bytes));
-      stays = λ h. refl;
-    }
+pub passed : {b w v : List ℕ} {z : CheckOutcome} {n : ℕ} → Checked b w v z → z ≡ Check-as-Accepted n → Passes b w v n
+passed c e = record { is = says c e }
 
-module _ (x : Which) (b w l : List ℕ) (y : JoinResult) {v d : List ℕ} where
-  pub book_refused : {q : Refusal} {z : CheckOutcome} {r : Joined} → Checked b w v z → z ≡ Check-as-Refused q → RefusesFor x (Refused q) r →
-      Judged l d v r (after_check x l (check b w) y)
-  book_refused {q} c e f =
-      let n = refusal_number q in
-      let p : check b w ≡ result (refused n.0 n.1) v = says c e ∙ ap (λ (a : Answer). result a v) n.2 in
-      rw p (refusal_judged f n.2 refl)
+pub turned : {x : Which} {b w v : List ℕ} {z : CheckOutcome} {a : Refusal} {r : Joined} → Checked b w v z → z ≡ Check-as-Refused a → RefusesFor x (Refused a) r →
+    TurnsDown x b w v r
+turned {a = a} c e f = record { reason = a; says = f; is = says c e }
 
-  pub book_accepted : {n : ℕ} {z : CheckOutcome} {u : List ℕ} {r : Joined} → Checked b w u z → z ≡ Check-as-Accepted n → Judged l d v r y →
-      Judged l d v r (after_check x l (check b w) y)
-  book_accepted {n} {u = u} c e j =
-      let p : check b w ≡ result (accepted n) u = says c e in
-      rw p j
+-- with another work buffer
+module _ (b w u : List ℕ) {v : List ℕ} (j : IsWork w) (k : IsWork u) where
+  passes_too : {n : ℕ} → Passes b u v n → check b w ≡ result (accepted n) v
+  passes_too p = check_alike b w u j k ∙ p.is
+
+  accepts_too : {n : ℕ} → Passes b u v n → (check b w).answer ≡ accepted n
+  accepts_too p = ap (λ (y : Result). y.answer) (passes_too p)
+
+  module _ {x : Which} {r : Joined} (t : TurnsDown x b u v r) where
+    turned_too : check b w ≡ result (refusal_answer t.reason) v
+    turned_too = check_alike b w u j k ∙ t.is
+
+    refuses_too : (check b w).answer ≡ refused (refusal_number t.reason).0 (refusal_number t.reason).1
+    refuses_too = ap (λ (y : Result). y.answer) turned_too ∙ (refusal_number t.reason).2
+
+    turned_judged : {l : List ℕ} → Judged v r (refusal x l (check b w))
+    turned_judged =
+        record {
+          which = t.says.which;
+          answer = ap join_answer t.says.answer ∙ sym (ap (λ (y : Result). y.answer) turned_too);
+          bytes = t.says.bytes;
+          left = sym (ap (λ (y : Result). y.left) turned_too);
+        }
+
+-- an accepted book is well-formed
+accepted_formed : {b w v : List ℕ} {n : ℕ} → IsBytes b → IsWork w → Passes b w v n → WellFormed b
+accepted_formed {b} {w} {n = n} y k p =
+    ((demand2 b y).accepts.0
+    (record { work = w; is_work = k; size = n; answers = ap (λ (r : Result). r.answer) p.is })).0
 
 -- ---- the joint
 
@@ -92,120 +103,113 @@ over_zeros n b h =
     let k : 0 + length b ≤ length (replicate {A = ℕ} n 0) = rw length-replicate (omega arith) in
     sets-eq b (replicate {A = ℕ} n 0) 0 k ∙ rw zero-add (ap (λ (x : List ℕ). b ++ x) (drop_replicate (length b) n))
 
-pub full_judged : {p q d w v : List ℕ} {r : Joined} → JointJudgeable p q d w → size_limit < joint_count p q → RefusesZeroed Joint Full w v r → JudgesJoint p q d w v r
-unfolding refusal_result
-full_judged {p} {q} {w = w} a h t =
-    record { says = λ l. rw (too_many p q l w h) (refusal_judged t.says refl (t.zeroed ∙ ap zeros a.before.before.work)) }
-
-module _ {p q d w : List ℕ} (yp : IsBytes p) (yq : IsBytes q) (a : JointJudgeable p q d w) (h : joint_count p q ≤ size_limit) where
+module _ {p q d : List ℕ} (yp : IsBytes p) (yq : IsBytes q) (f : WellFormed p) (g : WellFormed q) (z : JointBuffer d) (h : joint_count p q ≤ size_limit) where
   buffer_long : length d ≡ lent_length
   unfolding zeros
-  buffer_long = ap length a.before.before.buffer.zeros_only ∙ length-replicate {A = ℕ} lent_length 0
+  buffer_long = ap length z.zeros_only ∙ length-replicate {A = ℕ} lent_length 0
 
-  pub write_ready : JointReady p q d
-  write_ready = record { project = a.before.project; part = a.part; few = h; room = buffer_long }
+  ready : JointReady p q d
+  ready = record { project = f; part = g; few = h; room = buffer_long }
 
   joint_long : length (joint p q) ≡ 8 * (joint_count p q + 1)
-  joint_long = (joint_of p q yp yq a.before.project a.part h).long
+  joint_long = (joint_of p q yp yq f g h).long
 
   module _ {e : List ℕ} {b : ℕ} (m : WritesJoint p q d e b) where
     written_is : e ≡ written (joint p q)
     unfolding written zeros
     written_is =
-        m.is ∙ ap (λ (x : List ℕ). sets x 0 (joint p q)) a.before.before.buffer.zeros_only ∙ over_zeros lent_length (joint p q) (omega (arith, joint_long, h))
+        m.is ∙ ap (λ (x : List ℕ). sets x 0 (joint p q)) z.zeros_only ∙ over_zeros lent_length (joint p q) (omega (arith, joint_long, h))
 
-    pub prefix_fits : b ≤ length e
-    prefix_fits = omega (arith, m.bytes, joint_long, h, ap length m.is ∙ length-sets d 0 (joint p q), buffer_long)
+    fits : b ≤ length e
+    fits = omega (arith, m.bytes, joint_long, h, ap length m.is ∙ length-sets d 0 (joint p q), buffer_long)
 
     prefix_is : take b e ≡ joint p q
     unfolding written
     prefix_is = ap (take b) written_is ∙ take_at (joint p q) (zeros (lent_length - length (joint p q))) b (sym m.bytes)
 
-    module _ {v : List ℕ} {z : CheckOutcome} (c : Checked (take b e) w v z) where
-      judges_joint : Checked (joint p q) w v z
-      judges_joint = subst (λ (x : List ℕ). Checked x w v z) prefix_is c
+-- ---- all rows
 
-      pub joint_refused : {x : Refusal} {r : Joined} → z ≡ Check-as-Refused x → RefusesFor Joint (Refused x) r → JudgesJoint p q e w v r
-      joint_refused o f =
+module _ (l : List ℕ) (n : ℕ) (q w : List ℕ) where
+  refuses : {x : Which} {y : Result} {v : List ℕ} {r : Joined} → joined l n q w ≡ refusal x l y → Judged v r (refusal x l y) → RefusesJoin l n q w v r
+  refuses {v = v} {r} e j = record { says = subst (Judged v r) (sym e) j; stays = sym (ap (λ (z : JoinResult). z.lent) e) }
+
+  plain_judged : {x : Which} {a : JoinAnswer} {y : Result} {v : List ℕ} {r : Joined} → RefusesFor x a r → join_answer a ≡ y.answer → v ≡ y.left → Judged v r (refusal x l y)
+  plain_judged f e g = record { which = f.which; answer = ap join_answer f.answer ∙ e; bytes = f.bytes; left = g }
+
+  pub no_work : {r : Joined} → length w ≢ work_length → RefusesFor Joint (Refused Buffer) r → RefusesJoin l n q w w r
+  no_work h f = refuses (Stages.no_work l n q w h) (plain_judged f refl refl)
+
+  pub not_lent : {v : List ℕ} {r : Joined} → IsWork w → (length l ≢ lent_length) ⊎ (lent_length < n) → RefusesZeroed Project (Refused Length) w v r → RefusesJoin l n q w v r
+  unfolding refusal_result
+  not_lent k h f = refuses (Stages.not_lent l n q w k h) (plain_judged f.says refl (f.zeroed ∙ ap zeros k))
+
+  pub project_refused : {v : List ℕ} {r : Joined} → Lent l n w → TurnsDown Project (take n l) w v r → RefusesJoin l n q w v r
+  project_refused k t = refuses (Stages.project_refused l n q w k (refuses_too (take n l) w w k.work k.work t)) (turned_judged (take n l) w w k.work k.work t)
+
+  pub part_refused : {u v : List ℕ} {a : ℕ} {r : Joined} → Lent l n w → Passes (take n l) w u a → IsWork u → TurnsDown Part q u v r → RefusesJoin l n q w v r
+  part_refused {u = u} k f i t =
+      refuses (Stages.part_refused l n q w k (accepts_too (take n l) w w k.work k.work f) (refuses_too q w u k.work i t)) (turned_judged q w u k.work i t)
+
+-- The project passes, and leaves u of the work buffer w; then the part, and leaves t.
+pub record BothPass (l : List ℕ) (n : ℕ) (q w u t : List ℕ) : Type 0 where
+  pub lent : Lent l n w
+  pub first : ℕ
+  pub project : Passes (take n l) w u first
+  pub between : IsWork u
+  pub second : ℕ
+  pub part : Passes q u t second
+  pub behind : IsWork t
+  pub project_bytes : IsBytes l
+  pub part_bytes : IsBytes q
+
+module _ {l : List ℕ} {n : ℕ} {q w u t : List ℕ} (s : BothPass l n q w u t) where
+  project_passed : (check (take n l) w).answer ≡ accepted s.first
+  project_passed = accepts_too (take n l) w w s.lent.work s.lent.work s.project
+
+  part_passed : (check q w).answer ≡ accepted s.second
+  part_passed = accepts_too q w u s.lent.work s.between s.part
+
+  pub books_full : {v : List ℕ} {r : Joined} → size_limit < joint_count (take n l) q → RefusesZeroed Joint Full t v r → RefusesJoin l n q w v r
+  unfolding refusal_result
+  books_full h z = refuses l n q w (Stages.books_full l n q w s.lent project_passed part_passed h) (plain_judged l n q w z.says refl (z.zeroed ∙ ap zeros s.behind))
+
+  project_are : IsBytes (take n l)
+  project_are = take_bytes n l s.project_bytes
+
+  pub project_formed : WellFormed (take n l)
+  project_formed = accepted_formed project_are s.lent.work s.project
+
+  pub part_formed : WellFormed q
+  part_formed = accepted_formed s.part_bytes s.between s.part
+
+  module _ {d : List ℕ} (z : JointBuffer d) (h : joint_count (take n l) q ≤ size_limit) where
+    pub write_ready : JointReady (take n l) q d
+    write_ready = ready project_are s.part_bytes project_formed part_formed z h
+
+    module _ {e : List ℕ} {c : ℕ} (m : WritesJoint (take n l) q d e c) where
+      pub prefix_fits : c ≤ length e
+      prefix_fits = fits project_are s.part_bytes project_formed part_formed z h m
+
+      same : take c e ≡ joint (take n l) q
+      same = prefix_is project_are s.part_bytes project_formed part_formed z h m
+
+      pub joint_refused : {v : List ℕ} {r : Joined} → TurnsDown Joint (take c e) t v r → RefusesJoin l n q w v r
+      joint_refused {v} {r} x =
+          let k = s.lent in
+          let y : TurnsDown Joint (joint (take n l) q) t v r = subst (λ (b : List ℕ). TurnsDown Joint b t v r) same x in
+          refuses l n q w (Stages.joint_refused l n q w k project_passed part_passed h (refuses_too (joint (take n l) q) w t k.work s.behind y))
+          (turned_judged (joint (take n l) q) w t k.work s.behind y)
+
+      pub joint_accepted : {v : List ℕ} {i : ℕ} → Passes (take c e) t v i →
+          AcceptsJoint l n q w e v (record { which = Joint; answer = Accepted i; bytes = c })
+      joint_accepted {v} {i} x =
+          let k = s.lent in
+          let y : Passes (joint (take n l) q) t v i = subst (λ (b : List ℕ). Passes b t v i) same x in
+          let o : check (joint (take n l) q) w ≡ result (accepted i) v = passes_too (joint (take n l) q) w t k.work s.behind y in
+          let a = Stages.joint_accepted l n q w k project_passed part_passed h (accepts_too (joint (take n l) q) w t k.work s.behind y) in
           record {
-            says = λ l. rw (few_enough p q l w h)
-                (book_refused Joint (joint p q) w l (acceptance (joint p q) (check (joint p q) w)) judges_joint o f);
+            lent = k;
+            says = subst (Judged v (record { which = Joint; answer = Accepted i; bytes = c })) (sym a)
+                (record { which = refl; answer = sym (ap (λ (r : Result). r.answer) o); bytes = m.bytes; left = sym (ap (λ (r : Result). r.left) o) });
+            written = written_is project_are s.part_bytes project_formed part_formed z h m ∙ sym (ap (λ (r : JoinResult). r.lent) a);
           }
-
-      pub joint_accepted : {n : ℕ} → z ≡ Check-as-Accepted n → JudgesJoint p q e w v (record { which = Joint; answer = Accepted n; bytes = b })
-      joint_accepted {n} o =
-          let k : check (joint p q) w ≡ result (accepted n) v = says judges_joint o in
-          record {
-            says = λ l. rw (few_enough p q l w h)
-                (book_accepted Joint (joint p q) w l (acceptance (joint p q) (check (joint p q) w)) judges_joint o
-                (record {
-                  which = refl;
-                  answer = sym (ap (λ (x : Result). x.answer) k);
-                  bytes = m.bytes;
-                  left = sym (ap (λ (x : Result). x.left) k);
-                  written = λ _. written_is;
-                  stays = λ g. absurd (omega (arith, g, m.bytes, joint_long));
-                }));
-          }
-
--- ---- the part and the project
-
--- an accepted book is well-formed
-accepted_formed : {b w v : List ℕ} {z : CheckOutcome} {n : ℕ} → IsBytes b → IsWork w → Checked b w v z → z ≡ Check-as-Accepted n → WellFormed b
-accepted_formed {b} {w} {v} {n = n} y k c e =
-    ((demand2 b y).accepts.0
-    (record { work = w; is_work = k; size = n; answers = ap (λ (r : Result). r.answer) (says c e) })).0
-
-pub part_judgeable : {p d w u : List ℕ} {z : CheckOutcome} {n : ℕ} → ProjectJudgeable d w → IsBytes p → Checked p w u z → z ≡ Check-as-Accepted n → length u ≡ length w →
-    PartJudgeable p d u
-part_judgeable a y c e h = record { before = record { buffer = a.buffer; work = h ∙ a.work }; project = accepted_formed y a.work c e }
-
-pub joint_judgeable : {p q d w u : List ℕ} {z : CheckOutcome} {n : ℕ} → PartJudgeable p d w → IsBytes q → Checked q w u z → z ≡ Check-as-Accepted n → length u ≡ length w →
-    JointJudgeable p q d u
-joint_judgeable a y c e h =
-    record {
-      before = record { before = record { buffer = a.before.buffer; work = h ∙ a.before.work }; project = a.project };
-      part = accepted_formed y a.before.work c e;
-    }
-
--- what comes after does not ask what the work buffer holds
-books_alike : (p q l w u : List ℕ) → IsWork w → IsWork u → after_books p q l u ≡ after_books p q l w
-books_alike p q l w u k j = books_are p q l u ∙ ap (of_joint p q l) (check_alike (joint p q) u w j k) ∙ sym (books_are p q l w)
-
-part_alike : (p q l w u : List ℕ) → IsWork w → IsWork u → after_project p q l u ≡ after_project p q l w
-unfolding after_project
-part_alike p q l w u k j = ap₂ (λ (c : Result) (x : JoinResult). after_check Part l c x) (check_alike q u w j k) (books_alike p q l w u k j)
-
-module _ (p q w u : List ℕ) (k : IsWork w) (h : length u ≡ length w) {e v : List ℕ} {z : CheckOutcome} {n : ℕ} {r : Joined} where
-  pub part_judged : Checked q w u z → z ≡ Check-as-Accepted n → JudgesJoint p q e u v r → JudgesPart p q e w v r
-  unfolding after_project
-  part_judged c o g =
-      record { says = λ l. book_accepted Part q w l (after_books p q l w) c o (subst (Judged l e v r) (books_alike p q l w u k (h ∙ k)) (g.says l)) }
-
-  pub project_judged : Checked p w u z → z ≡ Check-as-Accepted n → JudgesPart p q e u v r → JudgesProject p q e w v r
-  unfolding after_lengths
-  project_judged c o g =
-      record { says = λ l. book_accepted Project p w l (after_project p q l w) c o (subst (Judged l e v r) (part_alike p q l w u k (h ∙ k)) (g.says l)) }
-
-module _ (p q w : List ℕ) {d v : List ℕ} {z : CheckOutcome} {x : Refusal} {r : Joined} where
-  pub part_refused : Checked q w v z → z ≡ Check-as-Refused x → RefusesFor Part (Refused x) r → JudgesPart p q d w v r
-  unfolding after_project
-  part_refused c e f = record { says = λ l. book_refused Part q w l (after_books p q l w) c e f }
-
-  pub project_refused : Checked p w v z → z ≡ Check-as-Refused x → RefusesFor Project (Refused x) r → JudgesProject p q d w v r
-  unfolding after_lengths
-  project_refused c e f = record { says = λ l. book_refused Project p w l (after_project p q l w) c e f }
-
--- ---- the lengths
-
-module _ (l : List ℕ) (n : ℕ) (q w : List ℕ) {d : List ℕ} {r : Joined} where
-  pub no_work : length w ≢ work_length → RefusesFor Joint (Refused Buffer) r → Judges l n q d w w r
-  no_work h f = record { says = rw (Stages.no_work l n q w h) (refusal_judged f refl refl) }
-
-  module _ {v : List ℕ} (k : IsWork w) where
-    pub not_lent : (length l ≢ lent_length) ⊎ (lent_length < n) → RefusesZeroed Project (Refused Length) w v r → Judges l n q d w v r
-    unfolding refusal_result
-    not_lent h f = record { says = rw (Stages.not_lent l n q w k h) (refusal_judged f.says refl (f.zeroed ∙ ap zeros k)) }
-
-    pub lengths_judged : length l ≡ lent_length → n ≤ lent_length → JudgesProject (take n l) q d w v r → Judges l n q d w v r
-    lengths_judged e h g = record { says = rw (Stages.is_lent l n q w (record { work = k; long = e; within = h })) (g.says l) }

@@ -1,12 +1,12 @@
 -- What the definition of a join answers means what document 02 says, and so does what the call answers. Assumes nothing.
-use Prim.Native.Nat.{ℕ, zero, suc, ◌-◌, ◌≤◌, ◌<◌}
+use Prim.Native.Nat.{ℕ, zero, suc, ◌-◌, ◌≤◌}
 use native.Mathlib.Omega.{arith}
 use mathlib.Core.Path.{◌≡◌, refl, sym, ap, subst, ◌∙◌}
 use mathlib.Core.Logic.{◌≢◌, inl, inr}
 use mathlib.Core.List.{List, [], ◌∷◌}
 use lib.Dec.{lit<}
 use lib.ListN.{length, take}
-use lib.Seq.{take_at, drop_at, take_all}
+use lib.Seq.{take_at, drop_at}
 use Rattle.calculus.specs.Syntax.{Ty, Term, size_type}
 use Rattle.calculus.specs.Typing.{Typed}
 use Rattle.format.specs.Cell.{IsBytes}
@@ -21,7 +21,6 @@ use Rattle.answers.proofs.Demands.{clash, demand2, demand3}
 use Rattle.answers.proofs.Restamping.{restamped}
 use Rattle.answers.proofs.Sheets.{sheets_run}
 use Rattle.engine.proofs.Checked.{check_refuses}
-use Rattle.moving.specs.Moves.{Copies}
 use Rattle.joining.specs.declared.Which.{Which}
 use Rattle.joining.specs.declared.Which.TheVariants.{Project, Part, Joint}
 use Rattle.joining.specs.declared.Joined.{Joined}
@@ -166,19 +165,9 @@ said_of_joint k e (full j a h) = inl (refl, refl)
 said_of_joint k e (of_joint j a h (too_large o)) = inr (inl refl, refl)
 said_of_joint k e (of_joint j a h (conflict o s t u)) = inr (inr refl, refl)
 
--- a result with bytes is of lent bytes of the right length
-bytes_lent : {l : List ℕ} {n : ℕ} {q w : List ℕ} {x : JoinResult} → Ends l n q w x → 0 < x.bytes → Lent l n w
-bytes_lent (at_buffer h) o = absurd (omega (arith, o))
-bytes_lent (at_lent k h) o = absurd (omega (arith, o))
-bytes_lent (at_project k e) o = absurd (omega (arith, o))
-bytes_lent (at_part k f e) o = absurd (omega (arith, o))
-bytes_lent (at_full k f g h) o = absurd (omega (arith, o))
-bytes_lent (at_joint k f g h e) o = absurd (omega (arith, o))
-bytes_lent (at_end k f g h e) o = k
-
 -- ---- the call
 
-module _ (l : List ℕ) (n : ℕ) (q w : List ℕ) {v d : List ℕ} {r : Joined} (j : Judged l d v r (joined l n q w)) where
+module _ (l : List ℕ) (n : ℕ) (q w : List ℕ) {v : List ℕ} {r : Joined} (j : Judged v r (joined l n q w)) where
   answers : {m i : ℕ} {x : Which} {y : Result} → joined l n q w ≡ refusal x l y → y.answer ≡ refused m i → Says r x m i
   answers p e =
       record {
@@ -244,15 +233,3 @@ module _ (l : List ℕ) (n : ℕ) (q w : List ℕ) {v d : List ℕ} {r : Joined}
               let t = means.writes m (sym j.answer ∙ e) in
               (j.which ∙ t.0, t.1, t.2, rw (z, j.left, j.bytes) t.3);
         }
-
-    -- where there is a joint to write, what is lent has the lengths that are asked for
-    pub lent_here : 0 < r.bytes → Lent l n w
-    lent_here h = bytes_lent (ends l n q w) (rw j.bytes at h)
-
-    -- the copy of all of them is the joint's buffer
-    pub copied_lent : {k : List ℕ} → 0 < r.bytes → length d ≡ lent_length → Copies d l k lent_length → k ≡ (joined l n q w).lent
-    copied_lent {k} h s c =
-        sym (take_all lent_length k (omega (arith, c.long, (lent_here h).long)))
-        ∙ c.first
-        ∙ take_all lent_length d (omega (arith, s))
-        ∙ j.written h

@@ -36,7 +36,7 @@ use Rattle.joining.proofs.Cases.{never_stopped, same_joined}
 
 -- ---- the call
 
-pub previews : (l : List ℕ) (n : ℕ) (q w : List ℕ) {v d k : List ℕ} {r : Joined} → Judged l d v r (joined l n q w) → IsBytes l → IsBytes q → k ≡ l → Previews l k n q w v r
+pub previews : (l : List ℕ) (n : ℕ) (q w : List ℕ) {v k : List ℕ} {r : Joined} → Judged v r (joined l n q w) → IsBytes l → IsBytes q → k ≡ l → Previews l k n q w v r
 previews l n q w j yl yq e =
     let c = joins l n q w j yl yq refl in
     record { which = j.which; answer = j.answer; bytes = j.bytes; size_shown = type_shown c; left = j.left; unaltered = e; foresees = c }

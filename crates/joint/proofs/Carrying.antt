@@ -12,21 +12,22 @@ use Rattle.format.specs.declared.Version.TheVariants.{One, Two}
 use Rattle.format.specs.Table.{Use, unused, plain, refers, table, row_in, row_for}
 use Rattle.format.specs.Cell.{IsBytes, Cell, cell_at, cell_bytes}
 use Rattle.format.specs.Widths.{mapped_cells}
-use Rattle.format.specs.Joint.{raised_field, raised}
+use Rattle.format.specs.Joint.{raised}
 use Rattle.format.proofs.Tests.{FieldOk, cell_fault_says, cell_fits}
 use Rattle.format.proofs.Restamping.{number_row, wide, by_kind, sign_fits, length_mapped}
+use Rattle.cells.specs.Moves.{FieldMoves, CellMoves}
 use Rattle.emission.proofs.Compose.{behind}
-use Rattle.joint.specs.Writing.{RaiseReady, cell_in, carried, CarryCellReady, CarriesCell, CarryReady, Carries}
+use Rattle.joint.specs.Writing.{cell_in, carried, CarryCellReady, CarriesCell, CarryReady, Carries}
 
 -- ---- one cell
 
-field_fits : (s : List ℕ) (i k : ℕ) → k + i < 8192 → (u : Use) (x : ℕ) → x < 65536 → FieldOk s i u x → raised_field k u x < 65536
+field_fits : (s : List ℕ) (i k : ℕ) → k + i < 8192 → (u : Use) (x : ℕ) → x < 65536 → FieldOk s i u x → FieldMoves 0 k u x
 field_fits s i k l unused x h f = h
 field_fits s i k l plain x h f = h
-field_fits s i k l (refers o) x h f = omega (arith, f.0)
+field_fits s i k l (refers o) x h f = (omega arith, omega (arith, f.0))
 
 module _ {s d : List ℕ} {i k : ℕ} (bytes : IsBytes s) (p : CarryCellReady s d i k) where
-  own_ready : RaiseReady (cell_at s i) k
+  own_ready : CellMoves 0 k (cell_at s i)
   own_ready =
       let c = (cell_fault_says Two s i).0 p.sound in
       let f = cell_fits s bytes i in
@@ -38,18 +39,18 @@ module _ {s d : List ℕ} {i k : ℕ} (bytes : IsBytes s) (p : CarryCellReady s 
         third = field_fits s i k p.low c.row.c (cell_at s i).c f.3 c.fields.c;
       }
 
-  number_ready : (cell_at s i).kind ≡ 17 → RaiseReady (wide (cell_at s i)) k
+  number_ready : (cell_at s i).kind ≡ 17 → CellMoves 0 k (wide (cell_at s i))
   unfolding row_for row_in table
   number_ready e =
       let f = cell_fits s bytes i in
       record { row = number_row; known = rw e refl; first = f.2; second = f.3; third = sign_fits (cell_at s i).c }
 
-  in_version_ready : (u v : Version) → RaiseReady (cell_in u v (cell_at s i)) k
+  in_version_ready : (u v : Version) → CellMoves 0 k (cell_in u v (cell_at s i))
   in_version_ready One v = own_ready
-  in_version_ready Two One = by_kind (λ (t : Cell). RaiseReady t k) (cell_at s i) number_ready (λ e. own_ready)
+  in_version_ready Two One = by_kind (λ (t : Cell). CellMoves 0 k t) (cell_at s i) number_ready (λ e. own_ready)
   in_version_ready Two Two = own_ready
 
-  pub carry_ready : {t : Cell} (u v : Version) → t ≡ cell_in u v (cell_at s i) → RaiseReady t k
+  pub carry_ready : {t : Cell} (u v : Version) → t ≡ cell_in u v (cell_at s i) → CellMoves 0 k t
   carry_ready u v e = rw e (in_version_ready u v)
 
 pub carries_cell : {s d e : List ℕ} {i k : ℕ} {v u : Version} {x t y : Cell} → x ≡ cell_at s i → t ≡ cell_in u v x → y ≡ raised k t →

@@ -1,30 +1,40 @@
 -- The cells of both books, the merge and the trailer, one after the other, are the joint. Assumes nothing.
-use Prim.Native.Nat.{ℕ, zero, suc, ◌+◌, ◌*◌, ◌<◌}
+use Prim.Native.Nat.{ℕ, zero, suc, ◌+◌, ◌-◌, ◌*◌, ◌<◌}
 use native.Mathlib.Omega.{arith}
 use mathlib.Core.Path.{◌≡◌, refl, sym, ap, ap₂, ◌∙◌}
 use mathlib.Core.List.{List, ◌++◌}
 use lib.ListN.{length}
 use lib.Seq.{sets}
+use Rattle.std.specs.Ordering.{ord_max}
+use Rattle.format.specs.contracts.VersionOrd.TheImpl.{cmp-value}
 use Rattle.format.specs.declared.Version.{Version}
 use Rattle.format.specs.declared.Version.TheVariants.{One, Two}
-use Rattle.format.specs.Version.{version_byte_lem}
 use Rattle.format.specs.Cell.{IsBytes, Cell, cell_at, cell_bytes}
 use Rattle.format.specs.Book.{count, root_of, version_of, trailer}
 use Rattle.format.specs.Widths.{mapped_cells}
-use Rattle.format.specs.Joint.{raised, in_version, merge_cell, together, joint_version, joint}
+use Rattle.format.specs.Joint.{raised, higher, in_version, merge_cell, together, joint_version, joint}
 use Rattle.format.proofs.Tests.{cell_looser}
 use Rattle.format.proofs.Restamping.{restamp_cell, length_mapped}
 use Rattle.format.proofs.Joint.{project_in_version, part_in_version, joint_of}
 use Rattle.emission.proofs.Compose.{behind}
 use Rattle.joint.specs.Writing.{cell_in, carried, CarryReady, Carries, Finishes, JointReady, WritesJoint}
 
+-- ---- the version
+
+pub max_higher : (v w : Version) → ord_max cmp-value.it v w ≡ higher v w
+max_higher One One = refl
+max_higher One Two = refl
+max_higher Two One = refl
+max_higher Two Two = refl
+
 -- ---- the merge and the trailer
 
-pub finished : {d c e : List ℕ} {k i j x : ℕ} {u : Version} → c ≡ sets d (8 * k) (cell_bytes (merge_cell i j)) → x ≡ version_byte_lem u →
-    e ≡ sets c (8 * (k + 1)) (cell_bytes (record { kind = 240; label = x; a = k + 1; b = k; c = 0 })) → Finishes d e k i j u
+pub finished : {d c e : List ℕ} {k i j : ℕ} {u : Version} → c ≡ sets d (8 * k) (cell_bytes (merge_cell i j)) → e ≡ sets c (8 * (k + 1)) (trailer u (k + 1) (k + 1 - 1))
+    → Finishes d e k i j u
 unfolding cell_bytes trailer
-finished {d} {k = k} {i} {j} {u = u} p x q =
-    record { is = (rw x at q) ∙ behind (cell_bytes (merge_cell i j)) (trailer u (k + 1) k) d (8 * k) p (omega arith) }
+finished {d} {k = k} {i} {j} {u = u} p q =
+    let h : k + 1 - 1 ≡ k = omega arith in
+    record { is = (rw h at q) ∙ behind (cell_bytes (merge_cell i j)) (trailer u (k + 1) k) d (8 * k) p (omega arith) }
 
 -- ---- the cells of one book
 

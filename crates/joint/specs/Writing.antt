@@ -1,22 +1,13 @@
--- What writing a joint needs and leaves: a cell raised, the cells of one book, the merge and the trailer, all of it. Assumes nothing.
+-- What writing a joint needs and leaves: the cells of one book, the merge and the trailer, all of it. Assumes nothing.
 use Rattle.std.specs.Prelude.{ℕ, ◌+◌, ◌*◌, ◌≤◌, ◌<◌, ◌≡◌, List, ◌++◌, length}
-use Rattle.std.proofs.Math.Option.{none, some}
+use Rattle.std.proofs.Math.Option.{none}
 use Rattle.std.proofs.lemmas.List.Edits.{sets}
 use Rattle.format.specs.declared.Version.{Version}
 use Rattle.format.specs.declared.Version.TheVariants.{One, Two}
-use Rattle.format.specs.Table.{Row, row_of}
 use Rattle.format.specs.Cell.{Cell, cell_at, cell_bytes}
 use Rattle.format.specs.Book.{cell_fault, size_limit, trailer, WellFormed}
 use Rattle.format.specs.Widths.{wide_cell, mapped_cells}
-use Rattle.format.specs.Joint.{raised_field, raised, merge_cell, joint_count, joint}
-
--- A cell of a known kind whose fields, raised by k, fit their bytes.
-pub record RaiseReady (t : Cell) (k : ℕ) : Type 0 where
-  pub row : Row
-  pub known : row_of t.kind ≡ some row
-  pub first : raised_field k row.a t.a < 65536
-  pub second : raised_field k row.b t.b < 65536
-  pub third : raised_field k row.c t.c < 65536
+use Rattle.format.specs.Joint.{raised, merge_cell, joint_count, joint}
 
 -- A cell of a book of version v, in one of version u, which is no lower: "numbers extended as in (iv)".
 abbrev pub cell_in : Version → Version → Cell → Cell

@@ -1,44 +1,17 @@
 // The joint of two books, written: the cells of the project, the cells of the part with references raised, a merge of both roots, a trailer. Proved: the
-// bytes are the format's, for well-formed books that together, with the merge, have at most 4,095 cells.
+// bytes are the format's, for well-formed books that together, with the merge, have at most 4,095 cells. Kinds are numbers, as in cells.
 #![tactic(auto)]
 
-ghost use Rattle.std.specs.Prelude.{◌≡◌, ◌<◌};
-ghost use Rattle.format.specs.Joint.{raised_field, raised as raisedCell, higher as higherOf};
-ghost use Rattle.cells.specs.Coded.{as_cell, CellFits, use_of};
-ghost use Rattle.joint.specs.Writing.{RaiseReady, cell_in, CarryCellReady, CarriesCell, CarryReady, Carries, FinishReady, Finishes};
+ghost use Rattle.std.specs.Prelude.{◌≡◌};
+ghost use Rattle.cells.specs.Coded.{as_cell};
+ghost use Rattle.joint.specs.Writing.{cell_in, CarryCellReady, CarriesCell, CarryReady, Carries, FinishReady, Finishes};
 ghost use Rattle.joint.specs.Writing.{JointReady, WritesJoint};
 
 use book::version_from;
-use cells::{Cell, entry_of, read_cell, read_pair, write_cell};
+use cells::{Cell, Move, read_cell, read_pair, write_cell};
 use format::Version;
-use layout::version_byte;
+use layout::write_trailer;
 use widths::widen;
-
-// The number x of a field of use u, raised by k if it is a reference.
-fn raise(u: u8, x: usize, k: usize) -> usize
-    requires { raised_field k (use_of u) x < 65536 }
-    ensures { result ≡ raised_field k (use_of u) x }
-{
-    if u < 2 {
-        return x;
-    }
-    k + x
-}
-
-// A cell that comes to stand k cells higher.
-fn raised(t: Cell, k: usize) -> Cell
-    requires { RaiseReady (as_cell t) k }
-    ensures { (as_cell result ≡ raisedCell k (as_cell t)) × CellFits result }
-{
-    let e = entry_of(t.kind);
-    Cell {
-        kind: t.kind,
-        label: t.label,
-        a: raise(e.a, t.a, k),
-        b: raise(e.b, t.b, k),
-        c: raise(e.c, t.c, k),
-    }
-}
 
 // A cell of a book of version own, in one of this version, which is no lower.
 fn in_version(version: Version, own: Version, t: Cell) -> Cell
@@ -50,24 +23,22 @@ fn in_version(version: Version, own: Version, t: Cell) -> Cell
     }
 }
 
-// Cell i of a book of version own comes to stand k cells higher in d, a book of this version.
+// Cell i of a book of version own comes to stand k cells higher in d, a book of this version. k, own and version go side by side: two calls, of one function.
 fn carry_cell(s: &[u8], d: &mut [u8], i: usize, k: usize, own: Version, version: Version)
     requires { CarryCellReady s.now d.old i k }
     ensures { CarriesCell s.now d.old d.new i k own version }
 {
     let t = in_version(version, own, read_cell(s, i));
-    write_cell(d, k + i, raised(t, k));
+    write_cell(d, k + i, Move { from: 0, to: k }.cell(t));
 }
 
-// The n cells of the book.
+// The n cells of the book. A count beside s, whose trailer stays behind: what the format calls its cells are those of the whole book.
 fn carry(s: &[u8], d: &mut [u8], n: usize, k: usize, own: Version, version: Version)
     requires { CarryReady s.now d.old n k }
     ensures { Carries s.now d.old d.new n k own version }
 {
-    let mut i = 0;
-    while i < n {
+    for i in 0..n {
         carry_cell(s, d, i, k, own, version);
-        i += 1;
     }
 }
 
@@ -87,27 +58,7 @@ fn finish(d: &mut [u8], k: usize, i: usize, j: usize, version: Version)
             c: 0,
         },
     );
-    write_cell(
-        d,
-        k + 1,
-        Cell {
-            kind: 240,
-            label: version_byte(version),
-            a: k + 1,
-            b: k,
-            c: 0,
-        },
-    );
-}
-
-// The higher of two versions.
-fn higher(one: Version, other: Version) -> Version
-    ensures { result ≡ higherOf one other }
-{
-    match one {
-        Version::One => other,
-        Version::Two => one,
-    }
+    write_trailer(d, k + 1, version);
 }
 
 // The joint of two well-formed books from byte 0 of d on; answers its length.
@@ -119,7 +70,7 @@ pub fn write_joint(project: &[u8], part: &[u8], d: &mut [u8]) -> usize
     let m = part.len() / 8 - 1;
     let own = version_from(project[8 * n + 1]);
     let other = version_from(part[8 * m + 1]);
-    let version = higher(own, other);
+    let version = own.max(other);
     carry(project, d, n, 0, own, version);
     carry(part, d, m, n, other, version);
     let i = read_pair(project, 8 * n + 4);

@@ -19,14 +19,14 @@ use Rattle.format.specs.Book.{lower_of, leads_to}
 use Rattle.format.specs.Widths.{wide_cell, wide_cells}
 use Rattle.format.proofs.Restamping.{wide_cell_lem, wide_sound, wide_bytes}
 use Rattle.format.proofs.Tests.{CellOk, cell_fault_says, sort_is_says, cell_fits}
-use Rattle.cells.specs.Coded.{CellFits}
+use Rattle.cells.specs.Coded.{as_cell, CellFits}
 use Rattle.cells.specs.declared.Cell.{Cell as Struct}
 use Rattle.cells.specs.Held.{mark, MarkIs, HeldField, f_unused, f_refers, Same}
-use Rattle.cells.proofs.Held.{mark_one, same_cell, same_field_lem, row_passes, Written, written}
+use Rattle.cells.proofs.Held.{same_cell, same_field_lem, row_passes, Written, written}
 use Rattle.cells.proofs.Unshared.{more, fields}
-use Rattle.loading.specs.Marks.{mark_by, MarkReady}
+use Rattle.loading.specs.Marks.{mark_by, MarkedReady, marked_by}
 use Rattle.loading.specs.Loaded.{Loadable, Loaded, LoadsNext}
-use Rattle.loading.proofs.Marking.{Names, marked, mark_ready}
+use Rattle.loading.proofs.Marking.{Names, marked, mark_ready, NewThird, of_type, of_term, third}
 
 -- ---- field c is kept, or the row does not name it
 
@@ -115,11 +115,6 @@ pub record Read (v : Version) (c s : List ℕ) (i : ℕ) (x t : Cell) : Type 0 w
   pub cell : t ≡ wide_cell v x
   pub bytes : IsBytes c
 
--- What field c is to hold.
-pub data NewThird (s : List ℕ) (t : Cell) (c : ℕ) : Type 0 where
-  of_type : t.kind < 16 → c ≡ mark_by s t t.kind → NewThird s t c
-  of_term : 16 ≤ t.kind → c ≡ t.c → NewThird s t c
-
 module _ {v : Version} {c₀ s : List ℕ} {i : ℕ} {x t : Cell} (n : Read v c₀ s i x t) where
   abbrev b : List ℕ
   b = wide_cells v c₀
@@ -140,15 +135,11 @@ module _ {v : Version} {c₀ s : List ℕ} {i : ℕ} {x t : Cell} (n : Read v c�
   type_marked : {c : ℕ} → t.kind < 16 → c ≡ mark_by s t t.kind → c ≡ mark (to_type (tree_at b i))
   type_marked q h = h ∙ marked t.kind (type_cell q) refl
 
-  pub ready : t.kind < 16 → MarkReady s t
-  ready q = mark_ready (type_cell q)
+  pub ready : MarkedReady s t
+  ready = record { ready = λ q. mark_ready (type_cell q) }
 
   fields_fit : (t.label < 256) × (t.a < 65536) × (t.b < 65536) × (t.c < 65536)
   fields_fit = rw cell (cell_fits b (wide_bytes v c₀ n.bytes) i)
-
-  third_fits : {c : ℕ} → NewThird s t c → c < 65536
-  third_fits (of_type q h) = omega (arith, mark_one (to_type (tree_at b i)), type_marked q h)
-  third_fits (of_term q h) = rw h fields_fit.3
 
   third_kept : {c : ℕ} → NewThird s t c → Kept ok.row.c c (cell_at b i).c
   third_kept (of_type q h) = inl (type_third (cell_at b i).kind ok.row ok.found (type_row t.kind ok.row row q))
@@ -161,14 +152,22 @@ module _ {v : Version} {c₀ s : List ℕ} {i : ℕ} {x t : Cell} (n : Read v c�
   pub room : 8 * i + 8 ≤ length s
   room = omega (arith, n.next.done.long, n.next.few)
 
-  pub fits : {z : Struct} → z.a ≡ t.a → z.b ≡ t.b → NewThird s t z.c → CellFits z
-  fits p q h = record { a = rw p fields_fit.1; b = rw q fields_fit.2; c = third_fits h }
+  pub fits : {z : Struct} → as_cell z ≡ t → CellFits z
+  fits e =
+      record {
+        a = rw (ap (λ (x : Cell). x.a) e) fields_fit.1;
+        b = rw (ap (λ (x : Cell). x.b) e) fields_fit.2;
+        c = rw (ap (λ (x : Cell). x.c) e) fields_fit.3;
+      }
 
-  pub loaded : {s' : List ℕ} {c : ℕ} → NewThird s t c
+  loaded_by : {s' : List ℕ} {c : ℕ} → NewThird s t c
       → s' ≡ sets s (8 * i) (cell_bytes (record { kind = t.kind; label = t.label; a = t.a; b = t.b; c = c })) → Loaded b s' (i + 1)
-  loaded h g =
+  loaded_by h g =
       let w = rw cell at (written _ room g) in
       loaded_more ok (loaded_same n.next.done w.same) w (third_kept h) (third_marked h)
+
+  pub loaded : {s' : List ℕ} → s' ≡ sets s (8 * i) (cell_bytes (marked_by s t)) → Loaded b s' (i + 1)
+  loaded g = loaded_by (third s t) g
 
 -- none is loaded at first
 pub loaded_none : {b s : List ℕ} {n : ℕ} {v : Version} → Loadable b s n v → Loaded (wide_cells v b) s 0

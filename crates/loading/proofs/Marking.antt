@@ -6,8 +6,7 @@ use mathlib.Core.Path.{◌≡◌, refl, sym, ◌∙◌, subst}
 use mathlib.Core.Bool.{Bool, true, false, cond, ◌&&◌}
 use mathlib.Core.Option.{some, some-injective}
 use mathlib.Core.List.{List}
-use lib.Dec.{eqb}
-use borrow.Author.Tests.{eq-eqb, ne_eqb}
+use lib.Dec.{eqb, ltb, ltb→lt, nltb→le}
 use Rattle.calculus.specs.Decide.{is_top_like}
 use Rattle.format.specs.Table.{Sort, type_sort, refers, Row, table, row_in, row_for, row_of}
 use Rattle.format.specs.Cell.{IsBytes, Cell, cell_at}
@@ -16,7 +15,7 @@ use Rattle.format.specs.Terms.{to_type}
 use Rattle.format.proofs.Tests.{cell_fits}
 use Rattle.cells.specs.Held.{mark, HeldField, Fields}
 use Rattle.cells.proofs.Held.{row_at, in_range}
-use Rattle.loading.specs.Marks.{mark_by, MarkReady}
+use Rattle.loading.specs.Marks.{mark_by, MarkReady, marked_by}
 
 -- t as cell i: the tree that it names by its row, all its references to cells that are held below i.
 pub record Names (s : List ℕ) (i : ℕ) (o : Sort) (t : Cell) (x : Tree) : Type 0 where
@@ -67,29 +66,6 @@ mark_ready {t = t} h =
       ];
     }
 
--- the mark by its kind, as it is found
-pub by_second : (s : List ℕ) (t : Cell) {k : ℕ} {y : Cell} → k ≡ 3 → y ≡ cell_at s t.b → y.c ≡ mark_by s t k
-by_second s t e q = rw (e, q)
-
-pub by_first : (s : List ℕ) (t : Cell) {k : ℕ} {x : Cell} → k ≡ 5 → x ≡ cell_at s t.a → x.c ≡ mark_by s t k
-by_first s t e p = rw (e, p)
-
-pub by_both : (s : List ℕ) (t : Cell) {k : ℕ} {x y : Cell} → k ≡ 4 → x ≡ cell_at s t.a → x.c ≡ 1 → y ≡ cell_at s t.b → y.c ≡ mark_by s t k
-by_both s t {x = x} e p o q = rw (e, ← p, q, eq-eqb x.c 1 o)
-
-pub by_neither : (s : List ℕ) (t : Cell) {k : ℕ} {x : Cell} → k ≡ 4 → x ≡ cell_at s t.a → (x.c ≡ 1 → ⊥) → 0 ≡ mark_by s t k
-by_neither s t {x = x} e p o = rw (e, ← p, ne_eqb x.c 1 o)
-
--- a kind that has no mark
-pub unmarked : (s : List ℕ) (t : Cell) (k : ℕ) → (k ≡ 2 → ⊥) → (k ≡ 3 → ⊥) → (k ≡ 4 → ⊥) → (k ≡ 5 → ⊥) → 0 ≡ mark_by s t k
-unmarked s t zero a b c d = refl
-unmarked s t (suc zero) a b c d = refl
-unmarked s t (suc (suc zero)) a b c d = absurd (a refl)
-unmarked s t (suc (suc (suc zero))) a b c d = absurd (b refl)
-unmarked s t (suc (suc (suc (suc zero)))) a b c d = absurd (c refl)
-unmarked s t (suc (suc (suc (suc (suc zero))))) a b c d = absurd (d refl)
-unmarked s t (suc (suc (suc (suc (suc (suc k)))))) a b c d = refl
-
 either_fits : (p : Bool) {b : ℕ} → b < 65536 → cond p b 0 < 65536
 either_fits true h = h
 either_fits false h = omega arith
@@ -114,3 +90,17 @@ kept_mark s v t (suc (suc (suc zero))) a b = rw (b (omega arith) (omega arith))
 kept_mark s v t (suc (suc (suc (suc zero)))) a b = rw (a (omega arith) (omega arith), b (omega arith) (omega arith))
 kept_mark s v t (suc (suc (suc (suc (suc zero))))) a b = rw (a (omega arith) (omega arith))
 kept_mark s v t (suc (suc (suc (suc (suc (suc k)))))) a b = refl
+
+-- ---- the cell with its mark
+
+-- What field c of the cell t is to hold.
+pub data NewThird (s : List ℕ) (t : Cell) (c : ℕ) : Type 0 where
+  of_type : t.kind < 16 → c ≡ mark_by s t t.kind → NewThird s t c
+  of_term : 16 ≤ t.kind → c ≡ t.c → NewThird s t c
+
+pub third : (s : List ℕ) (t : Cell) → NewThird s t (marked_by s t).c
+third s t = go (ltb t.kind 16) refl
+  where
+    go : (p : Bool) → ltb t.kind 16 ≡ p → NewThird s t (cond p (mark_by s t t.kind) t.c)
+    go true q = of_type (ltb→lt t.kind 16 (rw q tt)) refl
+    go false q = of_term (nltb→le t.kind 16 (rw q tt)) refl

@@ -4,4 +4,3 @@ pub mod Writing
 pub mod Shifting
 pub mod Placing
 pub mod PlacedRuns
-pub mod Copying

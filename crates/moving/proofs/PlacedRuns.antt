@@ -16,7 +16,8 @@ use Rattle.cells.proofs.Held.{in_range}
 use Rattle.loading.proofs.Marking.{Names, marked}
 use Rattle.emission.specs.Runs.{Run, r_unused, r_plain, r_refers}
 use Rattle.emission.proofs.Runs.{grows, Parts, parts, held}
-use Rattle.moving.specs.Moves.{rebase, PlacedCell, Placed, Places}
+use Rattle.cells.specs.Moves.{moved_field}
+use Rattle.moving.specs.Moves.{PlacedCell, Placed, Places}
 use Rattle.moving.proofs.Runs.{renumber, named}
 
 module _ {s w : List ℕ} {v t u : ℕ} (o : Placed s w v t u) where
@@ -61,9 +62,9 @@ module _ {s w : List ℕ} {v t u : ℕ} (o : Placed s w v t u) where
 
     -- the cell behind its parts, which have been placed
     again : {q : Sort} → row_of k ≡ some r → r.sort ≡ q
-        → Run true w (x - v + t) r.a (rebase v t r.a p.a) f (p.y - v + t)
-        → Run true w (p.y - v + t) r.b (rebase v t r.b p.b) g (p.z - v + t)
-        → Run true w (p.z - v + t) r.c (rebase v t r.c p.c) h (i - v + t)
+        → Run true w (x - v + t) r.a (moved_field v t r.a p.a) f (p.y - v + t)
+        → Run true w (p.y - v + t) r.b (moved_field v t r.b p.b) g (p.z - v + t)
+        → Run true w (p.z - v + t) r.c (moved_field v t r.c p.c) h (i - v + t)
         → Run true w (x - v + t) (refers q) (i - v + t) (node k m f g h) (e - v + t)
     again {q} n so b c d =
         let z = placed_cell.follows in
@@ -84,11 +85,11 @@ module _ {s w : List ℕ} {v t u : ℕ} (o : Placed s w v t u) where
         let y = mark_is q (record { row = r; found = ap row_of same_kind ∙ n; sort = so; fields = fields }) in
         r_refers (named placed_cell.within same_kind same_label) n p.label first second third last (so, y)
 
-  plainly : {x n e m : ℕ} {y : Use} → Run false s x y n (raw m) e → Run true w (x - v + t) y (rebase v t y n) (raw m) (e - v + t)
+  plainly : {x n e m : ℕ} {y : Use} → Run false s x y n (raw m) e → Run true w (x - v + t) y (moved_field v t y n) (raw m) (e - v + t)
   plainly r_unused = r_unused
   plainly r_plain = r_plain
 
-  placed : {x n e : ℕ} {y : Use} {g : Tree} → Good Two y g → Among x e → Run false s x y n g e → Run true w (x - v + t) y (rebase v t y n) g (e - v + t)
+  placed : {x n e : ℕ} {y : Use} {g : Tree} → Good Two y g → Among x e → Run false s x y n g e → Run true w (x - v + t) y (moved_field v t y n) g (e - v + t)
   placed (leaf h) a z = plainly z
   placed {x = x} {n = m} {e = e} (cell n so k l f g h) a z =
       let p = parts z n in

@@ -10,25 +10,24 @@ use lib.Seq.{sets}
 use Rattle.format.specs.Cell.{IsBytes, Cell, cell_at, cell_bytes}
 use Rattle.format.proofs.Tests.{cell_fits}
 use Rattle.format.specs.Table.{Row, row_of}
-use Rattle.cells.specs.Coded.{as_cell, CellFits}
-use Rattle.cells.specs.declared.Cell.{Cell as Struct}
 use Rattle.cells.proofs.Held.{written}
-use Rattle.loading.specs.Marks.{mark_by, MarkReady}
-use Rattle.loading.proofs.Marking.{mark_fits, kept_mark}
-use Rattle.moving.specs.Moves.{rebase, FieldIs, Follows, Rebased, PlacedCell, Wrote, OfRun, CellReady, PlaceReady, Places, PlaceCellReady, PlacesCell}
-use Rattle.moving.proofs.Rebasing.{of_run_wider, of_type, lower}
+use Rattle.loading.specs.Marks.{mark_by, MarkedReady, marked_by}
+use Rattle.loading.proofs.Marking.{kept_mark, NewThird, of_type, of_term, third}
+use Rattle.cells.specs.Moves.{moved_field, moved_cell, CellMoves}
+use Rattle.moving.specs.Moves.{FieldIs, Follows, Rebased, PlacedCell, Wrote, OfRun, PlaceReady, Places, PlaceCellReady, PlacesCell}
+use Rattle.moving.proofs.Rebasing.{cell_moves, rebased, of_type as row_type, lower}
 use Rattle.moving.proofs.Writing.{wrote}
 
 -- where the mark of a cell is read from: below it
 module _ {t u : Cell} {x y e : ℕ} (p : OfRun t x e) (r : Follows t x y u) where
   first_lower : 4 ≤ t.kind → t.kind ≤ 5 → u.a < e - x + y
   first_lower a b =
-      let v = of_type t.kind p.row p.known in
+      let v = row_type t.kind p.row p.known in
       lower p.row.a x y e t.a u.a (v.1.first (rw v.0 at a) (rw v.0 at b)) p.first (r.first p.row p.known)
 
   second_lower : 3 ≤ t.kind → t.kind ≤ 4 → u.b < e - x + y
   second_lower a b =
-      let v = of_type t.kind p.row p.known in
+      let v = row_type t.kind p.row p.known in
       lower p.row.b x y e t.b u.b (v.1.second (rw v.0 at a) (rw v.0 at b)) p.second (r.second p.row p.known)
 
   -- so that writing anything from there on keeps it
@@ -37,30 +36,24 @@ module _ {t u : Cell} {x y e : ℕ} (p : OfRun t x e) (r : Follows t x y u) wher
 
 -- ---- one cell
 
--- What field c of the cell u is to hold, in the buffer w.
-pub data NewThird (w : List ℕ) (u : Cell) (c : ℕ) : Type 0 where
-  of_mark : u.kind < 16 → c ≡ mark_by w u u.kind → NewThird w u c
-  of_field : 16 ≤ u.kind → c ≡ u.c → NewThird w u c
-
 module _ {s w : List ℕ} {x y i : ℕ} {t : Cell} (p : PlaceCellReady s w x y i) (e : t ≡ cell_at s (x + i)) where
   of : OfRun t x (x + i)
   of = rw e p.cell
 
-  pub cell_ready : IsBytes s → CellReady t x y
-  cell_ready b =
-      let f = cell_fits s b (x + i) in
-      record {
-        of = of_run_wider (omega (arith, p.low_from)) of;
-        small = omega (arith, p.inside);
-        fits = rw e (f.1, f.2, f.3);
-      }
+  pub cell_ready : IsBytes s → CellMoves x y t
+  cell_ready b = let f = cell_fits s b (x + i) in cell_moves (omega (arith, p.low_from)) (omega (arith, p.inside)) of (rw e (f.1, f.2, f.3))
 
-  module _ {u : Cell} (r : Rebased t x y u) where
-    pub mark_ready : MarkReady w u
+  module _ {u : Cell} (m : (r : Row) → row_of t.kind ≡ some r → u ≡ moved_cell x y r t) where
+    r : Rebased t x y u
+    r = rebased of m
+
+    pub mark_ready : MarkedReady w u
     mark_ready =
         record {
-          first = λ a b. omega (arith, p.inside, p.long, first_lower of r.follows (rw r.follows.kind at a) (rw r.follows.kind at b));
-          second = λ a b. omega (arith, p.inside, p.long, second_lower of r.follows (rw r.follows.kind at a) (rw r.follows.kind at b));
+          ready = λ _. record {
+            first = λ a b. omega (arith, p.inside, p.long, first_lower of r.follows (rw r.follows.kind at a) (rw r.follows.kind at b));
+            second = λ a b. omega (arith, p.inside, p.long, second_lower of r.follows (rw r.follows.kind at a) (rw r.follows.kind at b));
+          };
         }
 
     -- the cell with its new field c
@@ -70,18 +63,18 @@ module _ {s w : List ℕ} {x y i : ℕ} {t : Cell} (p : PlaceCellReady s w x y i
         f : Follows t x y u
         f = r.follows
 
-        third : NewThird w u c → (o : Row) → row_of t.kind ≡ some o → FieldIs o.c c (rebase x y o.c t.c)
-        third (of_mark l q) o k = let v = of_type t.kind o k in rw (v.1.third (rw (f.kind, v.0) at l)) Prim.tt
-        third (of_field l q) o k = rw q (f.third o k)
+        third : NewThird w u c → (o : Row) → row_of t.kind ≡ some o → FieldIs o.c c (moved_field x y o.c t.c)
+        third (of_type l q) o k = let v = row_type t.kind o k in rw (v.1.third (rw (f.kind, v.0) at l)) Prim.tt
+        third (of_term l q) o k = rw q (f.third o k)
 
     marks : {v : List ℕ} {c : ℕ} → NewThird w u c → Wrote w v (y + i) → t.kind < 16 → c ≡ mark_by v u t.kind
-    marks {v} (of_field l q) o h = absurd (omega (arith, l, h, r.follows.kind))
-    marks {v} (of_mark l q) o h =
+    marks {v} (of_term l q) o h = absurd (omega (arith, l, h, r.follows.kind))
+    marks {v} (of_type l q) o h =
         (rw r.follows.kind at q) ∙ sym (still of r.follows w v (λ j k. o.others j (λ z. absurd (omega (arith, k, z)))))
 
-    pub places_cell : {v : List ℕ} {c : ℕ} → NewThird w u c
+    places_by : {v : List ℕ} {c : ℕ} → NewThird w u c
         → v ≡ sets w (8 * (y + i)) (cell_bytes (record { kind = u.kind; label = u.label; a = u.a; b = u.b; c = c })) → PlacesCell s w v x y i
-    places_cell n d =
+    places_by n d =
         let h : 8 * (y + i) + 8 ≤ length w = omega (arith, p.long, p.inside) in
         let z = written _ h d in
         let o = wrote _ h d in
@@ -94,9 +87,8 @@ module _ {s w : List ℕ} {x y i : ℕ} {t : Cell} (p : PlaceCellReady s w x y i
           };
         }
 
-pub third_fits : {w : List ℕ} {u : Struct} {c : ℕ} → IsBytes w → CellFits u → NewThird w (as_cell u) c → c < 65536
-third_fits {w} {u} b f (of_mark l q) = rw q (mark_fits w b (as_cell u) u.kind)
-third_fits b f (of_field l q) = rw q f.c
+    pub places_cell : {v : List ℕ} → v ≡ sets w (8 * (y + i)) (cell_bytes (marked_by w u)) → PlacesCell s w v x y i
+    places_cell d = places_by (third w u) d
 
 -- ---- the run
 

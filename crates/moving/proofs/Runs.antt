@@ -14,7 +14,8 @@ use Rattle.cells.specs.Held.{IsCell, Marked}
 use Rattle.cells.proofs.Held.{in_range}
 use Rattle.emission.specs.Runs.{Run, r_unused, r_plain, r_refers}
 use Rattle.emission.proofs.Runs.{grows}
-use Rattle.moving.specs.Moves.{rebase, FieldIs, Moved, Between, OfRun, ShiftReady, Shifts, PlaceReady}
+use Rattle.cells.specs.Moves.{moved_field}
+use Rattle.moving.specs.Moves.{FieldIs, Moved, Between, OfRun, ShiftReady, Shifts, PlaceReady}
 
 -- ---- a run's cells
 
@@ -82,7 +83,7 @@ marked_moved true term_sort r t n e h = h
 marked_moved false o r t n e h = h
 
 pub moved : {q : Bool} {s t : List ℕ} {x y v w n e : ℕ} {u : Use} {f : Tree} → Moved s t v w e → v ≤ x → y ≤ e → Run q s x u n f y
-    → Run q t (x - v + w) u (rebase v w u n) f (y - v + w)
+    → Run q t (x - v + w) u (moved_field v w u n) f (y - v + w)
 moved o a b r_unused = r_unused
 moved o a b r_plain = r_plain
 moved {q} {y = y} {v} {w} o a b (r_refers {i = i} {o = u} {r = r} p k m f g h z d) =

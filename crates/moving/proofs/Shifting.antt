@@ -4,23 +4,27 @@ use native.Mathlib.Decide.{dec_lt}
 use native.Mathlib.Omega.{arith}
 use mathlib.Core.Path.{◌≡◌, refl, ◌∙◌}
 use mathlib.Core.List.{List}
+use mathlib.Core.Option.{some}
 use lib.ListN.{length}
 use lib.Seq.{sets}
 use Rattle.format.specs.Cell.{IsBytes, Cell, cell_at, cell_bytes}
 use Rattle.format.proofs.Tests.{cell_fits}
 use Rattle.cells.proofs.Held.{written}
-use Rattle.moving.specs.Moves.{Rebased, MovedCell, CellReady, ShiftReady, Shifts, ShiftCellReady, ShiftsCell}
-use Rattle.moving.proofs.Rebasing.{of_run_wider}
+use Rattle.format.specs.Table.{Row, row_of}
+use Rattle.cells.specs.Moves.{moved_cell, CellMoves}
+use Rattle.moving.specs.Moves.{Rebased, MovedCell, ShiftReady, Shifts, ShiftCellReady, ShiftsCell}
+use Rattle.moving.proofs.Rebasing.{cell_moves, rebased}
 use Rattle.moving.proofs.Writing.{wrote}
 
-pub cell_ready : {w : List ℕ} {x y i : ℕ} {t : Cell} → IsBytes w → ShiftCellReady w x y i → t ≡ cell_at w (x + i) → CellReady t x y
+pub cell_ready : {w : List ℕ} {x y i : ℕ} {t : Cell} → IsBytes w → ShiftCellReady w x y i → t ≡ cell_at w (x + i) → CellMoves x y t
 cell_ready {w} {x} {y} {i} b p e =
     let f = cell_fits w b (x + i) in
-    rw e (record { of = of_run_wider (omega (arith, p.inside)) p.cell; small = omega (arith, p.inside, p.down); fits = (f.1, f.2, f.3) })
+    rw e (cell_moves (omega (arith, p.inside)) (omega (arith, p.inside, p.down)) p.cell (f.1, f.2, f.3))
 
-pub shifts_cell : {w v : List ℕ} {x y i : ℕ} {t n : Cell} → ShiftCellReady w x y i → t ≡ cell_at w (x + i) → Rebased t x y n
-    → v ≡ sets w (8 * (y + i)) (cell_bytes n) → ShiftsCell w v x y i
-shifts_cell {w} {v} {x} {y} {i} {t} {n} p e r d =
+pub shifts_cell : {w v : List ℕ} {x y i : ℕ} {t n : Cell} → ShiftCellReady w x y i → t ≡ cell_at w (x + i)
+    → ((r : Row) → row_of t.kind ≡ some r → n ≡ moved_cell x y r t) → v ≡ sets w (8 * (y + i)) (cell_bytes n) → ShiftsCell w v x y i
+shifts_cell {w} {v} {x} {y} {i} {t} {n} p e m d =
+    let r : Rebased t x y n = rebased {e = x + i} (rw e p.cell) m in
     let h : 8 * (y + i) + 8 ≤ length w = omega (arith, p.long, p.inside, p.down) in
     let z = written n h d in
     record { wrote = wrote n h d; moved = record { within = z.there.within; is = rw z.there.is (rw e at r) } }

@@ -1,16 +1,10 @@
 -- Runs of cells that move: each cell as it was, its references moved with it; all other cells as they were. Assumes nothing.
-use Rattle.std.specs.Prelude.{ℕ, ◌+◌, ◌*◌, ◌-◌, ◌≤◌, ◌<◌, ◌≡◌, List, length, take, drop}
+use Rattle.std.specs.Prelude.{ℕ, ◌+◌, ◌*◌, ◌-◌, ◌≤◌, ◌<◌, ◌≡◌, List, length}
 use Rattle.std.proofs.Math.Option.{some}
 use Rattle.format.specs.Table.{Use, unused, plain, refers, Row, row_of}
 use Rattle.format.specs.Cell.{Cell, cell_at}
-use Rattle.cells.specs.Coded.{use_of}
+use Rattle.cells.specs.Moves.{moved_field}
 use Rattle.loading.specs.Marks.{mark_by}
-
--- The number of a field of a run that moves from x to y.
-abbrev pub rebase : ℕ → ℕ → Use → ℕ → ℕ
-rebase x y unused n = n
-rebase x y plain n = n
-rebase x y (refers o) n = n - x + y
 
 -- A field of this use has the number m; of one that the row does not name nothing is said.
 abbrev pub FieldIs : Use → ℕ → ℕ → Type 0
@@ -22,9 +16,9 @@ FieldIs (refers o) n m = n ≡ m
 pub record Follows (t : Cell) (x y : ℕ) (u : Cell) : Type 0 where
   pub kind : u.kind ≡ t.kind
   pub label : u.label ≡ t.label
-  pub first : (r : Row) → row_of t.kind ≡ some r → FieldIs r.a u.a (rebase x y r.a t.a)
-  pub second : (r : Row) → row_of t.kind ≡ some r → FieldIs r.b u.b (rebase x y r.b t.b)
-  pub third : (r : Row) → row_of t.kind ≡ some r → FieldIs r.c u.c (rebase x y r.c t.c)
+  pub first : (r : Row) → row_of t.kind ≡ some r → FieldIs r.a u.a (moved_field x y r.a t.a)
+  pub second : (r : Row) → row_of t.kind ≡ some r → FieldIs r.b u.b (moved_field x y r.b t.b)
+  pub third : (r : Row) → row_of t.kind ≡ some r → FieldIs r.c u.c (moved_field x y r.c t.c)
 
 -- The cell u follows t, and has its mark.
 pub record Rebased (t : Cell) (x y : ℕ) (u : Cell) : Type 0 where
@@ -75,17 +69,6 @@ pub record OfRun (t : Cell) (x e : ℕ) : Type 0 where
   pub second : Between row.b x e t.b
   pub third : Between row.c x e t.c
 
--- A field of a run that moves from x to y.
-pub record RebaseReady (u n x y : ℕ) : Type 0 where
-  pub between : Between (use_of u) x 8192 n
-  pub small : y < 8192
-
--- A cell of a run that moves from x to y.
-pub record CellReady (t : Cell) (x y : ℕ) : Type 0 where
-  pub of : OfRun t x 8192
-  pub small : y < 8192
-  pub fits : (t.a < 65536) × (t.b < 65536) × (t.c < 65536)
-
 -- The n cells from x on are a run's, and move down to y.
 pub record ShiftReady (w : List ℕ) (x y n : ℕ) : Type 0 where
   pub long : length w ≡ 65536
@@ -135,14 +118,3 @@ pub record PlaceCellReady (s w : List ℕ) (x y i : ℕ) : Type 0 where
 pub record PlacesCell (s w v : List ℕ) (x y i : ℕ) : Type 0 where
   pub wrote : Wrote w v (y + i)
   pub placed : PlacedCell s v x y (x + i) (y + i)
-
--- Both have n bytes.
-pub record CopyReady (s w : List ℕ) (n : ℕ) : Type 0 where
-  pub from : n ≤ length s
-  pub to : n ≤ length w
-
--- The first n bytes of v are those of s, the others those of w.
-pub record Copies (s w v : List ℕ) (n : ℕ) : Type 0 where
-  pub long : length v ≡ length w
-  pub first : take n v ≡ take n s
-  pub rest : drop n v ≡ drop n w

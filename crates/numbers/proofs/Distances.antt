@@ -1,6 +1,7 @@
 -- Numbers by their distance from the lower end of a range: sums of numbers are sums of distances, and a held sum is stored by where that distance lies.
 -- Assumes nothing.
-use Prim.Native.Nat.{ℕ, suc, ◌+◌, ◌*◌, ◌-◌, ◌%◌, ◌≤◌, ◌<◌}
+use Prim.Native.Nat.{ℕ, suc, ◌+◌, ◌*◌, ◌-◌, ◌%◌, ◌≤◌, ◌<◌, min, max}
+use native.Mathlib.Decide.{dec_lt}
 use native.Mathlib.Omega.{arith}
 use mathlib.Core.Path.{◌≡◌, refl, ap, ◌∙◌}
 use mathlib.Core.Bool.{cond}
@@ -76,14 +77,16 @@ module _ {x y h : ℕ} (p : SumReady x y h) where
       let f : mag (hold h z) < wide = omega (arith, hold_fits h z p.some, p.narrow) in
       record { fits = rw q (unsigned_fits wide (hold h z) f); says = ap (signed wide) q ∙ signed_unsigned wide (hold h z) f }
 
-  pub adds_low : s + h < range → AddsHeld x y h (range - h)
-  adds_low l = stored_held (below_range h s z above p.some l)
-
-  pub adds_high : range + h ≤ s → AddsHeld x y h (h - 1)
-  adds_high l = stored_held (above_range h s z above l)
-
-  pub adds_within : range ≤ s + h → s < range + h → AddsHeld x y h (s % range)
-  adds_within l m = stored_held (in_range h s z above p.narrow l m)
+  pub adds_clamped : {r : ℕ} → r ≡ max (range - h) (min s (range + h - 1)) % range → AddsHeld x y h r
+  adds_clamped q =
+      elim (dec_lt (s + h) range) [
+        | yes l ↦ stored_held (q ∙ omega (arith, p.some, l) ∙ below_range h s z above p.some l)
+        | no l ↦
+            elim (dec_lt s (range + h)) [
+              | yes m ↦ stored_held (q ∙ ap (λ (n : ℕ). n % range) (let e : max (range - h) (min s (range + h - 1)) ≡ s = omega (arith, l, m) in e) ∙ in_range h s z above p.narrow (omega (arith, l)) m)
+              | no m ↦ stored_held (q ∙ omega (arith, p.some, p.narrow, m) ∙ above_range h s z above (omega (arith, m)))
+            ]
+      ]
 
 -- The range of either version is one that a sum can be held to.
 pub half_ready : (v : Version) → (0 < half_of v) × (half_of v ≤ half_of Two)

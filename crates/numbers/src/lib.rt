@@ -10,7 +10,7 @@ ghost use Rattle.numbers.specs.Sums.{SumReady, AddsHeld};
 use format::Version;
 
 // Half of the range of stored numbers, 2^47.
-const WIDE: usize = 140737488355328;
+const WIDE: usize = 1 << 47;
 
 const RANGE: usize = 2 * WIDE;
 
@@ -19,7 +19,7 @@ pub fn half_of(version: Version) -> usize
     ensures { result ≡ half_of version }
 {
     match version {
-        Version::One => 2147483648,
+        Version::One => 1 << 31,
         Version::Two => WIDE,
     }
 }
@@ -31,11 +31,5 @@ pub fn add_held(x: usize, y: usize, half: usize) -> usize
 {
     // Each number as its distance z + WIDE from the lower end, so the sum z as z + RANGE.
     let sum = (x + WIDE) % RANGE + (y + WIDE) % RANGE;
-    if sum + half < RANGE {
-        return RANGE - half;
-    }
-    if sum >= RANGE + half {
-        return half - 1;
-    }
-    sum % RANGE
+    sum.clamp(RANGE - half, RANGE + half - 1) % RANGE
 }

@@ -38,22 +38,47 @@ module _ {x y : FieldPart} where
       go s a (one_part C) more_parts h k = rw (h.1, k) refl
       go s a (one_part C) (one_part D) h k = rw (h.1, k.1) refl
 
--- Nothing more found.
-pub beside_none : (x : FieldPart) → joined x Absent ≡ x
-beside_none Absent = refl
-beside_none TopLike = refl
-beside_none (One a) = refl
-beside_none More = refl
+  -- ---- by the halves that say nothing, and those that are top-like
 
--- The last arm of each second match.
-pub beside_top : (y : FieldPart) → ¬ (y ≡ Absent) → joined TopLike y ≡ y
-beside_top Absent n = absurd (n refl)
-beside_top TopLike n = refl
-beside_top (One b) n = refl
-beside_top More n = refl
+  pub left_none : x ≡ Absent → Joins x y y
+  left_none e = joins (rw e refl)
 
-pub beside_one : (a : ℕ) (y : FieldPart) → ¬ (y ≡ Absent) → ¬ (y ≡ TopLike) → joined (One a) y ≡ More
-beside_one a Absent n m = absurd (n refl)
-beside_one a TopLike n m = absurd (m refl)
-beside_one a (One b) n m = refl
-beside_one a More n m = refl
+  pub right_none : y ≡ Absent → Joins x y x
+  right_none e = joins (rw e (go x))
+    where
+      go : (x : FieldPart) → joined x Absent ≡ x
+      go Absent = refl
+      go TopLike = refl
+      go (One a) = refl
+      go More = refl
+
+  pub left_top : x ≡ TopLike → (y ≡ Absent → ⊥) → Joins x y y
+  left_top e n = joins (rw e (go y n))
+    where
+      go : (y : FieldPart) → (y ≡ Absent → ⊥) → joined TopLike y ≡ y
+      go Absent n = absurd (n refl)
+      go TopLike n = refl
+      go (One b) n = refl
+      go More n = refl
+
+  pub right_top : y ≡ TopLike → (x ≡ Absent → ⊥) → Joins x y x
+  right_top e n = joins (rw e (go x n))
+    where
+      go : (x : FieldPart) → (x ≡ Absent → ⊥) → joined x TopLike ≡ x
+      go Absent n = absurd (n refl)
+      go TopLike n = refl
+      go (One a) n = refl
+      go More n = refl
+
+  -- neither says nothing, and neither is top-like
+  pub two_parts : (x ≡ Absent → ⊥) → (x ≡ TopLike → ⊥) → (y ≡ Absent → ⊥) → (y ≡ TopLike → ⊥) → Joins x y More
+  two_parts n m i j = joins (go x y n m i j)
+    where
+      go : (x y : FieldPart) → (x ≡ Absent → ⊥) → (x ≡ TopLike → ⊥) → (y ≡ Absent → ⊥) → (y ≡ TopLike → ⊥) → joined x y ≡ More
+      go Absent y n m i j = absurd (n refl)
+      go TopLike y n m i j = absurd (m refl)
+      go (One a) Absent n m i j = absurd (i refl)
+      go (One a) TopLike n m i j = absurd (j refl)
+      go (One a) (One b) n m i j = refl
+      go (One a) More n m i j = refl
+      go More y n m i j = refl

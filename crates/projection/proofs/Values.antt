@@ -4,7 +4,10 @@ use native.Mathlib.Omega.{arith}
 use mathlib.Core.Path.{◌≡◌, refl, sym, ap, ◌∙◌, subst}
 use mathlib.Core.Bool.{Bool, true, false, ◌&&◌, cond}
 use mathlib.Core.List.{List}
-use mathlib.Core.Option.{Option, none, some, or_else}
+use mathlib.Core.Option as maybe
+use mathlib.Core.Option.{none, some, or_else}
+use Rattle.std.specs.Prelude.{Option, None, Some}
+use Rattle.std.specs.declared.ops.Range.{Range}
 use lib.Dec.{eqb}
 use lib.IntN.{ℤ}
 use lib.ListN.{length}
@@ -22,8 +25,6 @@ use Rattle.cells.specs.Held.{HoldsType}
 use Rattle.cells.proofs.Held.{kind_of, mark_test, held_within}
 use Rattle.emission.proofs.Runs.{nothing, last, ends, whole, at_run, parts, run_kind, run_type}
 use Rattle.projection.specs.Parts.{IsValueFrom, ValueFrom, ValueAt, ShowsTopLike, ContentIs, FindsContent}
-use Rattle.projection.specs.declared.Content.{Content}
-use Rattle.projection.specs.declared.Content.TheVariants.{Cells, Nothing}
 
 -- ---- a value by the kind of its last cell t
 
@@ -76,22 +77,22 @@ pub record Inside (s : List ℕ) (start v p : ℕ) : Type 0 where
   pub from : ValueFrom s start p
   pub lower : p < v
 
--- cells are not nothing
-pub no_cells : {x y : ℕ} {r : Content} → r ≡ Cells x y → r ≡ Nothing → ⊥
+-- some cells are not none
+pub no_cells : {g : Range ℕ} {r : Option (Range ℕ)} → r ≡ Some g → r ≡ None → ⊥
 no_cells e f = let z : ◌≡◌ {A = ℕ} 0 1 = cc in omega arith
 
 -- the first of two answers, if there is one, else the second; each for a part that lies from start on before v
-module _ (s : List ℕ) (start v : ℕ) (r : Content) where
-  widen : (x w : ℕ) (o : Option Term) → start ≤ x → w ≤ v → ContentIs s x w r o → ContentIs s start v r o
+module _ (s : List ℕ) (start v : ℕ) (r : Option (Range ℕ)) where
+  widen : (x w : ℕ) (o : maybe.Option Term) → start ≤ x → w ≤ v → ContentIs s x w r o → ContentIs s start v r o
   widen x w none i j h = h
   widen x w (some e) i j h = (h.0, h.1, h.2, omega (arith, i, h.3), omega (arith, j, h.4), h.5)
 
-  left_part : (w : ℕ) (o q : Option Term) {m n : ℕ} → r ≡ Cells m n → w ≤ v → ContentIs s start w r o → ContentIs s start v r (or_else o q)
+  left_part : (w : ℕ) (o q : maybe.Option Term) {g : Range ℕ} → r ≡ Some g → w ≤ v → ContentIs s start w r o → ContentIs s start v r (or_else o q)
   unfolding or_else
   left_part w none q e j h = absurd (no_cells e h)
   left_part w (some f) q e j h = widen start w (some f) (omega arith) j h
 
-  right_part : (y x w : ℕ) (t : Content) (o q : Option Term) → t ≡ Nothing → start ≤ x → w ≤ v → ContentIs s start y t o → ContentIs s x w r q → ContentIs s start v r (or_else o q)
+  right_part : (y x w : ℕ) (t : Option (Range ℕ)) (o q : maybe.Option Term) → t ≡ None → start ≤ x → w ≤ v → ContentIs s start y t o → ContentIs s x w r q → ContentIs s start v r (or_else o q)
   unfolding or_else
   right_part y x w t none q e i j h k = widen x w q i j k
   right_part y x w t (some f) q e i j h k = absurd (no_cells h.2 e)
@@ -182,15 +183,18 @@ module _ {s : List ℕ} {v : ℕ} {x : Cell} (is : x ≡ cell_at s v) where
   -- ---- the content of its part that has the field of label l
 
   module _ {start l : ℕ} where
-    module _ (k : x.kind ≡ 22) {q : Content} (f : FindsContent s start x.a l q) where
-      pub finds_left : {m n : ℕ} → q ≡ Cells m n → FindsContent s start v l q
+    module _ (k : x.kind ≡ 22) {q : Option (Range ℕ)} (f : FindsContent s start x.a l q) where
+      finds_some : {g : Range ℕ} → q ≡ Some g → FindsContent s start v l q
       unfolding first_part
-      finds_left c = record { says = λ e h. go (shape h k) }
+      finds_some c = record { says = λ e h. go (shape h k) }
         where
           go : {e : Term} → Shape s start v x 22 e → ContentIs s start v q (first_part (content l) e)
           go (is_merge {e = e} m n i j u) = left_part s start v q x.a _ _ c (omega (arith, j, u)) (f.says e m)
 
-      pub finds_right : {r : Content} → q ≡ Nothing → FindsContent s (x.a + 1) x.b l r → FindsContent s start v l r
+      pub finds_left : {g : Range ℕ} → q ≡ Some g → FindsContent s start v l (Some g)
+      finds_left c = subst (FindsContent s start v l) c (finds_some c)
+
+      pub finds_right : {r : Option (Range ℕ)} → q ≡ None → FindsContent s (x.a + 1) x.b l r → FindsContent s start v l r
       unfolding first_part
       finds_right {r} c g = record { says = λ e h. go (shape h k) }
         where
@@ -198,33 +202,36 @@ module _ {s : List ℕ} {v : ℕ} {x : Cell} (is : x ≡ cell_at s v) where
           go (is_merge {e = e} {f = e'} m n i j u) = right_part s start v r x.a (x.a + 1) x.b q _ _ c (omega (arith, i)) (omega (arith, u)) (f.says e m) (g.says e' n)
 
     module _ (k : x.kind ≡ 24) {q : Bool} (f : ShowsTopLike s x.a q) where
-      pub finds_content : x.label ≡ l → q ≡ false → FindsContent s start v l (Cells start v)
+      pub finds_content : x.label ≡ l → q ≡ false → FindsContent s start v l (Some (record { start = start; end = v }))
       unfolding first_part content
       finds_content m t = record { says = λ e h. go (shape h k) }
         where
-          go : {e : Term} → Shape s start v x 24 e → ContentIs s start v (Cells start v) (first_part (content l) e)
+          go : {e : Term} → Shape s start v x 24 e → ContentIs s start v (Some (record { start = start; end = v })) (first_part (content l) e)
           go (is_rcd {e = e} i g h j) =
               rw (eq-eqb l _ (sym m ∙ sym i), sym (f.says _ e g) ∙ t)
-              (start, x.a, ap (Cells start) j, omega arith, omega (arith, j), g)
+              (start, x.a, ap (λ (n : ℕ). Some (record { start = start; end = n })) j, omega arith, omega (arith, j), g)
 
-      pub finds_top_like : q ≡ true → FindsContent s start v l Nothing
+      pub finds_top_like : q ≡ true → FindsContent s start v l None
       unfolding first_part content
       finds_top_like t = record { says = λ e h. go (shape h k) }
         where
-          go : {e : Term} → Shape s start v x 24 e → ContentIs s start v Nothing (first_part (content l) e)
+          go : {e : Term} → Shape s start v x 24 e → ContentIs s start v None (first_part (content l) e)
           go (is_rcd {l = m} {e = e} i g h j) = rw (sym (f.says _ e g) ∙ t) (not_shown (eqb l m))
             where
-              not_shown : (b : Bool) → ContentIs s start v Nothing (cond (b && false) (some e) none)
+              not_shown : (b : Bool) → ContentIs s start v None (cond (b && false) (some e) none)
               not_shown true = refl
               not_shown false = refl
 
-    pub finds_nothing : (x.kind ≡ 22 → ⊥) → (x.kind ≡ 24 → x.label ≡ l → ⊥) → FindsContent s start v l Nothing
+    pub finds_nothing : (x.kind ≡ 22 → ⊥) → (x.kind ≡ 24 → x.label ≡ l → ⊥) → FindsContent s start v l None
     unfolding first_part content
     finds_nothing n m = record { says = λ e h. go (shape h refl) n m }
       where
-        go : {k : ℕ} {e : Term} → Shape s start v x k e → (k ≡ 22 → ⊥) → (k ≡ 24 → x.label ≡ l → ⊥) → ContentIs s start v Nothing (first_part (content l) e)
+        go : {k : ℕ} {e : Term} → Shape s start v x k e → (k ≡ 22 → ⊥) → (k ≡ 24 → x.label ≡ l → ⊥) → ContentIs s start v None (first_part (content l) e)
         go is_lit n m = refl
         go is_unit n m = refl
         go (is_lam h) n m = refl
         go (is_merge g h i j u) n m = absurd (n refl)
         go (is_rcd i g h j) n m = rw (ne_eqb l _ (λ e. m refl (sym i ∙ sym e))) refl
+
+    pub finds_no_record : (x.kind ≡ 22 → ⊥) → (x.kind ≡ 24 → ⊥) → FindsContent s start v l None
+    finds_no_record n m = finds_nothing n (λ k. absurd (m k))

@@ -2,6 +2,7 @@
 use Prim.Native.Nat.{ℕ, ◌≤◌, ◌<◌}
 use native.Mathlib.Omega.{arith}
 use mathlib.Core.Path.{◌≡◌, refl, sym, ap, ◌∙◌}
+use mathlib.Core.Logic.{◌⊎◌, inl, inr}
 use mathlib.Core.List.{List}
 use Rattle.calculus.specs.Syntax.{Ty, inter}
 use Rattle.calculus.specs.Decide as Decide
@@ -13,6 +14,11 @@ use Rattle.cells.proofs.Held.{TwoTypes, inter_at}
 use Rattle.projection.specs.declared.FieldPart.{FieldPart}
 use Rattle.projection.specs.declared.FieldPart.TheVariants.{Absent}
 use Rattle.projection.specs.Parts.{TypeAt, PartIs, Joins, FindsFieldPart, FindsSingle}
+
+-- a type that is not asked further by itself: no intersection, or one that is top-like
+pub only_marked : {k c : ℕ} → ((k ≡ 4) × (c ≡ 1)) ⊎ (k ≡ 4 → ⊥) → k ≡ 4 → c ≡ 1
+only_marked (inl h) k = h.1
+only_marked (inr n) k = absurd (n k)
 
 -- a part of a lower type is a part of the whole
 raised : (s : List ℕ) {a b : ℕ} (r : FieldPart) (p : Decide.FieldPart) → b ≤ a → PartIs s b r p → PartIs s a r p

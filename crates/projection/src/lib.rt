@@ -1,14 +1,15 @@
 // The part that a field read takes: of an intersection the type, of a merge of values the content. Answers only: nothing is written, no function
-// keeps an array, and a part is cells, never a copy. Cell numbers fall from call to call.
+// keeps an array, and a part is cells, never a copy. Cell numbers fall from call to call. Kinds and marks are numbers: document 01, "dispatch on kind numbers".
 #![tactic(auto)]
 
 ghost use Rattle.cells.specs.Coded.{as_cell};
 ghost use Rattle.projection.specs.Parts.{TypeAt, Joins, FindsFieldPart, FindsSingle, ValueAt, ShowsTopLike, ValueFrom, FindsContent};
 
 use cells::{Cell, read_cell};
+use std::ops::Range;
 
 // The part of a type that has the field: none, and none is top-like; none, but some part is top-like; one, its content the type at a cell; more
-// than one.
+// than one. Four cases, so no Option.
 #[derive(Clone, Copy)]
 pub enum FieldPart {
     Absent,
@@ -18,21 +19,16 @@ pub enum FieldPart {
 }
 
 // What an intersection says, from what its halves say.
+#[tactic(auto, using(crate::proofs::Joining::left_none, crate::proofs::Joining::right_none, crate::proofs::Joining::left_top, crate::proofs::Joining::right_top, crate::proofs::Joining::two_parts))]
 fn both(x: FieldPart, y: FieldPart) -> FieldPart
     ensures { Joins x y result }
 {
-    match x {
-        FieldPart::Absent => y,
-        FieldPart::TopLike => match y {
-            FieldPart::Absent => x,
-            _ => y,
-        },
-        FieldPart::One(_) => match y {
-            FieldPart::Absent => x,
-            FieldPart::TopLike => x,
-            _ => FieldPart::More,
-        },
-        FieldPart::More => x,
+    match (x, y) {
+        (FieldPart::Absent, _) => y,
+        (_, FieldPart::Absent) => x,
+        (FieldPart::TopLike, _) => y,
+        (_, FieldPart::TopLike) => x,
+        _ => FieldPart::More,
     }
 }
 
@@ -69,21 +65,13 @@ pub fn type_part(s: &[u8], a: usize, label: u8) -> FieldPart
             i = x.a;
             x = read_cell(s, i);
             let right = single_part(y, label);
-            let FieldPart::Absent = right else {
+            if !matches!(right, FieldPart::Absent) {
                 found = both(found, right);
-                continue;
-            };
+            }
         }
     }
     let last = single_part(x, label);
     both(found, last)
-}
-
-// The cells of a content, from the first on before the second.
-#[derive(Clone, Copy)]
-pub enum Content {
-    Cells(usize, usize),
-    Nothing,
 }
 
 // Whether the type that the value at v shows is top-like.
@@ -92,8 +80,7 @@ fn shows_top_like(s: &[u8], v: usize) -> bool
     ensures { ShowsTopLike s.now v result }
 {
     let x = read_cell(s, v);
-    let kind = x.kind;
-    match kind {
+    match x.kind {
         17 => false,
         18 => true,
         21 => read_cell(s, x.c).c == 1,
@@ -102,23 +89,21 @@ fn shows_top_like(s: &[u8], v: usize) -> bool
     }
 }
 
-// The content of the first part, of the value at v whose cells begin at start, that is a record of the label and not of a top-like type.
-pub fn value_part(s: &[u8], start: usize, v: usize, label: u8) -> Content
+// The content of the first part, of the value at v whose cells begin at start, that is a record of the label and not of a top-like type: its
+// cells, or that there is none. Of a merge without or_else, whose closure would be in the cycle of calls and need clauses of its own.
+pub fn value_part(s: &[u8], start: usize, v: usize, label: u8) -> Option<Range<usize>>
     requires { ValueFrom s.now start v }
     ensures { FindsContent s.now start v label result }
 {
     let x = read_cell(s, v);
-    if x.kind == 22 {
-        let left = value_part(s, start, x.a, label);
-        let Content::Nothing = left else {
-            return left;
-        };
-        return value_part(s, x.a + 1, x.b, label);
-    }
-    if x.kind == 24 && x.label == label {
-        if !shows_top_like(s, x.a) {
-            return Content::Cells(start, v);
+    match x.kind {
+        22 => {
+            if let Some(cells) = value_part(s, start, x.a, label) {
+                return Some(cells);
+            }
+            value_part(s, x.a + 1, x.b, label)
         }
+        24 if x.label == label && !shows_top_like(s, x.a) => Some(start..v),
+        _ => None,
     }
-    Content::Nothing
 }

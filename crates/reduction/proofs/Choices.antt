@@ -16,7 +16,7 @@ use Rattle.format.proofs.Numbers.{unsigned_signed}
 use Rattle.emission.specs.Emits.{Space, Finishes}
 use Rattle.emission.specs.Runs.{RunsTerm}
 use Rattle.emission.specs.Copies.{EmitsEnd}
-use Rattle.emission.specs.declared.Emitted.{Emitted}
+use Rattle.std.specs.Prelude.{Option}
 use Rattle.emission.proofs.Chain.{Each, Chain}
 use Rattle.emission.proofs.Compose.{emits_leaf}
 use Rattle.emission.proofs.Copies.{run_emits}
@@ -31,17 +31,17 @@ use Rattle.reduction.proofs.Instances.{anno_chain}
 abbrev pub Terms : List ℕ → ℕ → Type 0
 Terms s i = (e : Term) × RunsTerm s i e
 
-pub annotated : {s d o : List ℕ} {i m : ℕ} {r : Emitted} → Each {W = Terms s i} (λ w. from_term (anno w.0 int)) d o m r → EmitsAnnotated s d o i m r
+pub annotated : {s d o : List ℕ} {i m : ℕ} {r : Option ℕ} → Each {W = Terms s i} (λ w. from_term (anno w.0 int)) d o m r → EmitsAnnotated s d o i m r
 annotated q = record { says = λ e h. q (e, h) }
 
 module _ {s d : List ℕ} {i m : ℕ} (o : AnnotateReady s d i m) where
   abbrev pub annotated_chain : Chain (Terms s i) (λ w. from_term (anno w.0 int)) d m
   annotated_chain = anno_chain (λ w. w.0) (λ w. int) o.space (o.term, o.holds)
 
-  pub term_each : {f : List ℕ} {r : Emitted} → EmitsEnd s d f i m r → Each annotated_chain.a.tree d f m r
+  pub term_each : {f : List ℕ} {r : Option ℕ} → EmitsEnd s d f i m r → Each annotated_chain.a.tree d f m r
   term_each q w = run_emits w.1.run q
 
-  pub int_each : {f g : List ℕ} {x : ℕ} {r : Emitted} → Space f x → Finishes f g x (record { kind = 1; label = 0; a = 0; b = 0; c = 0 }) r
+  pub int_each : {f g : List ℕ} {x : ℕ} {r : Option ℕ} → Space f x → Finishes f g x (record { kind = 1; label = 0; a = 0; b = 0; c = 0 }) r
       → Each annotated_chain.b.tree f g x r
   unfolding from_type
   int_each h q w = emits_leaf h.used q
@@ -73,7 +73,7 @@ module _ {s d : List ℕ} {i m : ℕ} (o : ContractAt s d i m 27) where
       unfolding number_of
       tells w = rw (q.says w.tested w.reduct (rw c w.holds_tested) w.casts) (zero_stored q.fits)
 
-      pub zero_emits : {e : List ℕ} {r : Emitted} → n ≡ 0 → EmitsAnnotated s d e t.b m r → EmitsContractum s d e i m r
+      pub zero_emits : {e : List ℕ} {r : Option ℕ} → n ≡ 0 → EmitsAnnotated s d e t.b m r → EmitsContractum s d e i m r
       zero_emits z h =
           record {
             says = λ u e g x k.
@@ -84,7 +84,7 @@ module _ {s d : List ℕ} {i m : ℕ} (o : ContractAt s d i m 27) where
                 ];
           }
 
-      pub other_emits : {e : List ℕ} {r : Emitted} → (n ≡ 0 → ⊥) → EmitsAnnotated s d e t.c m r → EmitsContractum s d e i m r
+      pub other_emits : {e : List ℕ} {r : Option ℕ} → (n ≡ 0 → ⊥) → EmitsAnnotated s d e t.c m r → EmitsContractum s d e i m r
       other_emits z h =
           record {
             says = λ u e g x k.

@@ -6,23 +6,22 @@ use mathlib.Core.Path.{◌≡◌, refl}
 use mathlib.Core.List.{List}
 use lib.ListN.{length}
 use Rattle.calculus.specs.Syntax.{Ty, Term, unit, anno, fix, substitute}
-use Rattle.format.specs.declared.Version.TheVariants.{Two}
 use Rattle.format.specs.Cell.{Cell, cell_at}
 use Rattle.format.specs.Tree.{raw, node}
 use Rattle.format.specs.Terms.{from_type, from_term_in, from_term}
-use Rattle.format.proofs.Trees.{term_positive}
 use Rattle.cells.proofs.Held.{held_within, unit_at}
 use Rattle.emission.specs.Emits.{Space, Emits}
 use Rattle.emission.specs.Copies.{StartReady, StartsAt, EmitsEnd}
-use Rattle.emission.specs.declared.Emitted.{Emitted}
+use Rattle.std.specs.Prelude.{Option}
 use Rattle.emission.proofs.Chain.{of_none, of_type, of_term, Each, Chain}
 use Rattle.emission.proofs.Copies.{start_ready, start_is, run_emits}
 use Rattle.emission.specs.Runs.{RunsType, RunsTerm}
-use Rattle.emission.proofs.Runs.{counts, holds_term}
+use Rattle.emission.proofs.Runs.{holds_term}
 use Rattle.emission.proofs.RunParts.{fix_at}
 use Rattle.typed_reduction.specs.Casting.{CastReady, EmitsCast}
-use Rattle.reduction.specs.Steps.{Substitutes, casts, stands, SubstituteReady, EmitsSubstituted, InstanceReady, EmitsInstance, ContractReady, ContractAt, EmitsContractum}
+use Rattle.reduction.specs.Steps.{Substitutes, casts, stands, EmitsSubstituted, InstanceReady, EmitsInstance, ContractReady, ContractAt, EmitsContractum}
 use Rattle.reduction.specs.declared.Source.{Source}
+use Rattle.reduction.specs.declared.Source.TheVariants.{Reading, Standing}
 use Rattle.reduction.proofs.Nexts.{fix_instance, anno_redex, Arguments, app_redex, fix_redex, last_kind, unit_applies, Applied, applied}
 
 -- ---- a term, annotated
@@ -38,19 +37,11 @@ anno_chain e A h own =
 
 -- ---- `emit_instance`
 
--- for another name of the source
-module _ {s d : List ℕ} {i k m : ℕ} {p q : Source} (e : q ≡ p) where
-  pub renamed_ready : SubstituteReady s d i k m p → SubstituteReady s d i k m q
-  renamed_ready = rw e λ r. r
-
-  pub renamed_emits : {f : List ℕ} {r : Emitted} → EmitsSubstituted s d f i k m q r → EmitsSubstituted s d f i k m p r
-  renamed_emits = rw e λ w. w
-
 -- all that the cells i and a may be said to hold, and what is substituted
 abbrev pub Instances : List ℕ → ℕ → ℕ → Source → Type 0
 Instances s i a p = (e : Term) × (x : Term) × (A : Ty) × RunsTerm s i e × Substitutes s p x × RunsType s a A
 
-pub instance : {s d o : List ℕ} {i a m : ℕ} {p : Source} {r : Emitted}
+pub instance : {s d o : List ℕ} {i a m : ℕ} {p : Source} {r : Option ℕ}
     → Each {W = Instances s i a p} (λ w. from_term (anno (substitute 0 w.1 w.0) w.2)) d o m r → EmitsInstance s d o i a m p r
 instance q = record { says = λ e x A h v k. q (e, x, A, h, v, k) }
 
@@ -61,10 +52,10 @@ module _ {s d : List ℕ} {i a m : ℕ} {p : Source} (o : InstanceReady s d i a 
       anno_chain (λ w. substitute 0 w.1 w.0) (λ w. w.2) b.source.space
       (b.body, b.source.substituted, o.type, b.holds, b.source.substitutes, o.holds)
 
-  pub body_each : {f : List ℕ} {r : Emitted} → EmitsSubstituted s d f i 0 m p r → Each instance_chain.a.tree d f m r
+  pub body_each : {f : List ℕ} {r : Option ℕ} → EmitsSubstituted s d f i 0 m p r → Each instance_chain.a.tree d f m r
   body_each q w = q.says w.0 w.1 w.3 w.4
 
-  pub type_each : {f g : List ℕ} {x : ℕ} {r : Emitted} → EmitsEnd s f g a x r → Each instance_chain.b.tree f g x r
+  pub type_each : {f g : List ℕ} {x : ℕ} {r : Option ℕ} → EmitsEnd s f g a x r → Each instance_chain.b.tree f g x r
   type_each q w = run_emits w.5.run q
 
 -- ---- a fixpoint: t is the cell as it was read
@@ -78,14 +69,11 @@ module _ {s d : List ℕ} {i m : ℕ} (o : ContractAt s d i m 23) where
 
   -- it begins at b
   module _ {b : ℕ} (n : StartsAt s i b) where
-    itself : {e : Term} → RunsTerm s i e → Substitutes s (record { reduct = 0; term = i; under = b }) e
-    itself h = stands refl (rw (start_is h.run n) h.run)
-
-    starts_low : b < 8192
-    starts_low = omega (arith, start_is own_fix.run n, counts own_fix.run, term_positive Two o.ready.term, o.ready.low)
+    itself : {e : Term} → RunsTerm s i e → Substitutes s (Standing b i) e
+    itself h = stands (rw (start_is h.run n) h.run)
 
     module _ {t : Cell} (c : t ≡ cell_at s i) where
-      pub fix_ready : InstanceReady s d t.a t.b m (record { reduct = 0; term = i; under = b })
+      pub fix_ready : InstanceReady s d t.a t.b m (Standing b i)
       fix_ready =
           let r = o.ready in
           let w = fix_at own_fix o.kind in
@@ -96,12 +84,11 @@ module _ {s d : List ℕ} {i m : ℕ} (o : ContractAt s d i m 23) where
               body = w.term;
               holds = rw c w.holds_term;
             };
-            low = record { reduct = omega arith; term = r.low; under = starts_low };
             type = w.type;
             holds = rw c w.holds_type;
           }
 
-      pub fix_emits : {e : List ℕ} {r : Emitted} → EmitsInstance s d e t.a t.b m (record { reduct = 0; term = i; under = b }) r → EmitsContractum s d e i m r
+      pub fix_emits : {e : List ℕ} {r : Option ℕ} → EmitsInstance s d e t.a t.b m (Standing b i) r → EmitsContractum s d e i m r
       fix_emits q =
           record {
             says = λ u e g x k.
@@ -122,7 +109,7 @@ pub record Applying (s d : List ℕ) (i m : ℕ) (t u : Cell) : Type 0 where
   pub left : u ≡ cell_at s t.a
 
 module _ {s d : List ℕ} {i m : ℕ} {t u : Cell} (j : Applying s d i m t u) where
-  pub unit_applied : {e : List ℕ} {r : Emitted} → u.kind ≡ 18 → Emits d e m r (from_term unit) → EmitsContractum s d e i m r
+  pub unit_applied : {e : List ℕ} {r : Option ℕ} → u.kind ≡ 18 → Emits d e m r (from_term unit) → EmitsContractum s d e i m r
   unit_applied k f =
       record {
         says = λ b e g x n.
@@ -138,26 +125,24 @@ module _ {s d : List ℕ} {i m : ℕ} {t u : Cell} (j : Applying s d i m t u) wh
     argument : {g : Term} (w : Arguments s i g) → RunsTerm s t.b w.second
     argument w = rw j.cell w.holds_second
 
-    pub function_ready : InstanceReady s d u.a u.c m (record { reduct = 1; term = t.b; under = u.b })
+    pub function_ready : InstanceReady s d u.a u.c m (Reading t.b u.b)
     function_ready =
         let r = j.at.ready in
         let own = app_redex r.half r.redex r.steps j.at.kind in
         let f = function own in
         let l : t.a < i = rw j.cell own.lower in
-        let n : t.b < i = rw j.cell own.second_lower in
         record {
           body = record {
-            source = record { space = r.space; substituted = f.reduct; substitutes = casts refl (argument own) f.holds_input f.casts };
+            source = record { space = r.space; substituted = f.reduct; substitutes = casts (argument own) f.holds_input f.casts };
             small = omega (arith, f.lower, l, r.low);
             body = f.body;
             holds = f.holds_body;
           };
-          low = record { reduct = omega arith; term = omega (arith, n, r.low); under = omega (arith, f.input_lower, l, r.low) };
           type = f.output;
           holds = f.holds_output;
         }
 
-    pub function_emits : {e : List ℕ} {r : Emitted} → EmitsInstance s d e u.a u.c m (record { reduct = 1; term = t.b; under = u.b }) r
+    pub function_emits : {e : List ℕ} {r : Option ℕ} → EmitsInstance s d e u.a u.c m (Reading t.b u.b) r
         → EmitsContractum s d e i m r
     function_emits q =
         record {
@@ -166,7 +151,7 @@ module _ {s d : List ℕ} {i m : ℕ} {t u : Cell} (j : Applying s d i m t u) wh
               let f = function w in
               rw f.is
               (q.says f.body f.reduct f.output f.holds_body
-              (casts refl (argument w) f.holds_input f.casts)
+              (casts (argument w) f.holds_input f.casts)
               f.holds_output);
         }
 
@@ -183,7 +168,7 @@ module _ {s d : List ℕ} {i m : ℕ} {t : Cell} (c : t ≡ cell_at s i) (r : Co
         casts = w.casts;
       }
 
-  pub read_emits : {e : List ℕ} {l : Emitted} → t.kind ≡ 19 → EmitsCast s d e t.a t.b m l → EmitsContractum s d e i m l
+  pub read_emits : {e : List ℕ} {l : Option ℕ} → t.kind ≡ 19 → EmitsCast s d e t.a t.b m l → EmitsContractum s d e i m l
   read_emits k q =
       record {
         says = λ b e g x n.

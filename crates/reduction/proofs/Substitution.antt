@@ -1,10 +1,11 @@
 -- A body with a source substituted, by the cell of the body and the row of its kind: what each call needs, and what it leaves. Over kind and
 -- field; `substitute_law` has one line a kind. Assumes nothing.
-use Prim.Native.Nat.{ℕ, zero, suc, ◌+◌, ◌*◌, ◌≤◌, ◌<◌}
+use Prim.Native.Nat.{ℕ, ◌+◌, ◌*◌, ◌≤◌, ◌<◌}
 use native.Mathlib.Omega.{arith}
 use mathlib.Core.Path.{◌≡◌, refl, sym, ap, ◌∙◌}
 use mathlib.Core.Bool.{true}
-use mathlib.Core.Option.{Option, none, some}
+use mathlib.Core.Logic.{◌⊎◌, inl, inr}
+use mathlib.Core.Option.{Option as Maybe, none, some}
 use mathlib.Core.List.{List}
 use borrow.Author.Tests.{eq-eqb, ne_eqb}
 use Rattle.calculus.specs.Syntax.{Ty, Term, var, lit, unit, anno, app, lam, merge, fix, rcd, proj, sum, choice, substitute}
@@ -18,21 +19,21 @@ use Rattle.format.proofs.Tests.{Decodes}
 use Rattle.format.proofs.Trees.{type_positive, term_positive, term_back}
 use Rattle.cells.specs.Coded.{use_of}
 use Rattle.cells.specs.declared.Entry.{Entry}
+use Rattle.cells.specs.declared.Use as Code
+use Rattle.cells.specs.declared.Use.TheVariants.{Unused, Plain, ToType, ToTerm}
 use Rattle.cells.proofs.Held.{var_at, kind_of}
 use Rattle.cells.proofs.Back.{reference_decodes}
 use Rattle.cells.proofs.Inside.{inside_most}
-use Rattle.emission.specs.Emits.{emitted_of, EndsWithin, Space, Emits, LastReady, Finishes, RowReady}
+use Rattle.emission.specs.Emits.{Space, Emits, LastReady, Finishes, RowReady}
 use Rattle.emission.specs.Runs.{Run, r_unused, r_plain, r_refers, RunsType, RunsTerm}
 use Rattle.emission.specs.Copies.{EndReady, EmitsEnd}
-use Rattle.emission.specs.declared.Emitted.{Emitted}
-use Rattle.emission.specs.declared.Emitted.TheVariants.{Next}
+use Rattle.std.specs.Prelude.{Option, Some}
 use Rattle.emission.proofs.Compose.{Stands, s_unused, s_plain, s_refers, emits_raw, emits_leaf}
 use Rattle.emission.proofs.Chain.{Each, Chain, Third, FieldsOf, row_chain, row_ready}
 use Rattle.emission.proofs.Emitting.{fields_fit, Read, read_fits, by_row}
 use Rattle.emission.proofs.Runs.{grows, held, below, holds_term}
 use Rattle.emission.proofs.RunParts.{runs_type, runs_term}
 use Rattle.emission.proofs.Copies.{run_ready, run_emits}
-use Rattle.emission.proofs.Ends.{emitted_within, emits_within}
 use Rattle.reduction.specs.Steps.{Substitutes, SourceReady, EmitsSource, SubstitutedField, p_unused, p_plain, p_type, p_term}
 use Rattle.reduction.specs.Steps.{FieldSubstituteReady, EmitsSubstitutedField, SubstituteReady, VariableReady, EmitsSubstituted}
 use Rattle.reduction.specs.declared.Source.{Source}
@@ -46,10 +47,11 @@ substituted_stands (p_type {A = A} l h) = s_refers (type_positive A)
 substituted_stands {k = k} {x = x} (p_term {e = e} l h) = s_refers (term_positive Two (substitute k x e))
 
 -- no cell
-substitute_none : {s d : List ℕ} {i k m n : ℕ} {x : Term} {f : Tree} (u : ℕ) → u < 2 → m ≤ size_limit → SubstitutedField s i k x (use_of u) n f → Emits d d m (Next m) f
-substitute_none {d = d} {m = m} zero l b p_unused = emits_raw d m 0 b
-substitute_none {d = d} {m = m} {n = n} (suc zero) l b p_plain = emits_raw d m n b
-substitute_none (suc (suc u)) l b h = absurd (omega arith)
+unused_emits : {s d : List ℕ} {i k m n : ℕ} {x : Term} {f : Tree} → m ≤ size_limit → SubstitutedField s i k x unused n f → Emits d d m (Some m) f
+unused_emits {d = d} {m = m} b p_unused = emits_raw d m 0 b
+
+plain_emits : {s d : List ℕ} {i k m n : ℕ} {x : Term} {f : Tree} → m ≤ size_limit → SubstitutedField s i k x plain n f → Emits d d m (Some m) f
+plain_emits {d = d} {m = m} {n = n} b p_plain = emits_raw d m n b
 
 -- a type
 record TypeSubstituted (s : List ℕ) (n : ℕ) (f : Tree) : Type 0 where
@@ -57,11 +59,8 @@ record TypeSubstituted (s : List ℕ) (n : ℕ) (f : Tree) : Type 0 where
   runs : RunsType s n type
   is : f ≡ from_type type
 
-type_substituted : {s : List ℕ} {i k n : ℕ} {x : Term} {f : Tree} (u : ℕ) → u ≡ 2 → SubstitutedField s i k x (use_of u) n f → TypeSubstituted s n f
-type_substituted zero l h = absurd (omega arith)
-type_substituted (suc zero) l h = absurd (omega arith)
-type_substituted (suc (suc zero)) l (p_type {A = A} v h) = record { type = A; runs = h; is = refl }
-type_substituted (suc (suc (suc u))) l h = absurd (omega arith)
+type_substituted : {s : List ℕ} {i k n : ℕ} {x : Term} {f : Tree} → SubstitutedField s i k x (refers type_sort) n f → TypeSubstituted s n f
+type_substituted (p_type {A = A} v h) = record { type = A; runs = h; is = refl }
 
 -- a term
 record TermSubstituted (s : List ℕ) (i k n : ℕ) (x : Term) (f : Tree) : Type 0 where
@@ -70,53 +69,48 @@ record TermSubstituted (s : List ℕ) (i k n : ℕ) (x : Term) (f : Tree) : Type
   holds : RunsTerm s n term
   is : f ≡ from_term (substitute k x term)
 
-term_substituted : {s : List ℕ} {i k n : ℕ} {x : Term} {f : Tree} (u : ℕ) → 3 ≤ u → SubstitutedField s i k x (use_of u) n f → TermSubstituted s i k n x f
-term_substituted zero l h = absurd (omega arith)
-term_substituted (suc zero) l h = absurd (omega arith)
-term_substituted (suc (suc zero)) l h = absurd (omega arith)
-term_substituted (suc (suc (suc u))) l (p_term {e = e} v h) = record { term = e; lower = v; holds = h; is = refl }
+term_substituted : {s : List ℕ} {i k n : ℕ} {x : Term} {f : Tree} → SubstitutedField s i k x (refers term_sort) n f → TermSubstituted s i k n x f
+term_substituted (p_term {e = e} v h) = record { term = e; lower = v; holds = h; is = refl }
 
 -- Measures: a field that is no term costs no call.
-abbrev pub substitute_measure : ℕ → ℕ → ℕ
-substitute_measure zero n = 0
-substitute_measure (suc zero) n = 0
-substitute_measure (suc (suc zero)) n = 0
-substitute_measure (suc (suc (suc u))) n = 2 * n + 2
+abbrev pub substitute_measure : Code.Use → ℕ → ℕ
+substitute_measure Unused n = 0
+substitute_measure Plain n = 0
+substitute_measure ToType n = 0
+substitute_measure ToTerm n = 2 * n + 2
 
-substitute_less : {s : List ℕ} {i k n t : ℕ} {x : Term} {f : Tree} (u : ℕ) → SubstitutedField s i k x (use_of u) n f → 2 * i + 1 ≡ t → substitute_measure u n < t
-substitute_less zero h e = omega arith
-substitute_less (suc zero) h e = omega arith
-substitute_less (suc (suc zero)) h e = omega arith
-substitute_less (suc (suc (suc u))) (p_term l h) e = omega arith
+substitute_less : {s : List ℕ} {i k n t : ℕ} {x : Term} {f : Tree} (u : Code.Use) → SubstitutedField s i k x (use_of u) n f → 2 * i + 1 ≡ t → substitute_measure u n < t
+substitute_less Unused h e = omega arith
+substitute_less Plain h e = omega arith
+substitute_less ToType h e = omega arith
+substitute_less ToTerm (p_term l h) e = omega arith
 
-pub body_less : (u n : ℕ) {t : ℕ} → 3 ≤ u → substitute_measure u n ≡ t → 2 * n + 1 < t
-body_less zero n h e = absurd (omega arith)
-body_less (suc zero) n h e = absurd (omega arith)
-body_less (suc (suc zero)) n h e = absurd (omega arith)
-body_less (suc (suc (suc u))) n h e = omega arith
+pub body_less : {u : Code.Use} (n : ℕ) {t : ℕ} → u ≡ ToTerm → substitute_measure u n ≡ t → 2 * n + 1 < t
+body_less n l e = let f = rw l at e in omega arith
 
 -- ---- the calls of `substitute_field`
 
-module _ {s d : List ℕ} {u n k m : ℕ} {p : Source} where
-  pub nothing_emits : u < 2 → FieldSubstituteReady s d u n k m p → EmitsSubstitutedField s d d u n k m p (emitted_of m)
-  nothing_emits l r = record { says = λ i x f v h. rw (emitted_within r.source.space.used) (substitute_none u l r.source.space.used h) }
+module _ {s d : List ℕ} {u : Code.Use} {n k m : ℕ} {p : Source} where
+  pub nothing_emits : (u ≡ Unused) ⊎ (u ≡ Plain) → FieldSubstituteReady s d u n k m p → EmitsSubstitutedField s d d u n k m p (Some m)
+  nothing_emits l r = record { says = λ i x f v h. go l h }
+    where
+      go : {i : ℕ} {x : Term} {f : Tree} → (u ≡ Unused) ⊎ (u ≡ Plain) → SubstitutedField s i k x (use_of u) n f → Emits d d m (Some m) f
+      go (inl e) h = unused_emits r.source.space.used (rw e at h)
+      go (inr e) h = plain_emits r.source.space.used (rw e at h)
 
-  pub copy_ready : u ≡ 2 → FieldSubstituteReady s d u n k m p → EndReady s d n m
-  copy_ready l r = run_ready (type_substituted u l r.holds).runs.run r.source.space
+  pub copy_ready : u ≡ ToType → FieldSubstituteReady s d u n k m p → EndReady s d n m
+  copy_ready l r = run_ready (type_substituted (rw l at r.holds)).runs.run r.source.space
 
-  pub copy_within : {e : List ℕ} {r : Emitted} → u ≡ 2 → FieldSubstituteReady s d u n k m p → EmitsEnd s d e n m r → EndsWithin r
-  copy_within l h q = emits_within (run_emits (type_substituted u l h.holds).runs.run q)
+  pub copy_emits : {e : List ℕ} {r : Option ℕ} → u ≡ ToType → EmitsEnd s d e n m r → EmitsSubstitutedField s d e u n k m p r
+  copy_emits l q = record { says = λ i x f v h. let t = type_substituted (rw l at h) in rw t.is (run_emits t.runs.run q) }
 
-  pub copy_emits : {e : List ℕ} {r : Emitted} → u ≡ 2 → EmitsEnd s d e n m r → EmitsSubstitutedField s d e u n k m p r
-  copy_emits l q = record { says = λ i x f v h. let t = type_substituted u l h in rw t.is (run_emits t.runs.run q) }
-
-  pub body_ready : 3 ≤ u → FieldSubstituteReady s d u n k m p → SubstituteReady s d n k m p
+  pub body_ready : u ≡ ToTerm → FieldSubstituteReady s d u n k m p → SubstituteReady s d n k m p
   body_ready l r =
-      let t = term_substituted u l r.holds in
+      let t = term_substituted (rw l at r.holds) in
       record { source = r.source; small = omega (arith, t.lower, r.small); body = t.term; holds = t.holds }
 
-  pub body_emits : {e : List ℕ} {r : Emitted} → 3 ≤ u → EmitsSubstituted s d e n k m p r → EmitsSubstitutedField s d e u n k m p r
-  body_emits l q = record { says = λ i x f v h. let t = term_substituted u l h in rw t.is (q.says t.term x t.holds v) }
+  pub body_emits : {e : List ℕ} {r : Option ℕ} → u ≡ ToTerm → EmitsSubstituted s d e n k m p r → EmitsSubstitutedField s d e u n k m p r
+  body_emits l q = record { says = λ i x f v h. let t = term_substituted (rw l at h) in rw t.is (q.says t.term x t.holds v) }
 
 -- ---- a variable
 
@@ -140,11 +134,11 @@ module _ {s d : List ℕ} {i k m : ℕ} {p : Source} {t : Cell} (j : AtVariable 
         fits = record { a = (fields_fit s i j.bytes j.cell).0; b = omega arith; c = omega arith };
       }
 
-  pub source_substituted : {e : List ℕ} {r : Emitted} → t.a ≡ k → EmitsSource s d e m p r → EmitsSubstituted s d e i k m p r
+  pub source_substituted : {e : List ℕ} {r : Option ℕ} → t.a ≡ k → EmitsSource s d e m p r → EmitsSubstituted s d e i k m p r
   unfolding substitute
   source_substituted q w = record { says = λ e x h b. rw (variable h, eq-eqb t.a k q) (w.says x b) }
 
-  pub variable_kept : {e : List ℕ} {r : Emitted} → (t.a ≡ k → ⊥) → Finishes d e m (record { kind = 16; label = 0; a = t.a; b = 0; c = 0 }) r
+  pub variable_kept : {e : List ℕ} {r : Option ℕ} → (t.a ≡ k → ⊥) → Finishes d e m (record { kind = 16; label = 0; a = t.a; b = 0; c = 0 }) r
       → EmitsSubstituted s d e i k m p r
   unfolding substitute from_term_in
   variable_kept q w = record { says = λ e x h b. rw (variable h, ne_eqb t.a k q) (emits_leaf j.ready.ready.source.space.used w) }
@@ -159,7 +153,7 @@ substitute_tree k x (refers type_sort) f = f
 substitute_tree k x (refers term_sort) f = from_term (substitute k x (to_term f))
 
 -- the tree of the term, by its row: k binders and those of its kind are over field a
-abbrev substitute_node : ℕ → Term → Option Row → Tree → Tree
+abbrev substitute_node : ℕ → Term → Maybe Row → Tree → Tree
 substitute_node k x none f = f
 substitute_node k x (some r) (raw n) = raw n
 substitute_node k x (some r) (node kind l a b c) = node kind l (substitute_tree (inside kind k) x r.a a) (substitute_tree k x r.b b) (substitute_tree k x r.c c)
@@ -224,7 +218,7 @@ module _ {s d : List ℕ} {i k m : ℕ} {p : Source} {t : Cell} {y : Entry} {g :
 abbrev pub Bodies : List ℕ → ℕ → Source → Type 0
 Bodies s i p = (e : Term) × (x : Term) × RunsTerm s i e × Substitutes s p x
 
-pub bodies : {s d o : List ℕ} {i k m : ℕ} {p : Source} {r : Emitted} → Each {W = Bodies s i p} (λ w. from_term (substitute k w.1 w.0)) d o m r
+pub bodies : {s d o : List ℕ} {i k m : ℕ} {p : Source} {r : Option ℕ} → Each {W = Bodies s i p} (λ w. from_term (substitute k w.1 w.0)) d o m r
     → EmitsSubstituted s d o i k m p r
 bodies q = record { says = λ e x h v. q (e, x, h, v) }
 
@@ -255,7 +249,7 @@ module _ {s d : List ℕ} {i k m : ℕ} {p : Source} {t : Cell} {y : Entry} {g :
         holds = own.holds_a;
       }
 
-  pub each_a : {e : List ℕ} {r : Emitted} → EmitsSubstitutedField s d e y.a t.a g m p r → Each substitute_chain.a.tree d e m r
+  pub each_a : {e : List ℕ} {r : Option ℕ} → EmitsSubstitutedField s d e y.a t.a g m p r → Each substitute_chain.a.tree d e m r
   each_a q w = q.says i w.1 _ w.3 (fields_of j w.1 w.0 w.2).holds_a
 
   module _ {f : List ℕ} {n : ℕ} where
@@ -266,11 +260,11 @@ module _ {s d : List ℕ} {i k m : ℕ} {p : Source} {t : Cell} {y : Entry} {g :
     pub ready_b : Space f n → FieldSubstituteReady s f y.b t.b k n p
     ready_b h = record { source = source_at h; cell = i; small = omega (arith, j.ready.small); tree = own.b; holds = own.holds_b }
 
-    pub each_b : {e : List ℕ} {r : Emitted} → EmitsSubstitutedField s f e y.b t.b k n p r → Each substitute_chain.b.tree f e n r
+    pub each_b : {e : List ℕ} {r : Option ℕ} → EmitsSubstitutedField s f e y.b t.b k n p r → Each substitute_chain.b.tree f e n r
     each_b q w = q.says i w.1 _ w.3 (fields_of j w.1 w.0 w.2).holds_b
 
     pub ready_c : Space f n → FieldSubstituteReady s f y.c t.c k n p
     ready_c h = record { source = source_at h; cell = i; small = omega (arith, j.ready.small); tree = own.c; holds = own.holds_c }
 
-    pub each_c : {e : List ℕ} {r : Emitted} → EmitsSubstitutedField s f e y.c t.c k n p r → Each substitute_chain.c.tree f e n r
+    pub each_c : {e : List ℕ} {r : Option ℕ} → EmitsSubstitutedField s f e y.c t.c k n p r → Each substitute_chain.c.tree f e n r
     each_c q w = q.says i w.1 _ w.3 (fields_of j w.1 w.0 w.2).holds_c

@@ -1,5 +1,5 @@
 -- Contraction on cells: what a call needs, and what it answers and leaves. Assumes nothing.
-use Rattle.std.specs.Prelude.{ℕ, suc, ◌+◌, ◌/◌, ◌%◌, ◌≤◌, ◌<◌, ◌≡◌, true, List}
+use Rattle.std.specs.Prelude.{ℕ, suc, ◌+◌, ◌≤◌, ◌<◌, ◌≡◌, true, List, Option}
 use Rattle.std.proofs.Math.Option.{some}
 use Rattle.calculus.specs.Syntax.{Ty, int, Term, anno, app, fix, choice, substitute}
 use Rattle.calculus.specs.Decide.{is_value}
@@ -10,25 +10,16 @@ use Rattle.format.specs.Tree.{Tree, raw}
 use Rattle.format.specs.Terms.{from_type, from_term}
 use Rattle.cells.specs.Held.{IsCell}
 use Rattle.cells.specs.Coded.{use_of}
+use Rattle.cells.specs.declared.Use as Code
 use Rattle.emission.specs.Emits.{Space, Emits}
 use Rattle.emission.specs.Runs.{Run, RunsType, RunsTerm}
-use Rattle.emission.specs.declared.Emitted.{Emitted}
 use Rattle.reduction.specs.declared.Source.{Source}
-
--- A source as one number: its three numbers below 2, 8,192 and 8,192.
-pub record SourceLow (p : Source) : Type 0 where
-  pub reduct : p.reduct < 2
-  pub term : p.term < 8192
-  pub under : p.under < 8192
-
--- The source that a number stands for.
-abbrev pub source_of : ℕ → Source
-source_of q = record { reduct = q / 67108864; term = q / 8192 % 8192; under = q % 8192 }
+use Rattle.reduction.specs.declared.Source.TheVariants.{Reading, Standing}
 
 -- What is substituted for a variable: the reading of a value under a type, or a term as it stands.
-pub data Substitutes (s : List ℕ) (p : Source) (x : Term) : Type 0 where
-  casts : {v : Term} {A : Ty} → p.reduct ≡ 1 → RunsTerm s p.term v → RunsType s p.under A → cast A v ≡ some x → Substitutes s p x
-  stands : p.reduct ≡ 0 → Run true s p.under (refers term_sort) p.term (from_term x) (suc p.term) → Substitutes s p x
+pub data Substitutes (s : List ℕ) : Source → Term → Type 0 where
+  casts : {v a : ℕ} {e x : Term} {A : Ty} → RunsTerm s v e → RunsType s a A → cast A e ≡ some x → Substitutes s (Reading v a) x
+  stands : {b i : ℕ} {x : Term} → Run true s b (refers term_sort) i (from_term x) (suc i) → Substitutes s (Standing b i) x
 
 -- Something is substituted, and there is a buffer for it.
 pub record SourceReady (s d : List ℕ) (m : ℕ) (p : Source) : Type 0 where
@@ -37,7 +28,7 @@ pub record SourceReady (s d : List ℕ) (m : ℕ) (p : Source) : Type 0 where
   pub substitutes : Substitutes s p substituted
 
 -- What is substituted is emitted.
-pub record EmitsSource (s d t : List ℕ) (m : ℕ) (p : Source) (r : Emitted) : Type 0 where
+pub record EmitsSource (s d t : List ℕ) (m : ℕ) (p : Source) (r : Option ℕ) : Type 0 where
   pub says : (x : Term) → Substitutes s p x → Emits d t m r (from_term x)
 
 -- The tree of a field n of a body's cell i: a term has x substituted for the variable that skips k binders, all else is as it stands.
@@ -48,7 +39,7 @@ pub data SubstitutedField (s : List ℕ) (i k : ℕ) (x : Term) : Use → ℕ �
   p_term : {n : ℕ} {e : Term} → n < i → RunsTerm s n e → SubstitutedField s i k x (refers term_sort) n (from_term (substitute k x e))
 
 -- A field n of use u, of some cell, and what is substituted.
-pub record FieldSubstituteReady (s d : List ℕ) (u n k m : ℕ) (p : Source) : Type 0 where
+pub record FieldSubstituteReady (s d : List ℕ) (u : Code.Use) (n k m : ℕ) (p : Source) : Type 0 where
   pub source : SourceReady s d m p
   pub cell : ℕ
   pub small : k + cell ≤ 131072
@@ -56,7 +47,7 @@ pub record FieldSubstituteReady (s d : List ℕ) (u n k m : ℕ) (p : Source) : 
   pub holds : SubstitutedField s cell k source.substituted (use_of u) n tree
 
 -- The tree of the field is emitted.
-pub record EmitsSubstitutedField (s d t : List ℕ) (u n k m : ℕ) (p : Source) (r : Emitted) : Type 0 where
+pub record EmitsSubstitutedField (s d t : List ℕ) (u : Code.Use) (n k m : ℕ) (p : Source) (r : Option ℕ) : Type 0 where
   pub says : (i : ℕ) (x : Term) (f : Tree) → Substitutes s p x → SubstitutedField s i k x (use_of u) n f → Emits d t m r f
 
 -- A body at i, and what is substituted for its variable that skips k binders.
@@ -72,18 +63,17 @@ pub record VariableReady (s d : List ℕ) (i k m : ℕ) (p : Source) : Type 0 wh
   pub kind : (cell_at s i).kind ≡ 16
 
 -- The body with that substituted is emitted.
-pub record EmitsSubstituted (s d t : List ℕ) (i k m : ℕ) (p : Source) (r : Emitted) : Type 0 where
+pub record EmitsSubstituted (s d t : List ℕ) (i k m : ℕ) (p : Source) (r : Option ℕ) : Type 0 where
   pub says : (e x : Term) → RunsTerm s i e → Substitutes s p x → Emits d t m r (from_term (substitute k x e))
 
 -- A body at i, what is substituted for its variable 0, and the type at a that is to annotate it.
 pub record InstanceReady (s d : List ℕ) (i a m : ℕ) (p : Source) : Type 0 where
   pub body : SubstituteReady s d i 0 m p
-  pub low : SourceLow p
   pub type : Ty
   pub holds : RunsType s a type
 
 -- The body with that substituted, annotated, is emitted.
-pub record EmitsInstance (s d t : List ℕ) (i a m : ℕ) (p : Source) (r : Emitted) : Type 0 where
+pub record EmitsInstance (s d t : List ℕ) (i a m : ℕ) (p : Source) (r : Option ℕ) : Type 0 where
   pub says : (e x : Term) (A : Ty) → RunsTerm s i e → Substitutes s p x → RunsType s a A → Emits d t m r (from_term (anno (substitute 0 x e) A))
 
 -- A term at i that is to be annotated Int, and a buffer for it.
@@ -93,7 +83,7 @@ pub record AnnotateReady (s d : List ℕ) (i m : ℕ) : Type 0 where
   pub holds : RunsTerm s i term
 
 -- The term, annotated Int, is emitted.
-pub record EmitsAnnotated (s d t : List ℕ) (i m : ℕ) (r : Emitted) : Type 0 where
+pub record EmitsAnnotated (s d t : List ℕ) (i m : ℕ) (r : Option ℕ) : Type 0 where
   pub says : (e : Term) → RunsTerm s i e → Emits d t m r (from_term (anno e int))
 
 -- A redex at i: an annotated value, a value applied to a value, a choice by a value, each part the end of a run; or a fixpoint, the end of a run itself.
@@ -121,5 +111,5 @@ pub record ContractAt (s d : List ℕ) (i m k : ℕ) : Type 0 where
   pub kind : (cell_at s i).kind ≡ k
 
 -- The successor is emitted, to whatever range sums are held; h is half of it.
-pub record EmitsContractum (s d t : List ℕ) (i m : ℕ) (r : Emitted) : Type 0 where
+pub record EmitsContractum (s d t : List ℕ) (i m : ℕ) (r : Option ℕ) : Type 0 where
   pub says : (h : ℕ) (e f : Term) → Redex s i e → next h e ≡ some f → Emits d t m r (from_term f)

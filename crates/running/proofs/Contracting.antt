@@ -6,6 +6,7 @@ use mathlib.Core.Path.{◌≡◌, refl, sym, ap, ◌∙◌, subst, subst⁻¹}
 use mathlib.Core.Bool.{true, false}
 use mathlib.Core.List.{List, append_assoc}
 use mathlib.Core.Option.{some}
+use Rattle.std.specs.Prelude.{Option, Some, None}
 use lib.Dec.{T}
 use lib.ListN.{length, take, drop}
 use lib.Seq.{sets, sets-eq, length-take-le}
@@ -31,8 +32,6 @@ use Rattle.format.proofs.RoundTrip.{term_good}
 use Rattle.cells.proofs.Held.{kind_of_lem}
 use Rattle.emission.specs.Emits.{Emits}
 use Rattle.emission.specs.Runs.{Run}
-use Rattle.emission.specs.declared.Emitted.{Emitted}
-use Rattle.emission.specs.declared.Emitted.TheVariants as Out
 use Rattle.emission.proofs.Runs.{grows, last, ends, run_within, at_run, parts, below}
 use Rattle.emission.proofs.RunParts.{runs_type, runs_term}
 use Rattle.emission.proofs.EncodedRuns.{encoded_run}
@@ -44,15 +43,11 @@ use Rattle.reduction.proofs.Nexts.{any_range}
 use Rattle.running.specs.Waiting.{Waits, around}
 use Rattle.running.specs.Contexts.{Around, whole, frames}
 use Rattle.running.specs.Places.{RedexParts, of_anno, of_app, of_fix, of_proj, of_sum, of_choice, Standing, Runnable}
-use Rattle.running.specs.Places.{InPlaceBy, h_became, h_elsewhere, CastsInPlace, ContractingAnno}
+use Rattle.running.specs.Places.{InPlaceBy, h_became, h_elsewhere, CastsInPlace}
 use Rattle.running.specs.Places.{Becomes, ContractumAt, Installing, Installs, Emitting, ContractsTo, c_to, c_full, Contracts}
 use Rattle.running.specs.declared.Place.{Place}
 use Rattle.running.specs.declared.Focus.{Focus}
 use Rattle.running.specs.declared.Focus.TheVariants.{Ahead, Done, Redex}
-use Rattle.running.specs.declared.InPlace.{InPlace}
-use Rattle.running.specs.declared.InPlace.TheVariants.{Became, Elsewhere}
-use Rattle.running.specs.declared.Contracted.{Contracted}
-use Rattle.running.specs.declared.Contracted.TheVariants.{To, Full}
 use Rattle.running.proofs.Contexts.{Inside, next_inside, next_whole}
 use Rattle.running.proofs.Waiting.{kept_waits, waiting, waits_right}
 use Rattle.running.proofs.Entering.{Kind, k_anno, term_kind}
@@ -251,7 +246,7 @@ emit_ready {p = p} d =
     }
 
 -- the two answers of emission
-module _ {s s' w : List ℕ} {p : Place} {t : Cell} (d : Emitting s w p t) {o : Emitted}
+module _ {s s' w : List ℕ} {p : Place} {t : Cell} (d : Emitting s w p t) {o : Option ℕ}
     (x : Reduction.EmitsContractum w s s' p.root (p.start + 8191 - p.root) o) where
   abbrev m : ℕ
   m = p.start + 8191 - p.root
@@ -262,17 +257,17 @@ module _ {s s' w : List ℕ} {p : Place} {t : Cell} (d : Emitting s w p t) {o : 
   emits_after : (half : ℕ) {e g : Term} (st : Standing w (Redex p) e) (r : Runnable e) (n : next half e ≡ some g) → Emits s s' m o (from_term (within_of p st r half n).to)
   emits_after half st r n = let i = within_of p st r half n in x.says half st.focus i.to (redex_here st r) i.steps
 
-  pub contracts_full : {half : ℕ} → o ≡ Out.Full → Contracts half w w p Full
-  contracts_full {half} q = record { says = go }
+  pub contracts_full : {half : ℕ} {r : Option Focus} → o ≡ None → r ≡ None → Contracts half w w p r
+  contracts_full {half} q z = rw z (record { says = go })
     where
-      go : (e g : Term) → Standing w (Redex p) e → Runnable e → next half e ≡ some g → ContractsTo w w g Full
+      go : (e g : Term) → Standing w (Redex p) e → Runnable e → next half e ≡ some g → ContractsTo w w g None
       go e g st r n = by (dec_le (m + cells (from_term (within_of p st r half n).to)) size_limit)
         where
-          by : Dec (m + cells (from_term (within_of p st r half n).to) ≤ size_limit) → ContractsTo w w g Full
+          by : Dec (m + cells (from_term (within_of p st r half n).to) ≤ size_limit) → ContractsTo w w g None
           by (yes l) = let a = ((emits_after half st r n).fits l).0 in let z : ◌≡◌ {A = ℕ} 0 1 = cc in absurd (omega arith)
           by (no l) = c_full (omega (arith, size_after p st r half n, l)) refl refl
 
-  module _ {end : ℕ} (q : o ≡ Out.Next end) where
+  module _ {end : ℕ} (q : o ≡ Some end) where
     became_after : (half : ℕ) {e g : Term} (st : Standing w (Redex p) e) (r : Runnable e) (n : next half e ≡ some g) →
         ((end ≡ m + cells (from_term (within_of p st r half n).to)) × (end ≤ size_limit) × ContractumAt s' w p t.kind m end st.around (within_of p st r half n).to)
     became_after half st r n = by (dec_le (m + cells (from_term h)) size_limit)
@@ -316,39 +311,24 @@ module _ {s s' w : List ℕ} {p : Place} {t : Cell} (d : Emitting s w p t) {o : 
           contractum = b.2;
         })
 
-    pub contracts_next : {half : ℕ} {v : List ℕ} {y : Focus} → Installs s' w v p t.kind m end y → Contracts half w v p (To y)
+    pub contracts_next : {half : ℕ} {v : List ℕ} {y : Focus} → Installs s' w v p t.kind m end y → Contracts half w v p (Some y)
     contracts_next {half} {v} {y} z = record { says = go }
       where
-        go : (e g : Term) → Standing w (Redex p) e → Runnable e → next half e ≡ some g → ContractsTo w v g (To y)
+        go : (e g : Term) → Standing w (Redex p) e → Runnable e → next half e ≡ some g → ContractsTo w v g (Some y)
         go e g st r n =
             let b = became_after half st r n in
             c_to (omega (arith, b.0, b.1, size_after p st r half n)) refl
             (subst (Standing v y) (sym (within_of p st r half n).is) (z.says st.around (within_of p st r half n).to b.2))
 
-pub contracts_in_place : {half : ℕ} {w v : List ℕ} {p : Place} {y : Focus} → Becomes half w v p y → Contracts half w v p (To y)
+pub contracts_in_place : {half : ℕ} {w v : List ℕ} {p : Place} {y : Focus} → Becomes half w v p y → Contracts half w v p (Some y)
 contracts_in_place x = record { says = λ e g st r n. let a = x.says e g st r n in c_to (omega (arith, a.1, r.small)) refl a.0 }
 
 -- ---- an annotated value, in place or not
 
-module _ {w v : List ℕ} {p : Place} {r : InPlace} (h : CastsInPlace w v p r) where
-  pub became_is : {half : ℕ} {x : Focus} → r ≡ Became x → Contracts half w v p (To x)
+module _ {w v : List ℕ} {p : Place} {r : Option Focus} (h : CastsInPlace w v p r) where
+  pub became_is : {half : ℕ} {x : Focus} → r ≡ Some x → Contracts half w v p (Some x)
   became_is {half} {x} q = go h.says
     where
-      go : InPlaceBy w v p r → Contracts half w v p (To x)
-      go (h_became {x = y} e b) = let i : y ≡ x = cc in subst (λ (z : Focus). Contracts half w v p (To z)) i (contracts_in_place (b half))
+      go : InPlaceBy w v p r → Contracts half w v p (Some x)
+      go (h_became {x = y} e b) = let i : y ≡ x = cc in subst (λ (z : Focus). Contracts half w v p (Some z)) i (contracts_in_place (b half))
       go (h_elsewhere e b) = let z : ◌≡◌ {A = ℕ} 0 1 = cc in absurd (omega arith)
-
-  same : r ≡ Elsewhere → v ≡ w
-  same q = go h.says
-    where
-      go : InPlaceBy w v p r → v ≡ w
-      go (h_became e b) = let z : ◌≡◌ {A = ℕ} 0 1 = cc in absurd (omega arith)
-      go (h_elsewhere e b) = b
-
-  pub still_contracts : {half : ℕ} {u : List ℕ} {o : Contracted} → r ≡ Elsewhere → Contracts half v u p o → Contracts half w u p o
-  still_contracts {half} {u} {o} q c = subst (λ (z : List ℕ). Contracts half z u p o) (same q) c
-
-pub still_emitting : {s w v : List ℕ} {p : Place} {t : Cell} {r : InPlace} → ContractingAnno s w p t → CastsInPlace w v p r → r ≡ Elsewhere → Emitting s v p t
-still_emitting {s = s} {w} {v} {p} {t} a h q =
-    subst (λ (z : List ℕ). Emitting s z p t) (sym (same h q))
-    (record { contracting = a.contracting; cell = a.cell; no_read = λ k. omega (arith, k, a.kind); no_sum = λ k. omega (arith, k, a.kind) })

@@ -3,9 +3,11 @@ use Prim.Native.Nat.{ℕ, suc, ◌+◌, ◌*◌, ◌-◌, ◌≤◌, ◌<◌}
 use native.Mathlib.Omega.{arith}
 use mathlib.Core.Path.{◌≡◌, refl, sym, ap, ◌∙◌, subst}
 use mathlib.Core.Bool.{false}
+use mathlib.Core.Logic.{◌⊎◌, inl, inr}
 use mathlib.Core.List.{List, [], ◌++◌}
 use mathlib.Core.Option.{some}
-use lib.ListN.{length, take, drop, take-append-drop}
+use lib.ListN.{length, take, drop, take-append-drop, length-append, length-drop}
+use lib.Seq.{take_at, length-take-le}
 use Rattle.calculus.specs.Syntax.{Ty, Term, size}
 use Rattle.calculus.specs.Typing.{Typed}
 use Rattle.format.specs.declared.Version.TheVariants.{Two}
@@ -15,13 +17,14 @@ use Rattle.format.specs.Terms.{from_term_in, from_term}
 use Rattle.format.proofs.Trees.{term_cells, term_positive}
 use Rattle.format.proofs.Encoding.{Part, root_last}
 use Rattle.format.proofs.RoundTrip.{term_good}
+use Rattle.cells.specs.declared.Use.TheVariants.{ToTerm}
 use Rattle.cells.specs.Held.{HeldField, f_unused, f_refers}
 use Rattle.emission.specs.Runs.{Run}
 use Rattle.emission.proofs.Runs.{grows, at_run, bare}
 use Rattle.emission.proofs.EncodedRuns.{encoded_run}
 use Rattle.layout.specs.Encoding.{EncodesTree, InPlaceReady}
 use Rattle.layout.proofs.Encoded.{encode_ready}
-use Rattle.moving.specs.Moves.{PlaceReady, Places, Copies}
+use Rattle.moving.specs.Moves.{PlaceReady, Places}
 use Rattle.moving.proofs.Runs.{place_ready}
 use Rattle.moving.proofs.PlacedRuns.{run_placed}
 use Rattle.running.specs.Waiting.{w_none}
@@ -33,7 +36,6 @@ use Rattle.running.specs.declared.Place.{Place}
 use Rattle.running.specs.declared.Focus.{Focus}
 use Rattle.running.specs.declared.Focus.TheVariants.{Ahead, Done, Redex, Whole}
 use Rattle.running.proofs.Contexts.{framed}
-use Rattle.running.proofs.Waiting.{waits_right}
 use Rattle.running.proofs.Ranges.{ahead_range, done_range, redex_range}
 
 -- ---- to its place
@@ -79,13 +81,23 @@ starts_ahead {s} {w} {v} {n} {e} l h q x =
       };
     }
 
-module _ {s t w : List ℕ} {n : ℕ} (d : StepReady s w n) (c : Copies w s t (8 * n)) where
+-- The buffer t is s with the term's cells copied to it.
+module _ {s t w z : List ℕ} {n : ℕ} (d : StepReady s w n) (q : z ≡ take (8 * n) w) (y : t ≡ z ++ drop (8 * n) s) where
+  copied_long : length z ≡ 8 * n
+  copied_long = let l = d.at.encoded in ap length q ∙ length-take-le (8 * n) w (omega (arith, l.tree.small, l.tree.long))
+
+  copied : take (8 * n) t ≡ take (8 * n) w
+  copied = ap (take (8 * n)) y ∙ take_at z (drop (8 * n) s) (8 * n) copied_long ∙ q
+
   pub place_start : PlaceReady t w 0 (8192 - n) n
-  place_start = start_place d.at.encoded t (omega (arith, c.long, d.long)) d.work c.first
+  place_start =
+      let l = d.at.encoded in
+      let h : length t ≡ length s = ap length y ∙ simp (length-append, length-drop) (omega (arith, copied_long, l.tree.small, d.long)) in
+      start_place d.at.encoded t (omega (arith, h, d.long)) d.work copied
 
   module _ {v : List ℕ} (x : Places t w v 0 (8192 - n) n) where
     standing_first : {e : Term} → EncodedTerm w n e → Standing v (Ahead (first n)) e
-    standing_first l = starts_ahead l (x.kept.long ∙ d.work) c.first x
+    standing_first l = starts_ahead l (x.kept.long ∙ d.work) copied x
 
     pub ready_first : FocusReady v (Ahead (first n))
     ready_first =
@@ -93,11 +105,11 @@ module _ {s t w : List ℕ} {n : ℕ} (d : StepReady s w n) (c : Copies w s t (8
         record { term = a.term; standing = standing_first a.encoded; runnable = encoded_runnable a.encoded a.typed }
 
     pub starts : {u : List ℕ} {r : Focus} → length u ≡ length v → Settles v u (Ahead (first n)) r → Starts w u n r
-    starts k y =
+    starts k m =
         record {
           long = k ∙ x.kept.long ∙ d.work;
-          settled = y.settled;
-          says = λ e A l t. y.moves.says e (standing_first l) (encoded_runnable l t);
+          settled = m.settled;
+          says = λ e A l t. m.moves.says e (standing_first l) (encoded_runnable l t);
         }
 
 -- ---- from its place
@@ -161,48 +173,35 @@ module _ {w : List ℕ} {x : Focus} (y : FocusReady w x) where
   at : {z : Focus} → x ≡ z → Standing w z y.term
   at q = subst (λ (z : Focus). Standing w z y.term) q y.standing
 
-  pub unwinds_ahead : {p : Place} → x ≡ Ahead p → Unwinding w p.up p.root
-  unwinds_ahead q = let s = at q in unwinding s (held_ahead s.at)
+  -- a focus to come or a redex, by its last cell; a value, by the one before the gap
+  pub unwinds_ahead : {p : Place} → (x ≡ Ahead p) ⊎ (x ≡ Redex p) → Unwinding w p.up p.root
+  unwinds_ahead (inl q) = let s = at q in unwinding s (held_ahead s.at)
+  unwinds_ahead (inr q) = let s = at q in unwinding s (held_redex s.at)
 
-  pub unwinds_done : {p : Place} → x ≡ Done p → Unwinding w p.up (p.left - 1)
-  unwinds_done q = let s = at q in unwinding s (held_done s.at)
+  pub unwinds_done : {p : Place} → (x ≡ Done p) ⊎ (x ≡ Whole p) → Unwinding w p.up (p.left - 1)
+  unwinds_done (inl q) = let s = at q in unwinding s (held_done s.at)
+  unwinds_done (inr q) = let s = at q in unwinding s (held_done s.at.1)
 
-  pub unwinds_redex : {p : Place} → x ≡ Redex p → Unwinding w p.up p.root
-  unwinds_redex q = let s = at q in unwinding s (held_redex s.at)
-
-  pub done_some : {p : Place} → x ≡ Done p → 1 ≤ p.left
-  done_some q = (done_range (at q).at).some
-
-  pub whole_some : {p : Place} → x ≡ Whole p → 1 ≤ p.left
-  whole_some q = (done_range (at q).at.1).some
+  pub done_some : {p : Place} → (x ≡ Done p) ⊎ (x ≡ Whole p) → 1 ≤ p.left
+  done_some (inl q) = (done_range (at q).at).some
+  done_some (inr q) = (done_range (at q).at.1).some
 
 module _ {w v : List ℕ} {x : Focus} {r : ℕ} where
   rebuilt : {z : Focus} → x ≡ z → ((e : Term) → Standing w z e → HeldField false v 8192 (refers term_sort) r (from_term e)) → Rebuilds w v x r
   rebuilt q h = record { says = λ e s. h e (subst (λ (z : Focus). Standing w z e) q s) }
 
-  pub holds_ahead : {p : Place} → x ≡ Ahead p → Unwinds w v p.up p.root r → Rebuilds w v x r
-  holds_ahead q u = rebuilt q (λ e s. whole_tree s (held_ahead s.at) u)
+  pub holds_ahead : {p : Place} → (x ≡ Ahead p) ⊎ (x ≡ Redex p) → Unwinds w v p.up p.root r → Rebuilds w v x r
+  holds_ahead (inl q) u = rebuilt q (λ e s. whole_tree s (held_ahead s.at) u)
+  holds_ahead (inr q) u = rebuilt q (λ e s. whole_tree s (held_redex s.at) u)
 
-  pub holds_done : {p : Place} → x ≡ Done p → Unwinds w v p.up (p.left - 1) r → Rebuilds w v x r
-  holds_done q u = rebuilt q (λ e s. whole_tree s (held_done s.at) u)
-
-  pub holds_redex : {p : Place} → x ≡ Redex p → Unwinds w v p.up p.root r → Rebuilds w v x r
-  holds_redex q u = rebuilt q (λ e s. whole_tree s (held_redex s.at) u)
-
-pub holds_whole : {w : List ℕ} {x : Focus} {p : Place} → x ≡ Whole p → Rebuilds w w x (p.left - 1)
-unfolding whole
-holds_whole {w} {x} {p} q = record { says = λ e s. go (subst (λ (z : Focus). Standing w z e) q s) }
-  where
-    go : {e : Term} → Standing w (Whole p) e → HeldField false w 8192 (refers term_sort) (p.left - 1) (from_term e)
-    go {e} s =
-        let d = s.at.1 in
-        let f : e ≡ s.focus = s.is ∙ ap (λ (K : List Around). whole K s.focus) s.at.0 in
-        subst (λ (g : Term). HeldField false w 8192 (refers term_sort) (p.left - 1) (from_term g)) (sym f) (bare (omega (arith, d.apart, waits_right d.waits)) d.run)
+  pub holds_done : {p : Place} → (x ≡ Done p) ⊎ (x ≡ Whole p) → Unwinds w v p.up (p.left - 1) r → Rebuilds w v x r
+  holds_done (inl q) u = rebuilt q (λ e s. whole_tree s (held_done s.at) u)
+  holds_done (inr q) u = rebuilt q (λ e s. whole_tree s (held_done s.at.1) u)
 
 -- ---- encoded
 
 module _ {s w v : List ℕ} {x : Focus} {r : ℕ} (l : WholeReady s w x) (h : Rebuilds w v x r) (k : length v ≡ length w) where
-  pub in_place_ready : InPlaceReady s v 3 r
+  pub in_place_ready : InPlaceReady s v ToTerm r
   in_place_ready =
       let y = l.ready in
       record {
@@ -210,7 +209,7 @@ module _ {s w v : List ℕ} {x : Focus} {r : ℕ} (l : WholeReady s w x) (h : Re
         ready = encode_ready l.long (h.says y.term y.standing) (term_positive Two y.term) (omega (arith, term_cells Two y.term, y.runnable.small));
       }
 
-pub encodes_whole : {w v u : List ℕ} {x : Focus} {r n : ℕ} → Rebuilds w v x r → EncodesTree v u 3 r n → EncodesWhole w u x n
+pub encodes_whole : {w v u : List ℕ} {x : Focus} {r n : ℕ} → Rebuilds w v x r → EncodesTree v u ToTerm r n → EncodesWhole w u x n
 encodes_whole h d =
     record {
       says = λ e s r.

@@ -20,18 +20,13 @@ use Rattle.moving.specs.Moves.{Kept, Wrote, PlaceReady, Places}
 use Rattle.moving.proofs.Runs.{place_ready}
 use Rattle.moving.proofs.PlacedRuns.{run_placed}
 use Rattle.running.specs.Contexts.{Around, whole}
-use Rattle.running.specs.Places.{of_anno, ContractumAt, Installing, Halving, Installs}
+use Rattle.running.specs.Places.{of_anno, ContractumAt, Halving, Installs}
 use Rattle.running.specs.declared.Place.{Place}
 use Rattle.running.specs.declared.Focus.TheVariants.{Redex}
 use Rattle.running.proofs.Waiting.{kept_waits}
 use Rattle.running.proofs.Entering.{Kind, k_anno, term_kind, value_lam}
-use Rattle.running.proofs.Ranges.{stored, kind_at}
+use Rattle.running.proofs.Ranges.{stored}
 use Rattle.running.proofs.Contracting.{far, root_low}
-
--- an annotation of a function, by the cells that were read
-pub halving : {s w : List ℕ} {p : Place} {kind m end a : ℕ} {t u : Cell} → Installing s w p kind m end → t ≡ cell_at s (end - 1) → t.kind ≡ 19 → a ≡ t.a →
-    u ≡ cell_at s a → u.kind ≡ 21 → Halving s w p kind m end a
-halving i e k o g f = record { installing = i; annotated = kind_at e k; inside = o ∙ ap (λ (c : Cell). c.a) e; function = kind_at g f }
 
 -- the two halves of a term that is encoded so
 record Halves (s : List ℕ) (m end a : ℕ) (h : Term) : Type 0 where

@@ -15,7 +15,7 @@ use Rattle.moving.specs.Moves.{Wrote}
 use Rattle.running.specs.Waiting.{Waits, w_none}
 use Rattle.running.specs.Contexts.{Around, anno_of, app_left, app_right, merge_left, merge_right, rcd_of, proj_of, sum_left, sum_right, choice_of}
 use Rattle.running.specs.Contexts.{plug_term, whole, Proper, AllProper, p_more, frame, frames}
-use Rattle.running.specs.Places.{FocusIs, IsDone, of_app, of_sum, Standing, Moves, GoesOn, Waiting, WaitingOne, WaitsTwice}
+use Rattle.running.specs.Places.{FocusIs, IsDone, of_app, of_sum, Standing, Moves, GoesOn, WaitsTwice}
 use Rattle.running.specs.declared.Place.{Place}
 use Rattle.running.specs.declared.Focus.{Focus}
 use Rattle.running.specs.declared.Focus.TheVariants.{Ahead, Done, Redex, Whole}
@@ -158,7 +158,3 @@ module _ {w v : List ℕ} (p : Place) (t : Cell) (some : p.up ≡ 0 → ⊥) (ce
       go {f} k m b d (at_added {v = u}) = leaves_both p f (sum_right u) t d refl refl b cell x y of_sum
       go k m b d at_merged = absurd (m refl)
       go k m b d at_choice = absurd (is_two k)
-
--- a cell of no kind that waits twice
-pub waiting_one : {w : List ℕ} {p : Place} {t : Cell} → Waiting w p t → (WaitsTwice t.kind → ⊥) → WaitingOne w p t
-waiting_one d h = record { waiting = d; no_app = λ k. h (inl k); no_merge = λ k. h (inr (inl k)); no_sum = λ k. h (inr (inr k)) }

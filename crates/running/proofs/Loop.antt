@@ -14,14 +14,14 @@ use Rattle.format.specs.Book.{size_limit}
 use Rattle.answers.specs.Answer as Answer
 use Rattle.answers.specs.Definition.{ended, evaluate, run_from}
 use Rattle.answers.proofs.Running.{evaluate_value, evaluate_spent, evaluate_room, evaluate_step}
+use Rattle.std.specs.declared.ops.ControlFlow.{ControlFlow}
+use Rattle.std.specs.declared.ops.ControlFlow.TheVariants.{Continue, Break}
 use Rattle.answers.specs.declared.Stop.{Stop}
 use Rattle.answers.specs.declared.Stop.TheVariants.{Value, Spent, Room}
 use Rattle.running.specs.Places.{Standing, Runnable, FocusReady, Settled}
 use Rattle.running.specs.Turns.{StepReady, Starts, WholeReady, TurnReady, TurnOf, t_value, t_spent, t_room, t_next, Steps, EncodesWhole, RunOf, Runs}
 use Rattle.running.specs.declared.Focus.{Focus}
 use Rattle.running.specs.declared.State.{State}
-use Rattle.running.specs.declared.Turn.{Turn}
-use Rattle.running.specs.declared.Turn.TheVariants.{Next, Ended}
 use Rattle.running.proofs.Standing.{next_runnable}
 use Rattle.running.proofs.Sizes.{standing_size}
 use Rattle.running.proofs.Encoding.{encoded_size, encoded_runnable}
@@ -69,9 +69,9 @@ module _ {u : Version} {l : ℕ} {s₀ w₀ s w : List ℕ} {x₀ : Focus} {x : 
   going_ready =
       record { long = g.long; ready = record { term = now.term; standing = now.standing; runnable = now.runnable }; settled = g.settled; taken = g.taken }
 
-module _ {u : Version} {l : ℕ} {s₀ w₀ s w v : List ℕ} {x₀ : Focus} {x : State} {r : Turn} (g : AllGoing u l s₀ w₀ x₀ s w x) where
+module _ {u : Version} {l : ℕ} {s₀ w₀ s w v : List ℕ} {x₀ : Focus} {x : State} {r : ControlFlow Stop State} (g : AllGoing u l s₀ w₀ x₀ s w x) where
   -- a turn that goes on took one step of those left
-  going_more : {y : State} → Steps u w v x l r → r ≡ Next y → (y.steps ≡ x.steps + 1) × (x.steps < l) × Settled y.focus
+  going_more : {y : State} → Steps u w v x l r → r ≡ Continue y → (y.steps ≡ x.steps + 1) × (x.steps < l) × Settled y.focus
   going_more {y} o q = by (o.says (now g).term (now g).standing (now g).runnable)
     where
       by : TurnOf u v x l (now g).term r → (y.steps ≡ x.steps + 1) × (x.steps < l) × Settled y.focus
@@ -82,10 +82,10 @@ module _ {u : Version} {l : ℕ} {s₀ w₀ s w v : List ℕ} {x₀ : Focus} {x 
           let z : n ≡ y = cc in
           (ap (λ (n : State). n.steps) (sym z) ∙ j, b, subst (λ (n : State). Settled n.focus) z k)
 
-  pub going_less : {y : State} → Steps u w v x l r → r ≡ Next y → l - y.steps < l - x.steps
+  pub going_less : {y : State} → Steps u w v x l r → r ≡ Continue y → l - y.steps < l - x.steps
   going_less o q = let m = going_more o q in omega (arith, m.0, m.1)
 
-  pub going_next : {t : List ℕ} {y : State} → length t ≡ length s → length v ≡ length w → Steps u w v x l r → r ≡ Next y → AllGoing u l s₀ w₀ x₀ t v y
+  pub going_next : {t : List ℕ} {y : State} → length t ≡ length s → length v ≡ length w → Steps u w v x l r → r ≡ Continue y → AllGoing u l s₀ w₀ x₀ t v y
   going_next {y = y} a b o q =
       let m = going_more o q in
       record { same = a ∙ g.same; long = omega (arith, a, g.long); work = b ∙ g.work; first = g.first; settled = m.2; taken = omega (arith, m.0, m.1); says = go }
@@ -116,24 +116,24 @@ module _ {u : Version} {l : ℕ} {s₀ w₀ s w v : List ℕ} {x₀ : Focus} {x 
               }
 
   -- a turn that ends the run leaves the term where it stands
-  ending_ready : {y : Focus} {z : Stop} → Steps u w v x l r → r ≡ Ended z y → FocusReady v y
-  ending_ready {y} {z} o q = by (o.says (now g).term (now g).standing (now g).runnable)
+  ending_ready : {z : Stop} → Steps u w v x l r → r ≡ Break z → FocusReady v x.focus
+  ending_ready {z} o q = by (o.says (now g).term (now g).standing (now g).runnable)
     where
-      at : x.focus ≡ y → Standing v x.focus (now g).term → FocusReady v y
-      at e i = record { term = (now g).term; standing = subst (λ (d : Focus). Standing v d (now g).term) e i; runnable = (now g).runnable }
+      at : Standing v x.focus (now g).term → FocusReady v x.focus
+      at i = record { term = (now g).term; standing = i; runnable = (now g).runnable }
 
-      by : TurnOf u v x l (now g).term r → FocusReady v y
-      by (t_value a c i) = let e : x.focus ≡ y = cc in at e i
-      by (t_spent a b c i) = let e : x.focus ≡ y = cc in at e i
-      by (t_room a b d f c i) = let e : x.focus ≡ y = cc in at e i
+      by : TurnOf u v x l (now g).term r → FocusReady v x.focus
+      by (t_value a c i) = at i
+      by (t_spent a b c i) = at i
+      by (t_room a b d f c i) = at i
       by (t_next a b d m c j e k i) = let z : ◌≡◌ {A = ℕ} 0 1 = cc in absurd (omega arith)
 
-  pub ending_whole : {t : List ℕ} {y : Focus} {z : Stop} → length t ≡ length s → Steps u w v x l r → r ≡ Ended z y → WholeReady t v y
+  pub ending_whole : {t : List ℕ} {z : Stop} → length t ≡ length s → Steps u w v x l r → r ≡ Break z → WholeReady t v x.focus
   ending_whole a o q = record { long = omega (arith, a, g.long); ready = ending_ready o q }
 
-  pub going_ends : {y : Focus} {z : Stop} {a₁ : List ℕ} {m : ℕ} → Steps u w v x l r → r ≡ Ended z y → EncodesWhole v a₁ y m →
+  pub going_ends : {z : Stop} {a₁ : List ℕ} {m : ℕ} → Steps u w v x l r → r ≡ Break z → EncodesWhole v a₁ x.focus m →
       {a : List ℕ} {n : ℕ} → Starts a w₀ n x₀ → Runs u a a₁ n l (record { stop = z; cells = m; mark = x.mark })
-  going_ends {y} {z} {a₁} {m} o q d b = record { says = λ e A i t. go e (b.says e A i t) (encoded_runnable i t) }
+  going_ends {z} {a₁} {m} o q d b = record { says = λ e A i t. go e (b.says e A i t) (encoded_runnable i t) }
     where
       go : (e₀ : Term) → Standing w₀ x₀ e₀ → Runnable e₀ → RunOf u a₁ l e₀ (record { stop = z; cells = m; mark = x.mark })
       go e₀ i t = by (o.says p.term p.standing p.runnable)
@@ -142,9 +142,9 @@ module _ {u : Version} {l : ℕ} {s₀ w₀ s w v : List ℕ} {x₀ : Focus} {x 
           p = g.says e₀ i t
 
           done : (a : Answer.Stop) → evaluate (half_of u) size_limit (l - x.steps) x.steps x.mark p.term ≡ ended a x.steps x.mark p.term →
-              Rattle.answers.specs.Cases.stop_answer z x.mark ≡ Answer.stopped a x.steps x.mark → x.focus ≡ y → Standing v x.focus p.term →
+              Rattle.answers.specs.Cases.stop_answer z x.mark ≡ Answer.stopped a x.steps x.mark → Standing v x.focus p.term →
               RunOf u a₁ l e₀ (record { stop = z; cells = m; mark = x.mark })
-          done a b c e i =
+          done a b c i =
               record {
                 stop = a;
                 steps = x.steps;
@@ -152,25 +152,22 @@ module _ {u : Version} {l : ℕ} {s₀ w₀ s w v : List ℕ} {x₀ : Focus} {x 
                 term = p.term;
                 ends = p.left ∙ b;
                 answer = c;
-                encoded = d.says p.term (subst (λ (f : Focus). Standing v f p.term) e i) p.runnable;
+                encoded = d.says p.term i p.runnable;
               }
 
           by : TurnOf u v x l p.term r → RunOf u a₁ l e₀ (record { stop = z; cells = m; mark = x.mark })
           by (t_value a c i) =
               let b : Value x.steps ≡ z = cc in
-              let e : x.focus ≡ y = cc in
-              done Answer.value (evaluate_value (half_of u) size_limit (l - x.steps) x.steps x.mark p.term a) (rw (← b)) e i
+              done Answer.value (evaluate_value (half_of u) size_limit (l - x.steps) x.steps x.mark p.term a) (rw (← b)) i
           by (t_spent a c h i) =
               let b : Spent x.steps ≡ z = cc in
-              let e : x.focus ≡ y = cc in
               done Answer.spent
               (ap (λ (n : ℕ). evaluate (half_of u) size_limit n x.steps x.mark p.term) (omega arith) ∙ evaluate_spent (half_of u) size_limit x.steps x.mark p.term a)
-              (rw (← b)) e i
+              (rw (← b)) i
           by (t_room {f = f} a c h' f' h i) =
               let b : Room x.steps ≡ z = cc in
-              let e : x.focus ≡ y = cc in
               done Answer.room
               (ap (λ (n : ℕ). evaluate (half_of u) size_limit n x.steps x.mark p.term) (omega arith)
               ∙ evaluate_room (half_of u) size_limit (l - suc x.steps) x.steps x.mark p.term f a h' f')
-              (rw (← b)) e i
+              (rw (← b)) i
           by (t_next a c h' f' h j d k i) = let x : ◌≡◌ {A = ℕ} 0 1 = cc in absurd (omega arith)

@@ -5,7 +5,10 @@ use native.Mathlib.Omega.{arith}
 use mathlib.Core.Path.{◌≡◌, refl, sym, ap, ◌∙◌}
 use mathlib.Core.Bool.{true}
 use mathlib.Core.List.{List}
-use mathlib.Core.Option.{Option, none, some, or_else, some-injective, none-ne-some}
+use mathlib.Core.Option as maybe
+use mathlib.Core.Option.{none, some, or_else, some-injective, none-ne-some}
+use Rattle.std.specs.Prelude.{Option, Some, None}
+use Rattle.std.specs.declared.ops.Range.{Range}
 use Rattle.calculus.specs.Syntax.{Term, unit, size}
 use Rattle.calculus.specs.Decide.{FieldPart, no_part, top_part, more_parts, one_part, field_part, is_value, type_of}
 use Rattle.calculus.specs.Evaluate.{next, first_part, content, top_value, read_parts, project}
@@ -19,8 +22,6 @@ use Rattle.emission.proofs.Runs.{last, ends, whole, at_run, counts}
 use Rattle.moving.specs.Moves.{Kept, ShiftReady, Shifts}
 use Rattle.moving.proofs.Runs.{shift_ready, run_shifted}
 use Rattle.projection.specs.Parts.{IsValueFrom, ValueFrom, ContentIs, FindsContent}
-use Rattle.projection.specs.declared.Content.{Content}
-use Rattle.projection.specs.declared.Content.TheVariants.{Cells, Nothing}
 use Rattle.projection.proofs.Values.{no_cells}
 use Rattle.running.specs.Places.{Standing, done_at, OnlyBecomes, Becomes, MergeAt}
 use Rattle.running.specs.declared.Place.{Place}
@@ -36,7 +37,7 @@ unfolding project read_parts
 project_merge l k_merge = refl
 
 -- where no part has the field, there is only the top value
-no_other : (o : Option Term) (q : FieldPart) {h : Term} → o ≡ none → or_else o (top_value q) ≡ some h → unit ≡ h
+no_other : (o : maybe.Option Term) (q : FieldPart) {h : Term} → o ≡ none → or_else o (top_value q) ≡ some h → unit ≡ h
 unfolding or_else top_value
 no_other none no_part {h} e n = absurd (none-ne-some h n)
 no_other none top_part {h} e n = some-injective unit h n
@@ -45,7 +46,7 @@ no_other none (one_part C) {h} e n = absurd (none-ne-some h n)
 no_other (some x) q e n = absurd (none-ne-some x (sym e))
 
 -- where a part has it, its content
-the_part : (o : Option Term) (q : FieldPart) {x h : Term} → o ≡ some x → or_else o (top_value q) ≡ some h → x ≡ h
+the_part : (o : maybe.Option Term) (q : FieldPart) {x h : Term} → o ≡ some x → or_else o (top_value q) ≡ some h → x ≡ h
 unfolding or_else
 the_part none q {x} e n = absurd (none-ne-some x e)
 the_part (some y) q {x} {h} e n = sym (some-injective y x e) ∙ some-injective y h n
@@ -62,16 +63,18 @@ record Taken (w : List ℕ) (start v l : ℕ) (e : Term) (x end : ℕ) : Type 0 
   some : x < end
   high : end ≤ v
 
-module _ {w : List ℕ} {start v l : ℕ} {r : Content} (f : FindsContent w start v l r) {e : Term} (s : IsValueFrom w start v e) where
-  taken : {x end : ℕ} → r ≡ Cells x end → Taken w start v l e x end
-  taken {x} {end} c = go (first_part (content l) e) refl (f.says e s)
+module _ {w : List ℕ} {start v l : ℕ} {r : Option (Range ℕ)} (f : FindsContent w start v l r) {e : Term} (s : IsValueFrom w start v e) where
+  taken : {g : Range ℕ} → r ≡ Some g → Taken w start v l e g.start g.end
+  taken {g} c = go (first_part (content l) e) refl (f.says e s)
     where
-      go : (o : Option Term) → first_part (content l) e ≡ o → ContentIs w start v r o → Taken w start v l e x end
+      go : (o : maybe.Option Term) → first_part (content l) e ≡ o → ContentIs w start v r o → Taken w start v l e g.start g.end
       go none i h = absurd (no_cells c h)
       go (some y) i h =
-          let z : Cells h.0 (suc h.1) ≡ Cells x end = sym h.2 ∙ c in
-          let a : h.0 ≡ x = cc in
-          let b : suc h.1 ≡ end = cc in
+          let cells : Range ℕ = record { start = h.0; end = suc h.1 } in
+          let both : Some cells ≡ Some g = sym h.2 ∙ c in
+          let z : cells ≡ g = cc in
+          let a : h.0 ≡ g.start = ap (λ (r : Range ℕ). r.start) z in
+          let b : suc h.1 ≡ g.end = ap (λ (r : Range ℕ). r.end) z in
           let run = h.5.run in
           record {
             part = y;
@@ -83,10 +86,10 @@ module _ {w : List ℕ} {start v l : ℕ} {r : Content} (f : FindsContent w star
             high = omega (arith, b, h.4);
           }
 
-  none_taken : r ≡ Nothing → first_part (content l) e ≡ none
+  none_taken : r ≡ None → first_part (content l) e ≡ none
   none_taken c = go (first_part (content l) e) (f.says e s)
     where
-      go : (o : Option Term) → ContentIs w start v r o → o ≡ none
+      go : (o : maybe.Option Term) → ContentIs w start v r o → o ≡ none
       go none h = refl
       go (some y) h = absurd (no_cells h.2 c)
 
@@ -113,12 +116,12 @@ module _ {w : List ℕ} (p : Place) (t : Cell) (d : MergeAt w p t) where
       let q = field_read p t d.at s in
       sym (project_merge t.label (term_kind q.value q.run d.merged)) ∙ project_is p t d.at half s n
 
-  module _ {r : Content} (f : FindsContent w p.start t.a t.label r) where
-    pub none_only : (half : ℕ) → r ≡ Nothing → OnlyBecomes half w p unit
+  module _ {r : Option (Range ℕ)} (f : FindsContent w p.start t.a t.label r) where
+    pub none_only : (half : ℕ) → r ≡ None → OnlyBecomes half w p unit
     none_only half c = λ e s _ h n. no_other _ _ (none_taken f (value_from s) c) (parts_are half s n)
 
-    module _ {x end : ℕ} (c : r ≡ Cells x end) where
-      pub part_range : PartRange p x end
+    module _ {g : Range ℕ} (c : r ≡ Some g) where
+      pub part_range : PartRange p g.start g.end
       part_range =
           let s = d.at.ready.standing in
           let r = redex_range s.at in
@@ -126,13 +129,13 @@ module _ {w : List ℕ} (p : Place) (t : Cell) (d : MergeAt w p t) where
           let e = ends (field_read p t d.at s).run in
           record { low = z.low; some = z.some; left = omega (arith, z.high, e, r.apart, r.right); root = r.root }
 
-      pub part_shift : ShiftReady w x p.start (end - x)
+      pub part_shift : ShiftReady w g.start p.start (g.end - g.start)
       part_shift =
           let s = d.at.ready.standing in
           let r = part_range in
           shift_ready p.start s.long (omega (arith, r.some, r.left, r.root)) r.low (at_run refl refl (omega (arith, r.some)) (taken f (value_from s) c).run)
 
-      pub projects_part : {half : ℕ} {v : List ℕ} → Shifts w v x p.start (end - x) → Becomes half w v p (done_at p (p.start + (end - x)))
+      pub projects_part : {half : ℕ} {v : List ℕ} → Shifts w v g.start p.start (g.end - g.start) → Becomes half w v p (done_at p (p.start + (g.end - g.start)))
       unfolding size
       projects_part {half} {v} m = becomes p kept (omega (arith, part_range)) (λ e s _. content_done e s)
         where
@@ -141,12 +144,12 @@ module _ {w : List ℕ} (p : Place) (t : Cell) (d : MergeAt w p t) where
               let r = part_range in
               record { long = m.kept.long; below = m.kept.below; above = λ i h. m.kept.above i (omega (arith, h, r.some, r.left)) }
 
-          content_done : (e : Term) (s : Standing w (Redex p) e) (h : Term) → next half s.focus ≡ some h → Reduct v p.start (p.start + (end - x)) (size s.focus) h
+          content_done : (e : Term) (s : Standing w (Redex p) e) (h : Term) → next half s.focus ≡ some h → Reduct v p.start (p.start + (g.end - g.start)) (size s.focus) h
           content_done e s h n =
               let q = field_read p t d.at s in
               let z = taken f (value_from s) c in
               let moved = run_shifted (at_run refl refl (omega (arith, z.some)) z.run) m in
-              let a = counts z.run ∙ ap (λ (n : ℕ). x + n) (term_cells Two z.part) in
+              let a = counts z.run ∙ ap (λ (n : ℕ). g.start + n) (term_cells Two z.part) in
               let b = counts q.run ∙ ap (λ (n : ℕ). p.start + n) (term_cells Two q.value) in
               reduct_of q.is (the_part _ _ z.is (parts_are half s n))
               (record {

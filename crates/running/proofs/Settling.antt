@@ -52,11 +52,9 @@ under_ready {w = w} u q = subst (FocusReady w) q u.ready
 pub under_falls : {w v : List ℕ} {x y r : Focus} → x ≡ y → GoesOn w v y r → distance r < distance x
 under_falls {x = x} {y} {r} q g = subst (λ (z : Focus). distance r < distance z) (sym q) g.falls
 
-pub under_redex : {w₀ w : List ℕ} {x₀ x : Focus} {p : Place} → Under w₀ x₀ w x → x ≡ Redex p → Settles w₀ w x₀ x
-under_redex u q = record { settled = subst Settled (sym q) Prim.tt; moves = u.moves }
-
-pub under_whole : {w₀ w : List ℕ} {x₀ x : Focus} {p : Place} → Under w₀ x₀ w x → x ≡ Whole p → Settles w₀ w x₀ x
-under_whole u q = record { settled = subst Settled (sym q) Prim.tt; moves = u.moves }
+pub under_settled : {w₀ w : List ℕ} {x₀ x : Focus} → Under w₀ x₀ w x → ((p : Place) × (x ≡ Redex p)) ⊎ ((p : Place) × (x ≡ Whole p)) → Settles w₀ w x₀ x
+under_settled u (inl q) = record { settled = subst Settled (sym q.1) Prim.tt; moves = u.moves }
+under_settled u (inr q) = record { settled = subst Settled (sym q.1) Prim.tt; moves = u.moves }
 
 -- ---- unwinding
 

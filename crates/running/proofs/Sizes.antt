@@ -2,7 +2,7 @@
 -- places alone. Assumes nothing.
 use Prim.Native.Nat.{ℕ, suc, ◌+◌}
 use native.Mathlib.Omega.{arith}
-use mathlib.Core.Path.{◌≡◌, sym, ap, ◌∙◌, subst}
+use mathlib.Core.Path.{◌≡◌, ap, ◌∙◌}
 use mathlib.Core.List.{List}
 use Rattle.calculus.specs.Syntax.{Term, fix, size}
 use Rattle.format.specs.declared.Version.TheVariants.{Two}
@@ -27,14 +27,6 @@ gap_at w (Whole p) K f d = let r = done_range d.1 in record { apart = r.apart; r
 
 pub gap_within : {w : List ℕ} {x : Focus} → FocusReady w x → GapWithin (focus_place x)
 gap_within {w} {x} h = let s = h.standing in gap_at w x s.around s.focus s.at
-
--- the same by the case of the focus
-module _ (k : Place → Focus) (same : (p : Place) → focus_place (k p) ≡ p) {x : Focus} {p : Place} (e : x ≡ k p) where
-  pub gap_of : GapWithin (focus_place x) → GapWithin p
-  gap_of h = subst GapWithin (ap focus_place e ∙ same p) h
-
-  pub count_of : {n : ℕ} → n ≡ standing_cells_lem p → n ≡ standing_cells_lem (focus_place x)
-  count_of q = q ∙ ap standing_cells_lem (sym (ap focus_place e ∙ same p))
 
 both_cells : {w : List ℕ} {p : Place} {k : ℕ} {v u : Term} → BothDone w p k v u → suc (size v + size u) + p.start + p.right ≡ p.left + suc p.root
 both_cells {v = v} {u} d = omega (arith, counts d.first, counts d.second, d.nothing, term_cells Two v, term_cells Two u)

@@ -1,6 +1,6 @@
 -- Where a run has its place: the term in the work buffer, seen from the focus. Left of the gap lie values, right of it what is to come; each
 -- cell of the term stands once. Assumes nothing.
-use Rattle.std.specs.Prelude.{ℕ, suc, ◌+◌, ◌*◌, ◌-◌, ◌≤◌, ◌<◌, ◌≡◌, true, false, cond, ◌⊎◌, List, [], eqb, length}
+use Rattle.std.specs.Prelude.{ℕ, suc, ◌+◌, ◌*◌, ◌-◌, ◌≤◌, ◌<◌, ◌≡◌, true, false, cond, ◌⊎◌, List, [], eqb, length, Option, Some, None}
 use Rattle.std.proofs.Math.Option.{some}
 use Rattle.calculus.specs.Syntax.{Ty, Term, lit, unit, anno, app, fix, proj, sum, choice, size}
 use Rattle.calculus.specs.Typing.{Typed}
@@ -20,10 +20,6 @@ use Rattle.running.specs.Contexts.{Around, whole, AllProper, frames}
 use Rattle.running.specs.declared.Place.{Place}
 use Rattle.running.specs.declared.Focus.{Focus}
 use Rattle.running.specs.declared.Focus.TheVariants.{Ahead, Done, Redex, Whole}
-use Rattle.running.specs.declared.InPlace.{InPlace}
-use Rattle.running.specs.declared.InPlace.TheVariants.{Became, Elsewhere}
-use Rattle.running.specs.declared.Contracted.{Contracted}
-use Rattle.running.specs.declared.Contracted.TheVariants.{To, Full}
 
 -- The focus f is to come, within K.
 pub record IsAhead (w : List ℕ) (p : Place) (K : List Around) (f : Term) : Type 0 where
@@ -280,12 +276,12 @@ pub record FunctionAt (w : List ℕ) (p : Place) (t v y : Cell) : Type 0 where
   pub proper : y.c ≡ 1 → ⊥
 
 -- It has become what it becomes in place, to whatever range sums are held, or nothing has changed.
-pub data InPlaceBy (w v : List ℕ) (p : Place) (r : InPlace) : Type 0 where
-  h_became : {x : Focus} → r ≡ Became x → BecomesAny w v p x → InPlaceBy w v p r
-  h_elsewhere : r ≡ Elsewhere → v ≡ w → InPlaceBy w v p r
+pub data InPlaceBy (w v : List ℕ) (p : Place) (r : Option Focus) : Type 0 where
+  h_became : {x : Focus} → r ≡ Some x → BecomesAny w v p x → InPlaceBy w v p r
+  h_elsewhere : r ≡ None → v ≡ w → InPlaceBy w v p r
 
 -- What casting an annotated value in place gives.
-pub record CastsInPlace (w v : List ℕ) (p : Place) (r : InPlace) : Type 0 where
+pub record CastsInPlace (w v : List ℕ) (p : Place) (r : Option Focus) : Type 0 where
   pub says : InPlaceBy w v p r
 
 -- What a redex became is encoded from cell m of s on, before end, all its numbers fitting: a value if the redex was an annotation.
@@ -336,16 +332,16 @@ pub record Emitting (s w : List ℕ) (p : Place) (t : Cell) : Type 0 where
   pub no_sum : t.kind ≡ 26 → ⊥
 
 -- The successor g of the whole term has its place, or there is no room for it, and the work buffer is as it was.
-pub data ContractsTo (w v : List ℕ) (g : Term) (r : Contracted) : Type 0 where
-  c_to : {x : Focus} → size g ≤ size_limit → r ≡ To x → Standing v x g → ContractsTo w v g r
-  c_full : size_limit < size g → r ≡ Full → v ≡ w → ContractsTo w v g r
+pub data ContractsTo (w v : List ℕ) (g : Term) (r : Option Focus) : Type 0 where
+  c_to : {x : Focus} → size g ≤ size_limit → r ≡ Some x → Standing v x g → ContractsTo w v g r
+  c_full : size_limit < size g → r ≡ None → v ≡ w → ContractsTo w v g r
 
 -- The redex is contracted.
-pub record Contracts (h : ℕ) (w v : List ℕ) (p : Place) (r : Contracted) : Type 0 where
+pub record Contracts (h : ℕ) (w v : List ℕ) (p : Place) (r : Option Focus) : Type 0 where
   pub says : (e g : Term) → Standing w (Redex p) e → Runnable e → next h e ≡ some g → ContractsTo w v g r
 
 -- The same, to whatever range sums are held.
-abbrev pub ContractsAny : List ℕ → List ℕ → Place → Contracted → Type 0
+abbrev pub ContractsAny : List ℕ → List ℕ → Place → Option Focus → Type 0
 ContractsAny w v p r = (h : ℕ) → Contracts h w v p r
 
 -- The cell up waits for a tree that is held at child.

@@ -1,5 +1,7 @@
 -- The turns of a run over the lent buffer: what a step needs, and what it answers and leaves. Assumes nothing.
 use Rattle.std.specs.Prelude.{ℕ, ◌+◌, ◌≤◌, ◌<◌, max, ◌≡◌, true, false, List, [], ltb, length}
+use Rattle.std.specs.declared.ops.ControlFlow.{ControlFlow}
+use Rattle.std.specs.declared.ops.ControlFlow.TheVariants.{Continue, Break}
 use Rattle.std.proofs.Math.Option.{some}
 use Rattle.calculus.specs.Syntax.{Ty, Term, size}
 use Rattle.calculus.specs.Typing.{Typed}
@@ -14,12 +16,11 @@ use Rattle.answers.specs.Answer.{stopped}
 use Rattle.answers.specs.Definition.{ended, run_from}
 use Rattle.layout.specs.Encoding.{EncodedTree}
 use Rattle.answers.specs.Cases.{stop_answer}
+use Rattle.answers.specs.declared.Stop.{Stop}
 use Rattle.answers.specs.declared.Stop.TheVariants.{Value, Spent, Room}
 use Rattle.running.specs.Places.{Standing, Runnable, FocusReady, Settled}
 use Rattle.running.specs.declared.Focus.{Focus}
 use Rattle.running.specs.declared.State.{State}
-use Rattle.running.specs.declared.Turn.{Turn}
-use Rattle.running.specs.declared.Turn.TheVariants.{Next, Ended}
 use Rattle.running.specs.declared.End.{End}
 
 -- The term is encoded in the first n cells of the work buffer, as a tree of its own.
@@ -56,17 +57,17 @@ pub record TurnReady (s w : List ℕ) (x : State) (l : ℕ) : Type 0 where
 -- One turn of e, which stands at the focus of the state x, with the limit l: r is the answer, and v the work buffer then; u is the version of the book, by
 -- which sums are held, here and below. "value when the term is one; else spent when exactly the limit has been taken; else no room when the
 -- successor's size exceeds 4,095"
-pub data TurnOf (u : Version) (v : List ℕ) (x : State) (l : ℕ) (e : Term) (r : Turn) : Type 0 where
-  t_value : is_value e ≡ true → r ≡ Ended (Value x.steps) x.focus → Standing v x.focus e → TurnOf u v x l e r
-  t_spent : is_value e ≡ false → x.steps ≡ l → r ≡ Ended (Spent x.steps) x.focus → Standing v x.focus e → TurnOf u v x l e r
+pub data TurnOf (u : Version) (v : List ℕ) (x : State) (l : ℕ) (e : Term) (r : ControlFlow Stop State) : Type 0 where
+  t_value : is_value e ≡ true → r ≡ Break (Value x.steps) → Standing v x.focus e → TurnOf u v x l e r
+  t_spent : is_value e ≡ false → x.steps ≡ l → r ≡ Break (Spent x.steps) → Standing v x.focus e → TurnOf u v x l e r
   t_room : {f : Term} → is_value e ≡ false → x.steps < l → next (half_of u) e ≡ some f → ltb size_limit (size f) ≡ true →
-      r ≡ Ended (Room x.steps) x.focus → Standing v x.focus e → TurnOf u v x l e r
+      r ≡ Break (Room x.steps) → Standing v x.focus e → TurnOf u v x l e r
   -- document 02, (viii): "The state of a run carries the greatest size of any term so far"
-  t_next : {f : Term} {y : State} → is_value e ≡ false → x.steps < l → next (half_of u) e ≡ some f → ltb size_limit (size f) ≡ false → r ≡ Next y →
+  t_next : {f : Term} {y : State} → is_value e ≡ false → x.steps < l → next (half_of u) e ≡ some f → ltb size_limit (size f) ≡ false → r ≡ Continue y →
       y.steps ≡ x.steps + 1 → y.mark ≡ max x.mark (size f) → Settled y.focus → Standing v y.focus f → TurnOf u v x l e r
 
 -- One turn of the term that stands there.
-pub record Steps (u : Version) (w v : List ℕ) (x : State) (l : ℕ) (r : Turn) : Type 0 where
+pub record Steps (u : Version) (w v : List ℕ) (x : State) (l : ℕ) (r : ControlFlow Stop State) : Type 0 where
   pub says : (e : Term) → Standing w x.focus e → Runnable e → TurnOf u v x l e r
 
 -- A term that has its place, and a buffer to encode it in.

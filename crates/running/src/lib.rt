@@ -2,9 +2,12 @@
 // the order of encoding, and the gap between them moves through the term. A cell that waits for a part says where the cell around it
 // is, so there is no stack. A step contracts the redex alone, by way of a buffer that keeps nothing between steps. The state is small and
 // goes by value.
+// The buffers s and w go beside it, lent anew to each call: a state that held them could take no turns with another over one s. A cell t that was
+// read goes beside its place p: that it stands there is a fact of w, which no type of p and t can keep. Cells are named by their numbers in the lent
+// buffers: there is no heap. Kinds and marks are numbers: document 01, "dispatch on kind numbers".
 #![tactic(auto)]
 
-ghost use Rattle.std.specs.Prelude.{◌≡◌, ◌<◌, max};
+ghost use Rattle.std.specs.Prelude.{◌≡◌, ◌<◌};
 ghost use Rattle.format.specs.Version.{half_of};
 ghost use Rattle.cells.specs.Coded.{as_cell};
 ghost use Rattle.running.specs.Places.{Taking, third_of, Descending, Entering, Enters, Leaving, Leaves, WaitingOne, WaitingFirst, WaitingSecond, FocusReady, Settles};
@@ -15,18 +18,18 @@ ghost use Rattle.running.specs.Places.{Unwinding, Unwinds, RestoreReady, Restore
 ghost use Rattle.running.specs.Turns.{StepReady, Starts, TurnReady, Steps, WholeReady, EncodesWhole, Runs};
 
 use answers::Stop;
-use cells::{Cell, read_cell, write_cell};
-use emission::Emitted;
+use cells::{Cell, Use, read_cell, write_cell};
 use format::Version;
 use layout::encode_in_place;
-use moving::{copy, place, shift};
+use moving::{place, shift};
 use numbers::{add_held, half_of};
-use projection::{Content, value_part};
+use projection::value_part;
 use reduction::emit_contractum;
+use std::ops::ControlFlow;
 use typed_reduction::read_number;
 
 // The first left cells are done, those from right on are to come. The focus has the cells from start on among those done, and among those
-// to come the cells up to root. The cell up waits for it; 0: none does.
+// to come the cells up to root. The cell up waits for it; 0: none does, and no Option, since a cell that waits has up in a field.
 #[derive(Clone, Copy)]
 pub struct Place {
     pub left: usize,
@@ -56,12 +59,6 @@ pub struct State {
     pub mark: usize,
 }
 
-#[derive(Clone, Copy)]
-pub enum Turn {
-    Next(State),
-    Ended(Stop, Focus),
-}
-
 // How a run ended: the cells of the term reached, and the greatest size of any term.
 #[derive(Clone, Copy)]
 pub struct End {
@@ -70,18 +67,24 @@ pub struct End {
     pub mark: usize,
 }
 
-// What a redex became in place, or that it becomes nothing there.
-#[derive(Clone, Copy)]
-pub enum InPlace {
-    Became(Focus),
-    Elsewhere,
+impl Place {
+    // The cells on both sides of the gap.
+    fn cells(self) -> usize
+        requires { GapWithin self }
+        ensures { result ≡ standing_cells_lem self }
+    {
+        self.left + (8192 - self.right)
+    }
 }
 
-// What a redex became, or that there is no room for it.
-#[derive(Clone, Copy)]
-pub enum Contracted {
-    To(Focus),
-    Full,
+impl Focus {
+    fn place(self) -> Place
+        ensures { result ≡ focus_place self }
+    {
+        match self {
+            Focus::Ahead(p) | Focus::Done(p) | Focus::Redex(p) | Focus::Whole(p) => p,
+        }
+    }
 }
 
 // A focus that is to come and a value at sight: it is taken over the gap.
@@ -93,10 +96,8 @@ fn take(w: &mut [u8], p: Place) -> Focus
     shift(w, p.right, p.left, n);
     Focus::Done(Place {
         left: p.left + n,
-        start: p.start,
         right: p.root + 1,
-        root: p.root,
-        up: p.up,
+        ..p
     })
 }
 
@@ -119,19 +120,15 @@ fn descend(w: &mut [u8], p: Place, t: Cell) -> Focus
         w,
         p.root,
         Cell {
-            kind: t.kind,
-            label: t.label,
             a: p.up,
-            b: t.b,
             c: third(t),
+            ..t
         },
     );
     Focus::Ahead(Place {
-        left: p.left,
-        start: p.start,
-        right: p.right,
         root: t.a,
         up: p.root,
+        ..p
     })
 }
 
@@ -141,11 +138,8 @@ fn enter(w: &mut [u8], p: Place) -> Focus
     ensures { Enters w.old w.new p result }
 {
     let t = read_cell(w, p.root);
-    let kind = t.kind;
-    match kind {
-        17 => take(w, p),
-        18 => take(w, p),
-        21 => take(w, p),
+    match t.kind {
+        17 | 18 | 21 => take(w, p),
         23 => Focus::Redex(p),
         _ => descend(w, p, t),
     }
@@ -156,34 +150,25 @@ fn single(w: &mut [u8], p: Place, t: Cell) -> Focus
     requires { WaitingOne w.old p (as_cell t) }
     ensures { Leaves w.old w.new p result }
 {
-    let whole = Cell {
-        kind: t.kind,
-        label: t.label,
-        a: p.left - 1,
-        b: t.b,
-        c: t.c,
-    };
+    let whole = Cell { a: p.left - 1, ..t };
     if t.kind == 24 {
         write_cell(w, p.left, whole);
         return Focus::Done(Place {
             left: p.left + 1,
-            start: p.start,
             right: p.right + 1,
-            root: p.root,
             up: t.a,
+            ..p
         });
     }
     write_cell(w, p.up, whole);
     Focus::Redex(Place {
-        left: p.left,
-        start: p.start,
-        right: p.right,
         root: p.up,
         up: t.a,
+        ..p
     })
 }
 
-// The first part of the waiting cell t is a value: t waits for its second.
+// The first part of the waiting cell t is a value: t waits for its second. Then field c has the start, one higher, of others 0: a field, so no Option.
 fn second(w: &mut [u8], p: Place, t: Cell) -> Focus
     requires { WaitingFirst w.old p (as_cell t) }
     ensures { Leaves w.old w.new p result }
@@ -192,19 +177,16 @@ fn second(w: &mut [u8], p: Place, t: Cell) -> Focus
         w,
         p.up,
         Cell {
-            kind: t.kind,
-            label: t.label,
             a: p.left - 1,
             b: t.a,
             c: p.start + 1,
+            ..t
         },
     );
     Focus::Ahead(Place {
-        left: p.left,
         start: p.left,
-        right: p.right,
         root: t.b,
-        up: p.up,
+        ..p
     })
 }
 
@@ -214,11 +196,9 @@ fn both(w: &mut [u8], p: Place, t: Cell) -> Focus
     ensures { Leaves w.old w.new p result }
 {
     let whole = Cell {
-        kind: t.kind,
-        label: t.label,
-        a: t.a,
         b: p.left - 1,
         c: 0,
+        ..t
     };
     if t.kind == 22 {
         write_cell(w, p.left, whole);
@@ -226,17 +206,16 @@ fn both(w: &mut [u8], p: Place, t: Cell) -> Focus
             left: p.left + 1,
             start: t.c - 1,
             right: p.right + 1,
-            root: p.root,
             up: t.b,
+            ..p
         });
     }
     write_cell(w, p.up, whole);
     Focus::Redex(Place {
-        left: p.left,
         start: t.c - 1,
-        right: p.right,
         root: p.up,
         up: t.b,
+        ..p
     })
 }
 
@@ -249,8 +228,7 @@ fn leave(w: &mut [u8], p: Place) -> Focus
         return Focus::Whole(p);
     }
     let t = read_cell(w, p.up);
-    let kind = t.kind;
-    match kind {
+    match t.kind {
         20 | 22 | 26 => {
             if t.c == 0 {
                 second(w, p, t)
@@ -269,20 +247,11 @@ fn settle(w: &mut [u8], x: Focus) -> Focus
 {
     let mut focus = x;
     loop {
-        match focus {
-            Focus::Ahead(p) => {
-                focus = enter(w, p);
-            }
-            Focus::Done(p) => {
-                focus = leave(w, p);
-            }
-            Focus::Redex(_) => {
-                return focus;
-            }
-            Focus::Whole(_) => {
-                return focus;
-            }
-        }
+        focus = match focus {
+            Focus::Ahead(p) => enter(w, p),
+            Focus::Done(p) => leave(w, p),
+            Focus::Redex(_) | Focus::Whole(_) => return focus,
+        };
     }
 }
 
@@ -293,10 +262,8 @@ fn became(p: Place, left: usize) -> Focus
 {
     Focus::Done(Place {
         left,
-        start: p.start,
         right: p.root + 1,
-        root: p.root,
-        up: p.up,
+        ..p
     })
 }
 
@@ -353,11 +320,11 @@ fn project_merge(w: &mut [u8], p: Place, t: Cell) -> Focus
     requires { MergeAt w.old p (as_cell t) }
     ensures { BecomesAny w.old w.new p result }
 {
-    let Content::Cells(x, end) = value_part(w, p.start, t.a, t.label) else {
+    let Some(cells) = value_part(w, p.start, t.a, t.label) else {
         return become_top(w, p);
     };
-    let n = end - x;
-    shift(w, x, p.start, n);
+    let n = cells.end - cells.start;
+    shift(w, cells.start, p.start, n);
     became(p, p.start + n)
 }
 
@@ -367,13 +334,11 @@ fn project(w: &mut [u8], p: Place, t: Cell) -> Focus
     ensures { BecomesAny w.old w.new p result }
 {
     let v = read_cell(w, t.a);
-    if v.kind == 18 {
-        return became(p, p.left);
+    match v.kind {
+        18 => became(p, p.left),
+        22 => project_merge(w, p, t),
+        _ => became(p, p.left - 1),
     }
-    if v.kind == 22 {
-        return project_merge(w, p, t);
-    }
-    became(p, p.left - 1)
 }
 
 // A value under a top-like type y that is no intersection: the top value.
@@ -407,33 +372,26 @@ fn retype(w: &mut [u8], p: Place, t: Cell, v: Cell, y: Cell) -> Focus
 }
 
 // A value under a type, where its reading is short to say: the top value, a number, a function that is no part of a merge.
-fn cast_in_place(w: &mut [u8], p: Place, t: Cell) -> InPlace
+fn cast_in_place(w: &mut [u8], p: Place, t: Cell) -> Option<Focus>
     requires { RedexAt w.old p (as_cell t) 19 }
     ensures { CastsInPlace w.old w.new p result }
 {
     let y = read_cell(w, t.b);
     if y.kind == 4 {
-        return InPlace::Elsewhere;
+        return None;
     }
     if y.c == 1 {
-        return InPlace::Became(cast_top(w, p, t, y));
+        return Some(cast_top(w, p, t, y));
     }
     let v = read_cell(w, t.a);
-    if v.kind == 21 {
-        if y.kind == 3 {
-            return InPlace::Became(retype(w, p, t, v, y));
-        }
-        return InPlace::Elsewhere;
+    match (v.kind, y.kind) {
+        (21, 3) => Some(retype(w, p, t, v, y)),
+        (17, 1) => Some(became(p, p.left)),
+        _ => None,
     }
-    if v.kind == 17 {
-        if y.kind == 1 {
-            return InPlace::Became(became(p, p.left));
-        }
-    }
-    InPlace::Elsewhere
 }
 
-// What a redex became, a function at cell a of s and its annotation: the function is done, its type is to come, and the annotation is a redex.
+// m and end go side by side: emit_contractum takes the one and answers the other. What a redex became, a function at cell a of s and its annotation: the function is done, its type is to come, and the annotation is a redex.
 fn install_halves(
     s: &[u8],
     w: &mut [u8],
@@ -463,13 +421,7 @@ fn install_halves(
             c: 0,
         },
     );
-    Focus::Redex(Place {
-        left,
-        start: p.start,
-        right,
-        root: p.root,
-        up: p.up,
-    })
+    Focus::Redex(Place { left, right, ..p })
 }
 
 // What a redex became, whole: it is to come.
@@ -482,10 +434,8 @@ fn install_ahead(s: &[u8], w: &mut [u8], p: Place, kind: u8, m: usize, end: usiz
     place(s, w, m, right, n);
     Focus::Ahead(Place {
         left: p.start,
-        start: p.start,
         right,
-        root: p.root,
-        up: p.up,
+        ..p
     })
 }
 
@@ -512,96 +462,68 @@ fn install(s: &[u8], w: &mut [u8], p: Place, kind: u8, m: usize, end: usize) -> 
 
 // The redex t is contracted by way of s where the whole successor has room. It is emitted from as many cells on as stand around it, so that
 // the test of emission is that of the whole.
-fn contract_through(s: &mut [u8], w: &mut [u8], p: Place, t: Cell) -> Contracted
+fn contract_through(s: &mut [u8], w: &mut [u8], p: Place, t: Cell) -> Option<Focus>
     requires { Emitting s.old w.old p (as_cell t) }
     ensures { ContractsAny w.old w.new p result }
 {
     let m = p.start + 8191 - p.root;
-    let Emitted::Next(end) = emit_contractum(w, s, p.root, m) else {
-        return Contracted::Full;
-    };
-    Contracted::To(install(s, w, p, t.kind, m, end))
+    let end = emit_contractum(w, s, p.root, m)?;
+    Some(install(s, w, p, t.kind, m, end))
 }
 
-// An annotated value, t.
-fn contract_anno(s: &mut [u8], w: &mut [u8], p: Place, t: Cell) -> Contracted
+// An annotated value, t. Matched by hand: or_else says nothing of the buffer that its closure holds.
+fn contract_anno(s: &mut [u8], w: &mut [u8], p: Place, t: Cell) -> Option<Focus>
     requires { ContractingAnno s.old w.old p (as_cell t) }
     ensures { ContractsAny w.old w.new p result }
 {
     match cast_in_place(w, p, t) {
-        InPlace::Became(x) => Contracted::To(x),
-        InPlace::Elsewhere => contract_through(s, w, p, t),
+        Some(x) => Some(x),
+        None => contract_through(s, w, p, t),
     }
 }
 
 // A redex, by its kind; sums are held by the version.
-fn contract(s: &mut [u8], w: &mut [u8], p: Place, version: Version) -> Contracted
+fn contract(s: &mut [u8], w: &mut [u8], p: Place, version: Version) -> Option<Focus>
     requires { Contracting s.old w.old p }
     ensures { Contracts (half_of version) w.old w.new p result }
 {
     let t = read_cell(w, p.root);
-    let kind = t.kind;
-    match kind {
+    match t.kind {
         19 => contract_anno(s, w, p, t),
-        25 => Contracted::To(project(w, p, t)),
-        26 => Contracted::To(sum(w, p, t, version)),
+        25 => Some(project(w, p, t)),
+        26 => Some(sum(w, p, t, version)),
         _ => contract_through(s, w, p, t),
     }
 }
 
-// The cells on both sides of the gap.
-fn standing_cells(p: Place) -> usize
-    requires { GapWithin p }
-    ensures { result ≡ standing_cells_lem p }
-{
-    p.left + (8192 - p.right)
-}
-
-// The size of the term, wherever the focus is.
-fn count_cells(focus: Focus) -> usize
-    requires { GapWithin (focus_place focus) }
-    ensures { result ≡ standing_cells_lem (focus_place focus) }
-{
-    match focus {
-        Focus::Ahead(p) => standing_cells(p),
-        Focus::Done(p) => standing_cells(p),
-        Focus::Redex(p) => standing_cells(p),
-        Focus::Whole(p) => standing_cells(p),
-    }
-}
-
-fn larger(m: usize, n: usize) -> usize
-    ensures { result ≡ max m n }
-{
-    if m < n {
-        return n;
-    }
-    m
-}
-
-// One turn: value, then spent, then room. A term that is reached counts for the mark. Of s nothing is decided.
-pub fn step(s: &mut [u8], w: &mut [u8], state: State, limit: u32, version: Version) -> Turn
+// One turn: value, then spent, then room; a turn that ends the run leaves the focus where it is. A term that is reached counts for the mark. Of s
+// nothing is decided.
+pub fn step(
+    s: &mut [u8],
+    w: &mut [u8],
+    state: State,
+    limit: u32,
+    version: Version,
+) -> ControlFlow<Stop, State>
     requires { TurnReady s.old w.old state limit }
     ensures { Steps version w.old w.new state limit result }
 {
-    let focus = state.focus;
     let k = state.steps;
-    let mark = state.mark;
-    let Focus::Redex(p) = focus else {
-        return Turn::Ended(Stop::Value(k), focus);
+    let Focus::Redex(p) = state.focus else {
+        return ControlFlow::Break(Stop::Value(k));
     };
     if k == limit {
-        return Turn::Ended(Stop::Spent(k), focus);
+        return ControlFlow::Break(Stop::Spent(k));
     }
-    let Contracted::To(x) = contract(s, w, p, version) else {
-        return Turn::Ended(Stop::Room(k), focus);
+    let Some(x) = contract(s, w, p, version) else {
+        return ControlFlow::Break(Stop::Room(k));
     };
-    let next = settle(w, x);
-    let n = count_cells(next);
-    Turn::Next(State {
-        focus: next,
+    let focus = settle(w, x);
+    let n = focus.place().cells();
+    ControlFlow::Continue(State {
+        focus,
         steps: k + 1,
-        mark: larger(mark, n),
+        mark: state.mark.max(n),
     })
 }
 
@@ -612,28 +534,16 @@ fn restore(w: &mut [u8], up: usize, child: usize) -> usize
 {
     let t = read_cell(w, up);
     if t.c == 0 || t.kind == 27 {
-        write_cell(
-            w,
-            up,
-            Cell {
-                kind: t.kind,
-                label: t.label,
-                a: child,
-                b: t.b,
-                c: t.c,
-            },
-        );
+        write_cell(w, up, Cell { a: child, ..t });
         return t.a;
     }
     write_cell(
         w,
         up,
         Cell {
-            kind: t.kind,
-            label: t.label,
-            a: t.a,
             b: child,
             c: 0,
+            ..t
         },
     );
     t.b
@@ -660,10 +570,8 @@ fn rebuild(w: &mut [u8], focus: Focus) -> usize
     ensures { Rebuilds w.old w.new focus result }
 {
     match focus {
-        Focus::Ahead(p) => unwind(w, p.up, p.root),
-        Focus::Done(p) => unwind(w, p.up, p.left - 1),
-        Focus::Redex(p) => unwind(w, p.up, p.root),
-        Focus::Whole(p) => p.left - 1,
+        Focus::Ahead(p) | Focus::Redex(p) => unwind(w, p.up, p.root),
+        Focus::Done(p) | Focus::Whole(p) => unwind(w, p.up, p.left - 1),
     }
 }
 
@@ -673,15 +581,15 @@ pub fn encode_whole(s: &mut [u8], w: &mut [u8], focus: Focus) -> usize
     ensures { EncodesWhole w.old w.new focus result }
 {
     let root = rebuild(w, focus);
-    encode_in_place(s, w, 3, root)
+    encode_in_place(s, w, Use::ToTerm, root)
 }
 
-// The term encoded in the first n cells of the work buffer has its place.
+// The term encoded in the first n cells of the work buffer has its place. No slice: the run moves them into the whole buffer.
 pub fn start(s: &mut [u8], w: &mut [u8], n: usize) -> Focus
     requires { StepReady s.old w.old n }
     ensures { Starts w.old w.new n result }
 {
-    copy(w, s, 8 * n);
+    s[..8 * n].copy_from_slice(&w[..8 * n]);
     place(s, w, 0, 8192 - n, n);
     settle(
         w,
@@ -707,11 +615,9 @@ pub fn run_on(s: &mut [u8], w: &mut [u8], n: usize, limit: u32, version: Version
     };
     loop {
         match step(s, w, state, limit, version) {
-            Turn::Next(next) => {
-                state = next;
-            }
-            Turn::Ended(stop, focus) => {
-                let cells = encode_whole(s, w, focus);
+            ControlFlow::Continue(next) => state = next,
+            ControlFlow::Break(stop) => {
+                let cells = encode_whole(s, w, state.focus);
                 let mark = state.mark;
                 return End { stop, cells, mark };
             }

@@ -6,8 +6,9 @@ use mathlib.Core.Option.{Option, none, some}
 use mathlib.Core.List.{List}
 use borrow.Author.Tests.{eq-eqb, ne_eqb}
 use lib.ListN.{length}
+use Rattle.std.specs.Prelude as Prelude
+use Rattle.std.specs.Prelude.{Some, None, Result, Err}
 use Rattle.calculus.specs.Sheet.{is_sheet, count_steps}
-use Rattle.format.specs.declared.Version.{Version}
 use Rattle.format.specs.Book.{Finding, form_finding, version_of, root_of, root_term}
 use Rattle.format.proofs.Tests.{form_finding_says}
 use Rattle.answers.specs.Answer.{Answer, refused}
@@ -17,11 +18,9 @@ use Rattle.answers.specs.declared.Refusal.{Refusal}
 use Rattle.answers.specs.declared.CheckOutcome.{CheckOutcome}
 use Rattle.answers.proofs.Cases.{refusal_number}
 use Rattle.answers.proofs.Demands.{clash}
-use Rattle.book.specs.Form.{FormsAs}
-use Rattle.book.specs.declared.Form.{Form}
-use Rattle.book.specs.declared.Form.TheVariants.{Malformed}
-use Rattle.counting.specs.declared.Counted.{Counted}
-use Rattle.counting.specs.declared.Counted.TheVariants.{Steps}
+use Rattle.book.specs.Form.{Finds}
+use Rattle.book.specs.declared.Root.{Root}
+use Rattle.cells.specs.declared.Use.TheVariants.{ToTerm}
 use Rattle.counting.specs.Counting.{counted, Countable, Counts}
 use Rattle.engine.specs.Stages.{FirstRows, row_1, rows_2_to_10, LeftByRefusal, Formed, Gives, AfterTyping}
 use Rattle.engine.proofs.Judging.{refused_result, past_row_10}
@@ -32,23 +31,23 @@ use Rattle.sheets.specs.Stages.{WithSteps, GivesSheet}
 
 -- ---- the count
 
-pub countable : {b w : List ℕ} {u : Version} {i : ℕ} → Formed b w u i → Countable b 3 i
+pub countable : {b w : List ℕ} {o : Root} → Formed b w o → Countable b ToTerm o.cell
 countable p =
     let f = p.book.form in
     record { formed = f; cell = λ m. rw p.book.root (record { low = f.formed.rooted; term = f.term; small = f.small }) }
 
 -- of the root it is that of the opened term
-root_counted : {b w : List ℕ} {u : Version} {i : ℕ} {r : Counted} → Formed b w u i → Counts b 3 i r → r ≡ counted (root_term b)
+root_counted : {b w : List ℕ} {o : Root} {r : Prelude.Option ℕ} → Formed b w o → Counts b ToTerm o.cell r → r ≡ counted (root_term b)
 unfolding root_term
 root_counted p c = rw (← p.book.root) c.is
 
-none_no : {r : Counted} (s : Bool) (n : ℕ) → r ≡ cond s (Steps n) Counted.NoSheet → r ≡ Counted.NoSheet → s ≡ false
-none_no true n e q = absurd (clash cc)
-none_no false n e q = refl
+no_sheet : {r : Prelude.Option ℕ} (s : Bool) (n : ℕ) → r ≡ cond s (Some n) None → r ≡ None → s ≡ false
+no_sheet true n e q = absurd (clash cc)
+no_sheet false n e q = refl
 
-steps_yes : {r : Counted} {k : ℕ} (s : Bool) (n : ℕ) → r ≡ cond s (Steps n) Counted.NoSheet → r ≡ Steps k → (s ≡ true) × (k ≡ n)
-steps_yes true n e q = (refl, cc)
-steps_yes false n e q = absurd (clash cc)
+a_sheet : {r : Prelude.Option ℕ} {k : ℕ} (s : Bool) (n : ℕ) → r ≡ cond s (Some n) None → r ≡ Some k → (s ≡ true) × (k ≡ n)
+a_sheet true n e q = (refl, cc)
+a_sheet false n e q = absurd (clash cc)
 
 -- nothing stands beside a refusal
 no_count : (k : ℕ) (q : Refusal) → 0 ≡ beside k (refusal_answer q)
@@ -63,7 +62,7 @@ with_accepted e = rw e (record { answer = refl; steps = refl })
 -- ---- row 17
 
 module _ (b w : List ℕ) where
-  past_form : {u : Version} {i : ℕ} → Formed b w u i → is_row17 b w ≡ not (is_sheet (root_term b))
+  past_form : {o : Root} → Formed b w o → is_row17 b w ≡ not (is_sheet (root_term b))
   unfolding is_row17
   past_form p = rw (eq-eqb (length w) 65536 p.work, (form_finding_says b).1 p.book.form)
 
@@ -76,12 +75,12 @@ module _ (b w : List ℕ) where
   not_17 e = rw (e, sheeted)
 
   -- a book that rows 1 to 10 meet
-  malformed : {q : Refusal} {x : Form} → FirstRows b (length w) x → x ≡ Malformed q → is_row17 b w ≡ false
+  malformed : {q : Refusal} {x : Result Root Refusal} → FirstRows b (length w) x → x ≡ Err q → is_row17 b w ≡ false
   unfolding is_row17
   malformed (row_1 n s) e = rw (ne_eqb (length w) 65536 n)
   malformed {q} {x} (rows_2_to_10 k f) e = rw (eq-eqb (length w) 65536 k) (go (form_finding b) refl f.says)
     where
-      go : (y : Option Finding) → form_finding b ≡ y → FormsAs b x y → (passes y && not (is_sheet (root_term b))) ≡ false
+      go : (y : Option Finding) → form_finding b ≡ y → Finds (record { version = version_of b; cell = root_of b }) x y → (passes y && not (is_sheet (root_term b))) ≡ false
       go none p h = absurd (clash cc)
       go (some y) p h = refl
 
@@ -98,23 +97,23 @@ module _ (b w : List ℕ) where
   as_check g = g
 
   -- rows 1 to 10
-  pub refused_first : {v : List ℕ} {q : Refusal} {x : Form} → FirstRows b (length w) x → x ≡ Malformed q → LeftByRefusal w v →
+  pub refused_first : {v : List ℕ} {q : Refusal} {x : Result Root Refusal} → FirstRows b (length w) x → x ≡ Err q → LeftByRefusal w v →
       GivesSheet v (Refused q) (sheeted b w)
   refused_first {q = q} f e l =
       gives_check (malformed f e) (as_check (refused_result b w (shown (version_of b)) f e l)) refl (no_count (count_steps (root_term b)) q)
 
   -- row 17
-  pub refused_17 : {v : List ℕ} {u : Version} {i : ℕ} {r : Counted} → Formed b w u i → Counts b 3 i r → r ≡ Counted.NoSheet → LeftByRefusal w v →
-      GivesSheet v (NoSheet i) (sheeted b w)
+  pub refused_17 : {v : List ℕ} {o : Root} {r : Prelude.Option ℕ} → Formed b w o → Counts b ToTerm o.cell r → r ≡ None → LeftByRefusal w v →
+      GivesSheet v (NoSheet o.cell) (sheeted b w)
   unfolding refusal_result
   refused_17 p c e l =
-      let n = none_no (is_sheet (root_term b)) (count_steps (root_term b)) (root_counted p c) e in
+      let n = no_sheet (is_sheet (root_term b)) (count_steps (root_term b)) (root_counted p c) e in
       rw (at_17 (past_form p ∙ ap not n)) (record { answer = ap (refused 17) p.book.root; steps = refl; left = l.zeroed p.work })
 
   -- rows 11 to 15, or accepted
-  pub typed_sheet : {v : List ℕ} {u : Version} {i k : ℕ} {r : Counted} {o : CheckOutcome} {x : SheetOutcome} → Formed b w u i → Counts b 3 i r → r ≡ Steps k →
-      AfterTyping b (shown (version_of b)) v (check_answer o) → WithSteps o k x → GivesSheet v x (sheeted b w)
-  typed_sheet {o = o} p c e t s =
-      let y = steps_yes (is_sheet (root_term b)) (count_steps (root_term b)) (root_counted p c) e in
-      gives_check (past_form p ∙ ap not y.0) (as_check (past_row_10 b w (shown (version_of b)) p t)) s.answer
-      (s.steps ∙ ap (λ (n : ℕ). beside n (check_answer o)) y.1)
+  pub typed_sheet : {v : List ℕ} {o : Root} {k : ℕ} {r : Prelude.Option ℕ} {y : CheckOutcome} {x : SheetOutcome} → Formed b w o → Counts b ToTerm o.cell r → r ≡ Some k →
+      AfterTyping b (shown (version_of b)) v (check_answer y) → WithSteps y k x → GivesSheet v x (sheeted b w)
+  typed_sheet {y = y} p c e t s =
+      let z = a_sheet (is_sheet (root_term b)) (count_steps (root_term b)) (root_counted p c) e in
+      gives_check (past_form p ∙ ap not z.0) (as_check (past_row_10 b w (shown (version_of b)) p t)) s.answer
+      (s.steps ∙ ap (λ (n : ℕ). beside n (check_answer y)) z.1)

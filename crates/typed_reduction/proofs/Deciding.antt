@@ -1,15 +1,15 @@
 -- Whether a held value can be read under a held type, and by which part: by the kinds of the two cells, from the answers about their
 -- parts. Assumes nothing.
 use Prim.Native.Nat.{ℕ, ◌<◌}
-use native.Mathlib.Omega.{arith}
 use native.Mathlib.Decide.{ℕ_discrete}
 use mathlib.Core.Path.{◌≡◌, refl, sym, ap, ap₂, ◌∙◌}
 use mathlib.Core.Bool.{Bool, true, false, ◌&&◌, cond}
 use mathlib.Core.List.{List}
-use mathlib.Core.Option.{Option, none, some, map, or_else}
+use mathlib.Core.Option.{Option as Maybe, none, some, map}
 use mathlib.Core.Logic.{by_cases}
 use lib.Dec.{eqb}
 use borrow.Author.Tests.{eq-eqb, ne_eqb}
+use Rattle.std.specs.Prelude.{Option, Some, is_some as found}
 use Rattle.calculus.specs.Syntax.{Ty, int, top, arrow, inter, field}
 use Rattle.calculus.specs.Syntax.{Term, lam, rcd}
 use Rattle.calculus.specs.Subtyping.{TopLike, Ordinary}
@@ -25,18 +25,17 @@ use Rattle.cells.specs.Held.{HoldsType}
 use Rattle.cells.proofs.Held.{top_like, not_top_like, kind_of, kind_of_held, int_at, lit_at, held_one}
 use Rattle.emission.specs.Runs.{RunsType, RunsTerm}
 use Rattle.emission.proofs.Runs.{holds_type, holds_term}
-use Rattle.emission.proofs.RunParts.{TwoTypes, OneType, FunctionAt, OneTerm, arrow_at, inter_at, field_at, lam_at, merge_at, rcd_at}
+use Rattle.emission.proofs.RunParts.{TwoTypes, OneType, FunctionAt, OneTerm, arrow_at, inter_at, field_at, lam_at, rcd_at}
 use Rattle.decisions.specs.Questions.{TypesAt, TypesSay}
 use Rattle.decisions.proofs.Parts.{and_both}
-use Rattle.typed_reduction.specs.Casting.{is_some, ValueAndType, Castable, ProperAt, NoMerge, SingleAt, PartBy, FindsPart, PartOf, ValueEnds}
-use Rattle.typed_reduction.specs.declared.Part.{Part}
-use Rattle.typed_reduction.specs.declared.Part.TheVariants.{At, Nothing}
-use Rattle.typed_reduction.proofs.Sizes.{size_at, half_smaller, field_smaller, merge_smaller, record_smaller}
+use Rattle.typed_reduction.specs.Casting.{is_some, ValueAndType, Castable, ProperAt, NoMerge, SingleAt, PartAt, PartBy, FindsFirst, FindsPart, PartOf}
+use Rattle.typed_reduction.proofs.Sizes.{size_at, half_smaller, field_smaller, record_smaller}
+use Rattle.typed_reduction.proofs.Parts.{part_runs}
 use Rattle.typed_reduction.proofs.Single.{single_int, single_arrow, single_field, no_number, no_function, no_record, no_merge}
 
 -- Under any type.
 
-some_both : (x y : Option Term) → is_some (merge_both x y) ≡ (is_some x && is_some y)
+some_both : (x y : Maybe Term) → is_some (merge_both x y) ≡ (is_some x && is_some y)
 unfolding merge_both
 some_both none y = refl
 some_both (some e) none = refl
@@ -116,70 +115,12 @@ module _ {s : List ℕ} {a : ℕ} {y : Cell} (is : y ≡ cell_at s a) (v : ℕ) 
 
 -- By a part.
 
-pub different : {p : ℕ} {r : Part} → r ≡ At p → r ≡ Nothing → ⊥
-different e f = let z : ◌≡◌ {A = ℕ} 0 1 = cc in omega arith
+found_part_is : (s : List ℕ) (A : Ty) (r : Option ℕ) (o : Maybe Term) → PartBy s A r o → found r ≡ is_some o
+found_part_is s A r none h = rw h refl
+found_part_is s A r (some x) h = rw h.2 refl
 
-no_bool : {A : Type 0} → true ≡ false → A
-no_bool e = let z : ◌≡◌ {A = ℕ} 0 1 = cc in absurd (omega arith)
-
-module _ (s : List ℕ) (A : Ty) {r : Part} where
-  some_part : {p : ℕ} (o : Option Term) → PartBy s A r o → r ≡ At p → true ≡ is_some o
-  some_part none h e = absurd (different e h)
-  some_part (some x) h e = refl
-
-  no_part : (o : Option Term) → PartBy s A r o → r ≡ Nothing → false ≡ is_some o
-  no_part none h e = refl
-  no_part (some x) h e = absurd (different h.2 e)
-
-  left_part : {p : ℕ} (o q : Option Term) → PartBy s A r o → r ≡ At p → PartBy s A r (or_else o q)
-  unfolding or_else
-  left_part none q h e = absurd (different e h)
-  left_part (some x) q h e = h
-
-  right_part : (t : Part) (o q : Option Term) → PartBy s A r o → r ≡ Nothing → PartBy s A t q → PartBy s A t (or_else o q)
-  unfolding or_else
-  right_part t none q h e k = k
-  right_part t (some x) q h e k = absurd (different h.2 e)
-
-module _ {s : List ℕ} {v a : ℕ} {r : Part} (f : FindsPart s v a r) where
-  pub casts_part : {p : ℕ} → r ≡ At p → Castable s v a true
-  casts_part t = record { says = λ e A h k. some_part s A (cast A e) (f.says e A h k) t }
-
-  pub casts_nothing : r ≡ Nothing → Castable s v a false
-  casts_nothing t = record { says = λ e A h k. no_part s A (cast A e) (f.says e A h k) t }
-
--- the halves of a merge at v, which are the values at p and q
-pub record MergeHalves (s : List ℕ) (v p q : ℕ) : Type 0 where
-  pub first : ValueEnds s p
-  pub second : ValueEnds s q
-  pub smaller : (size_at s p < size_at s v) × (size_at s q < size_at s v)
-
--- x stands in its cell
-pub merge_halves : {s : List ℕ} {v : ℕ} {e : Term} {x : Cell} → x ≡ cell_at s v → RunsTerm s v e → x.kind ≡ 22 → MergeHalves s v x.a x.b
-merge_halves is h = rw is λ k.
-    let m = merge_at h k in
-    record {
-      first = record { value = m.first; holds = m.holds_first };
-      second = record { value = m.second; holds = m.holds_second };
-      smaller = merge_smaller h m.is m.holds_first m.holds_second;
-    }
-
--- what is found of every value at p
-abbrev Finds : List ℕ → ℕ → Ty → Part → Type 0
-Finds s p A r = (e : Term) → RunsTerm s p e → PartBy s A r (cast A e)
-
--- the left half answers first, then the right
-module _ {s : List ℕ} {v : ℕ} (A : Ty) (r : Part) (k : (cell_at s v).kind ≡ 22) (o : Ordinary A) (n : ¬ TopLike A) (f : Finds s (cell_at s v).a A r) where
-  pub part_left : {p : ℕ} → r ≡ At p → Finds s v A r
-  part_left t e h =
-      let m = merge_at h k in
-      rw (m.is, cast_merge A m.first m.second o n) (left_part s A (cast A m.first) (cast A m.second) (f m.first m.holds_first) t)
-
-  pub part_right : (t : Part) → r ≡ Nothing → Finds s (cell_at s v).b A t → Finds s v A t
-  part_right t q g e h =
-      let m = merge_at h k in
-      rw (m.is, cast_merge A m.first m.second o n)
-      (right_part s A t (cast A m.first) (cast A m.second) (f m.first m.holds_first) q (g m.second m.holds_second))
+pub casts_found : {s : List ℕ} {v a : ℕ} {r : Option ℕ} → FindsPart s v a r → Castable s v a (found r)
+casts_found {s} f = record { says = λ e A h k. found_part_is s A _ (cast A e) (f.says e A h k) }
 
 module _ {s : List ℕ} {v a : ℕ} (p : ProperAt s v a) where
   -- the same of whatever the cell of the type holds
@@ -189,50 +130,32 @@ module _ {s : List ℕ} {v a : ℕ} (p : ProperAt s v a) where
   pub is_proper : {A : Ty} → RunsType s a A → ¬ TopLike A
   is_proper k = rw (held_one (holds_type k) (holds_type p.both.holds_type)) p.proper
 
-  -- another value under the type
-  pub under : {w : ℕ} {e : Term} → RunsTerm s w e → ProperAt s w a
-  under {e} h = record {
-    both = record { value = e; type = p.both.type; holds_value = h; holds_type = p.both.holds_type };
-    ordinary = p.ordinary;
-    proper = p.proper;
-  }
+  -- a part that is tested
+  pub single : {q : ℕ} → PartAt s v q → SingleAt s q a
+  single h =
+      let w = part_runs h p.both.holds_value in
+      record {
+        at = record {
+          both = record { value = w.term; type = p.both.type; holds_value = w.holds; holds_type = p.both.holds_type };
+          ordinary = p.ordinary;
+          proper = p.proper;
+        };
+        single = w.single;
+      }
 
-  module _ {x : Cell} (is : x ≡ cell_at s v) where
-    pub finds_left : {r : Part} {n : ℕ} → x.kind ≡ 22 → FindsPart s x.a a r → r ≡ At n → FindsPart s v a r
-    finds_left = rw is λ k f t. record {
-      says = λ e A h w. part_left A _ k (is_ordinary w) (is_proper w) (λ e h. f.says e A h w) t e h;
-    }
-
-    pub finds_right : {r t : Part} → x.kind ≡ 22 → FindsPart s x.a a r → r ≡ Nothing → FindsPart s x.b a t → FindsPart s v a t
-    finds_right = rw is λ k f n g. record {
-      says = λ e A h w. part_right A _ k (is_ordinary w) (is_proper w) (λ e h. f.says e A h w) _ n (λ e h. g.says e A h w) e h;
-    }
-
-    pub single : (x.kind ≡ 22 → ⊥) → SingleAt s v a
-    single = rw is λ n. record { at = p; single = no_merge (holds_term p.both.holds_value) n }
-
-module _ {s : List ℕ} {v a : ℕ} {r : Bool} (f : Castable s v a r) where
-  pub finds_none : r ≡ false → FindsPart s v a Nothing
-  finds_none t = record { says = λ e A h k. go A (cast A e) (sym t ∙ f.says e A h k) }
-    where
-      go : (A : Ty) (o : Option Term) → false ≡ is_some o → PartBy s A Nothing o
-      go A none q = refl
-      go A (some x) q = no_bool (sym q)
-
-  module _ (p : SingleAt s v a) where
-    pub finds_itself : r ≡ true → FindsPart s v a (At v)
-    finds_itself t = record { says = λ e A h k. go e A h (cast A e) refl (sym t ∙ f.says e A h k) }
-      where
-        go : (e : Term) (A : Ty) → RunsTerm s v e → (o : Option Term) → cast A e ≡ o → true ≡ is_some o → PartBy s A (At v) o
-        go e A h none q u = no_bool u
-        go e A h (some x) q u = (v, e, refl, h, q, rw (held_one (holds_term h) (holds_term p.at.both.holds_value)) p.single)
+  pub finds_part : {r : Option ℕ} {test : ℕ → Bool → Type 0} → FindsFirst s v test r → ((q : ℕ) (b : Bool) → test q b → Castable s q a b) → FindsPart s v a r
+  finds_part f g =
+      record {
+        says = λ e A h k.
+            f.says (cast A) (λ l m. cast_merge A l m (is_ordinary k) (is_proper k)) (λ q l b n o t. (g q b t).says l A n k) e h;
+      }
 
 -- The part of a value that can be read.
 
-pub found_part : {s : List ℕ} {v a : ℕ} {r : Part} → FindsPart s v a r → PartOf s v a r
+pub found_part : {s : List ℕ} {v a : ℕ} {r : Option ℕ} → FindsPart s v a r → PartOf s v a r
 found_part f = record { says = λ e x A h k c. rw c at (f.says e A h k) }
 
-pub itself_part : {s : List ℕ} {v a : ℕ} {x : Cell} → x ≡ cell_at s v → (x.kind ≡ 22 → ⊥) → PartOf s v a (At v)
+pub itself_part : {s : List ℕ} {v a : ℕ} {x : Cell} → x ≡ cell_at s v → (x.kind ≡ 22 → ⊥) → PartOf s v a (Some v)
 itself_part {v = v} is n = record { says = λ e y A h k c. (v, e, refl, h, c, no_merge (holds_term h) (rw is at n)) }
 
 -- A part under the head of a type.
@@ -241,7 +164,7 @@ some_when : (t : Bool) (e : Term) → is_some (cond t (some e) none) ≡ t
 some_when true e = refl
 some_when false e = refl
 
-some_within : (t : Bool) (f : Term → Term) (o : Option Term) → is_some (cond t (map f o) none) ≡ (t && is_some o)
+some_within : (t : Bool) (f : Term → Term) (o : Maybe Term) → is_some (cond t (map f o) none) ≡ (t && is_some o)
 some_within true f none = refl
 some_within true f (some e) = refl
 some_within false f o = refl

@@ -6,6 +6,7 @@ use mathlib.Core.Bool.{true}
 use mathlib.Core.List.{List}
 use lib.ListN.{length}
 use mathlib.Core.Option.{some, some-injective}
+use Rattle.std.specs.Prelude.{Option, Some, None}
 use Rattle.calculus.specs.Syntax.{Ty, arrow}
 use Rattle.calculus.specs.Syntax.{Term, unit, lam, merge, rcd}
 use Rattle.calculus.specs.Subtyping.{TopLike}
@@ -24,16 +25,14 @@ use Rattle.emission.specs.Emits.{Space, Emits, LastReady, Finishes}
 use Rattle.emission.specs.Runs.{Run, RunsType, RunsTerm}
 use Rattle.emission.specs.Copies.{RunReady, EmitsRun, EndReady, EmitsEnd}
 use Rattle.emission.proofs.Copies.{run_ready, run_emits}
-use Rattle.emission.specs.declared.Emitted.{Emitted}
 use Rattle.emission.proofs.Compose.{emits_leaf}
 use Rattle.emission.proofs.Chain.{of_none, of_type, of_term, Each, Chain}
 use Rattle.emission.proofs.Runs.{holds_type, holds_term}
 use Rattle.emission.proofs.RunParts.{lam_at, arrow_at, inter_at, field_at, arrow_second, lam_second}
 use Rattle.typed_reduction.specs.Casting.{ProperAt, NoMerge, PartBy, PartOf, CastReady, PartReady, EmitsCast, FunctionReady, EmitsFunction}
-use Rattle.typed_reduction.specs.declared.Part.{Part}
-use Rattle.typed_reduction.specs.declared.Part.TheVariants.{At, Nothing}
 use Rattle.typed_reduction.proofs.Sizes.{size_at, field_smaller}
-use Rattle.typed_reduction.proofs.Deciding.{ordinary_at, halves, is_proper, field_left, different}
+use Rattle.typed_reduction.proofs.Deciding.{ordinary_at, halves, is_proper, field_left}
+use Rattle.typed_reduction.proofs.Parts.{different}
 use Rattle.typed_reduction.proofs.Casts.{BothRead, both_read, number_read, function_read, record_read}
 
 -- A function with the output type of a function type.
@@ -68,7 +67,7 @@ output_part q r = rw (q, add-one, add-one) (arrow_second r)
 abbrev pub Functions : List ℕ → ℕ → ℕ → Type 0
 Functions s p a = (e : Term) × (A : Ty) × (B : Ty) × (C : Ty) × (D : Ty) × RunsTerm s p (lam e A B) × RunsType s a (arrow C D)
 
-pub functions : {s d o : List ℕ} {p a m : ℕ} {r : Emitted} → Each {W = Functions s p a} (λ w. from_term (lam w.0 w.1 w.4)) d o m r
+pub functions : {s d o : List ℕ} {p a m : ℕ} {r : Option ℕ} → Each {W = Functions s p a} (λ w. from_term (lam w.0 w.1 w.4)) d o m r
     → EmitsFunction s d o p a m r
 functions q = record { says = λ e A B C D h k. q (e, A, B, C, D, h, k) }
 
@@ -98,7 +97,7 @@ module _ {s d : List ℕ} {p a m : ℕ} {t y : Cell} (g : Started s d p a m t y)
   pub body_ready : EndReady s d t.a m
   body_ready = run_ready (function_parts g.function g.ready.holds_function).body.run g.ready.space
 
-  pub body_each : {e : List ℕ} {r : Emitted} → EmitsEnd s d e t.a m r → Each function_chain.a.tree d e m r
+  pub body_each : {e : List ℕ} {r : Option ℕ} → EmitsEnd s d e t.a m r → Each function_chain.a.tree d e m r
   body_each q w = run_emits (function_parts g.function w.5).body.run q
 
   module _ {f : List ℕ} {x : ℕ} where
@@ -108,13 +107,13 @@ module _ {s d : List ℕ} {p a m : ℕ} {t y : Cell} (g : Started s d p a m t y)
     pub input_ready : Space f x → RunReady s f (t.a + 1) (t.b + 1) x
     input_ready = type_run (function_parts g.function g.ready.holds_function).input
 
-    pub input_each : {e : List ℕ} {r : Emitted} → EmitsRun s f e (t.a + 1) (t.b + 1) x r → Each function_chain.b.tree f e x r
+    pub input_each : {e : List ℕ} {r : Option ℕ} → EmitsRun s f e (t.a + 1) (t.b + 1) x r → Each function_chain.b.tree f e x r
     input_each q w = q.says true type_sort t.b _ (function_parts g.function w.5).input
 
     pub output_ready : Space f x → RunReady s f (y.a + 1) (y.b + 1) x
     output_ready = type_run (output_part g.type g.ready.holds_type)
 
-    pub output_each : {e : List ℕ} {r : Emitted} → EmitsRun s f e (y.a + 1) (y.b + 1) x r → Each function_chain.c.tree f e x r
+    pub output_each : {e : List ℕ} {r : Option ℕ} → EmitsRun s f e (y.a + 1) (y.b + 1) x r → Each function_chain.c.tree f e x r
     output_each q w = q.says true type_sort y.b _ (output_part g.type w.6)
 
 -- All that the cells v and a may be said to hold: a value, its reading, and the type that it is read under.
@@ -122,7 +121,7 @@ module _ {s d : List ℕ} {p a m : ℕ} {t y : Cell} (g : Started s d p a m t y)
 abbrev pub AllCasts : List ℕ → ℕ → ℕ → Type 0
 AllCasts s v a = (e : Term) × (x : Term) × (A : Ty) × RunsTerm s v e × RunsType s a A × (cast A e ≡ some x)
 
-pub all_casts : {s d o : List ℕ} {v a m : ℕ} {r : Emitted} → Each {W = AllCasts s v a} (λ w. from_term w.1) d o m r → EmitsCast s d o v a m r
+pub all_casts : {s d o : List ℕ} {v a m : ℕ} {r : Option ℕ} → Each {W = AllCasts s v a} (λ w. from_term w.1) d o m r → EmitsCast s d o v a m r
 all_casts q = record { says = λ e x A h k c. q (e, x, A, h, k, c) }
 
 abbrev pub own_cast : {s d : List ℕ} {v a m : ℕ} → CastReady s d v a m → AllCasts s v a
@@ -196,19 +195,19 @@ module _ {s d : List ℕ} {v a m : ℕ} {y : Cell} (g : Split s d v a m y) where
     pub first_ready : Space f n → CastReady s f v y.a n
     first_ready = half own.holds_first own.read.casts_first
 
-    pub first_each : {o : List ℕ} {r : Emitted} → EmitsCast s f o v y.a n r → Each merge_chain.a.tree f o n r
+    pub first_each : {o : List ℕ} {r : Option ℕ} → EmitsCast s f o v y.a n r → Each merge_chain.a.tree f o n r
     first_each q w = q.says _ _ _ w.3 (parts w).holds_first (parts w).read.casts_first
 
     pub second_ready : Space f n → CastReady s f v y.b n
     second_ready = half own.holds_second own.read.casts_second
 
-    pub second_each : {o : List ℕ} {r : Emitted} → EmitsCast s f o v y.b n r → Each merge_chain.b.tree f o n r
+    pub second_each : {o : List ℕ} {r : Option ℕ} → EmitsCast s f o v y.b n r → Each merge_chain.b.tree f o n r
     second_each q w = q.says _ _ _ w.3 (parts w).holds_second (parts w).read.casts_second
 
 -- A reading under a top_like type that is no intersection.
 
 module _ {s d : List ℕ} {v a m : ℕ} {y : Cell} (is : y ≡ cell_at s a) (g : CastReady s d v a m) where
-  pub emits_top : {o : List ℕ} {u : Emitted} → (y.kind ≡ 4 → ⊥) → y.c ≡ 1 → Emits d o m u (from_term unit) → EmitsCast s d o v a m u
+  pub emits_top : {o : List ℕ} {u : Option ℕ} → (y.kind ≡ 4 → ⊥) → y.c ≡ 1 → Emits d o m u (from_term unit) → EmitsCast s d o v a m u
   emits_top n t l = record {
     says = λ e x A h k c.
         let w = cast_top A e (ordinary_at (holds_type k) (rw is at n)) ((is_top_like_says A).0 (top_like (holds_type k) y is t)) in
@@ -227,7 +226,7 @@ module _ {s d : List ℕ} {v a m : ℕ} {y : Cell} (is : y ≡ cell_at s a) (g :
 pub proper_at : {s d : List ℕ} {v a m : ℕ} → PartReady s d v a m → ProperAt s v a
 proper_at g = record { both = g.ready.both; ordinary = g.ordinary; proper = g.proper }
 
-pub no_part : {s d o : List ℕ} {v a m : ℕ} {r : Part} {u : Emitted} → PartOf s v a r → r ≡ Nothing → EmitsCast s d o v a m u
+pub no_part : {s d o : List ℕ} {v a m : ℕ} {r : Option ℕ} {u : Option ℕ} → PartOf s v a r → r ≡ None → EmitsCast s d o v a m u
 no_part f t = record { says = λ e x A h k c. absurd (different (f.says e x A h k c).2 t) }
 
 -- the part at p reads x under A
@@ -237,10 +236,10 @@ pub record ReadBy (s : List ℕ) (p : ℕ) (A : Ty) (x : Term) : Type 0 where
   pub casts : cast A term ≡ some x
   pub single : NoMerge term
 
-at_same : {p q : ℕ} {r : Part} → r ≡ At p → r ≡ At q → p ≡ q
+at_same : {p q : ℕ} {r : Option ℕ} → r ≡ Some p → r ≡ Some q → p ≡ q
 at_same e f = cc
 
-pub read_by : {s : List ℕ} {p : ℕ} {r : Part} {A : Ty} {x : Term} → r ≡ At p → PartBy s A r (some x) → ReadBy s p A x
+pub read_by : {s : List ℕ} {p : ℕ} {r : Option ℕ} {A : Ty} {x : Term} → r ≡ Some p → PartBy s A r (some x) → ReadBy s p A x
 read_by t w = record { term = w.1; holds = rw (at_same t w.2) w.3; casts = w.4; single = w.5 }
 
 under : {s : List ℕ} {p : ℕ} {A B : Ty} {x : Term} (w : ReadBy s p A x) → A ≡ B → cast B w.term ≡ some x
@@ -275,9 +274,9 @@ rcd_tree l e = refl
 pub record Found (s d : List ℕ) (v a m : ℕ) (p : ℕ) (y : Cell) : Type 0 where
   pub bytes : IsBytes s
   pub ready : PartReady s d v a m
-  pub answer : Part
+  pub answer : Option ℕ
   pub finds : PartOf s v a answer
-  pub at : answer ≡ At p
+  pub at : answer ≡ Some p
   pub is : y ≡ cell_at s a
 
 module _ {s d : List ℕ} {v a m p : ℕ} {y : Cell} (g : Found s d v a m p y) where
@@ -300,7 +299,7 @@ module _ {s d : List ℕ} {v a m p : ℕ} {y : Cell} (g : Found s d v a m p y) w
         let f = fields_fit s p g.bytes at in
         record { long = g.ready.ready.space.long; fits = record { a = f.0; b = f.1; c = f.2 } }
 
-    pub emits_number : {o : List ℕ} {u : Emitted} → y.kind ≡ 1 → Finishes d o m (record { kind = 17; label = 0; a = t.a; b = t.b; c = t.c }) u
+    pub emits_number : {o : List ℕ} {u : Option ℕ} → y.kind ≡ 1 → Finishes d o m (record { kind = 17; label = 0; a = t.a; b = t.b; c = t.c }) u
         → EmitsCast s d o v a m u
     emits_number i q =
         record {
@@ -342,7 +341,7 @@ module _ {s d : List ℕ} {v a m p : ℕ} {y : Cell} (g : Found s d v a m p y) w
         holds_type = w.holds_type;
       }
 
-  pub emits_arrow : {o : List ℕ} {u : Emitted} → y.kind ≡ 3 → EmitsFunction s d o p a m u → EmitsCast s d o v a m u
+  pub emits_arrow : {o : List ℕ} {u : Option ℕ} → y.kind ≡ 3 → EmitsFunction s d o p a m u → EmitsCast s d o v a m u
   emits_arrow i q = record {
     says = λ e x A h k c.
         let w = function_part h k c i in
@@ -410,6 +409,6 @@ module _ {s d : List ℕ} {v a m p : ℕ} {y t : Cell} (g : Recorded s d v a m p
     casts = own_record.casts;
   }
 
-  pub content_each : {o : List ℕ} {r : Emitted} → EmitsCast s d o t.a y.a m r → Each record_chain.a.tree d o m r
+  pub content_each : {o : List ℕ} {r : Option ℕ} → EmitsCast s d o t.a y.a m r → Each record_chain.a.tree d o m r
   content_each q w =
       let p = record_part w in q.says p.value p.content p.type p.holds_value p.holds_type p.casts

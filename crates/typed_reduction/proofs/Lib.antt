@@ -1,5 +1,6 @@
 pub mod Sizes
 pub mod Single
+pub mod Parts
 pub mod Deciding
 pub mod Casts
 pub mod Emitting

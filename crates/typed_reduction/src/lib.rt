@@ -1,20 +1,33 @@
 // Reading a value under a type. First it is decided, on the cells alone, which part of the value is read; then the reading is emitted, or, under
 // Int, answered as the number that it is.
+// Kinds and marks are numbers: document 01, "dispatch on kind numbers". s, d and m go side by side, as in emission.
 #![tactic(auto)]
 
 ghost use Rattle.typed_reduction.specs.Casting.{ValueAndType, Castable, ProperAt, SingleAt, FindsPart, PartOf};
 ghost use Rattle.typed_reduction.specs.Casting.{CastReady, PartReady, EmitsCast, FunctionReady, EmitsFunction};
+ghost use Rattle.std.specs.Prelude.{ℕ};
+ghost use Rattle.typed_reduction.specs.Casting.{PartAt, FindsFirst};
 ghost use Rattle.typed_reduction.specs.Casting.{ValueEnds, FindsNumber, NumberReady, ReadsNumber};
 
 use cells::{Cell, read_cell};
 use decisions::subtype;
-use emission::{Emitted, emit_run, emit_run_to, finish, finish_top};
+use emission::{emit_run, emit_run_to, finish, finish_top};
 
-// A part of a value.
-#[derive(Clone, Copy)]
-pub enum Part {
-    At(usize),
-    Nothing,
+// The first part of the value at v, no merge itself, that passes the test. No or_else, as in projection.
+fn first_part<F: Fn(usize) -> bool>(s: &[u8], v: usize, test: &F) -> Option<usize>
+    requires value { ValueEnds s.now v }
+    requires tested { (p : ℕ) → PartAt s.now v p → F.pre test.now p }
+    ensures { FindsFirst s.now v (F.post test.now) result }
+{
+    let x = read_cell(s, v);
+    if x.kind == 22 {
+        let left = first_part(s, x.a, test);
+        if left.is_some() {
+            return left;
+        }
+        return first_part(s, x.b, test);
+    }
+    test(v).then_some(v)
 }
 
 // Whether the value at v can be read under the type at a.
@@ -33,35 +46,23 @@ pub fn is_castable(s: &[u8], v: usize, a: usize) -> bool
         }
         return false;
     }
-    if let Part::At(_) = find_part(s, v, a) {
-        true
-    } else {
-        false
-    }
+    find_part(s, v, a).is_some()
 }
 
 // The first part of the value at v, no merge itself, that can be read under the type at a, which is neither an intersection nor top-like.
 #[cycle(castability)]
-fn find_part(s: &[u8], v: usize, a: usize) -> Part
+fn find_part(s: &[u8], v: usize, a: usize) -> Option<usize>
     requires { ProperAt s.now v a }
     ensures { FindsPart s.now v a result }
 {
-    let x = read_cell(s, v);
-    if x.kind == 22 {
-        let left = find_part(s, x.a, a);
-        let Part::Nothing = left else {
-            return left;
-        };
-        return find_part(s, x.b, a);
-    }
-    if is_castable_part(s, v, a) {
-        Part::At(v)
-    } else {
-        Part::Nothing
-    }
+    let can_be_read = |p: usize| -> bool
+        requires { SingleAt s.now p a }
+        ensures { Castable s.entry.now p a result }
+    { is_castable_part(s, p, a) };
+    first_part(s, v, &can_be_read)
 }
 
-// The same of a part that is no merge.
+// Whether the part at v, no merge, can be read under such a type.
 #[cycle(castability)]
 fn is_castable_part(s: &[u8], v: usize, a: usize) -> bool
     requires { SingleAt s.now v a }
@@ -89,7 +90,7 @@ fn is_castable_part(s: &[u8], v: usize, a: usize) -> bool
 }
 
 // The part by which the value at v is read, if it can be read: a value that is no merge is that part, so that nothing is asked of it.
-fn part_of(s: &[u8], v: usize, a: usize) -> Part
+fn part_of(s: &[u8], v: usize, a: usize) -> Option<usize>
     requires { ProperAt s.now v a }
     ensures { PartOf s.now v a result }
 {
@@ -97,25 +98,19 @@ fn part_of(s: &[u8], v: usize, a: usize) -> Part
     if x.kind == 22 {
         return find_part(s, v, a);
     }
-    Part::At(v)
+    Some(v)
 }
 
 // The function at p with the output type of the function type at a.
-fn emit_function(s: &[u8], d: &mut [u8], p: usize, a: usize, m: usize) -> Emitted
+fn emit_function(s: &[u8], d: &mut [u8], p: usize, a: usize, m: usize) -> Option<usize>
     requires { FunctionReady s.now d.old p a m }
     ensures { EmitsFunction s.now d.old d.new p a m result }
 {
     let f = read_cell(s, p);
     let t = read_cell(s, a);
-    let Emitted::Next(x) = emit_run_to(s, d, f.a, m) else {
-        return Emitted::Full;
-    };
-    let Emitted::Next(y) = emit_run(s, d, f.a + 1, f.b + 1, x) else {
-        return Emitted::Full;
-    };
-    let Emitted::Next(z) = emit_run(s, d, t.a + 1, t.b + 1, y) else {
-        return Emitted::Full;
-    };
+    let x = emit_run_to(s, d, f.a, m)?;
+    let y = emit_run(s, d, f.a + 1, f.b + 1, x)?;
+    let z = emit_run(s, d, t.a + 1, t.b + 1, y)?;
     finish(
         d,
         z,
@@ -131,7 +126,7 @@ fn emit_function(s: &[u8], d: &mut [u8], p: usize, a: usize, m: usize) -> Emitte
 
 // Emits the reading of the value at v under the type at a.
 #[cycle(casting)]
-pub fn emit_value_cast(s: &[u8], d: &mut [u8], v: usize, a: usize, m: usize) -> Emitted
+pub fn emit_value_cast(s: &[u8], d: &mut [u8], v: usize, a: usize, m: usize) -> Option<usize>
     requires { CastReady s.now d.old v a m }
     ensures { EmitsCast s.now d.old d.new v a m result }
 {
@@ -142,12 +137,8 @@ pub fn emit_value_cast(s: &[u8], d: &mut [u8], v: usize, a: usize, m: usize) -> 
     if t.kind != 4 {
         return emit_part(s, d, v, a, m);
     }
-    let Emitted::Next(x) = emit_value_cast(s, d, v, t.a, m) else {
-        return Emitted::Full;
-    };
-    let Emitted::Next(y) = emit_value_cast(s, d, v, t.b, x) else {
-        return Emitted::Full;
-    };
+    let x = emit_value_cast(s, d, v, t.a, m)?;
+    let y = emit_value_cast(s, d, v, t.b, x)?;
     finish(
         d,
         y,
@@ -163,13 +154,11 @@ pub fn emit_value_cast(s: &[u8], d: &mut [u8], v: usize, a: usize, m: usize) -> 
 
 // The same under a type that is neither an intersection nor top-like.
 #[cycle(casting)]
-fn emit_part(s: &[u8], d: &mut [u8], v: usize, a: usize, m: usize) -> Emitted
+fn emit_part(s: &[u8], d: &mut [u8], v: usize, a: usize, m: usize) -> Option<usize>
     requires { PartReady s.now d.old v a m }
     ensures { EmitsCast s.now d.old d.new v a m result }
 {
-    let Part::At(p) = part_of(s, v, a) else {
-        return Emitted::Full;
-    };
+    let p = part_of(s, v, a)?;
     let y = read_cell(s, a);
     if y.kind == 3 {
         return emit_function(s, d, p, a, m);
@@ -182,15 +171,11 @@ fn emit_part(s: &[u8], d: &mut [u8], v: usize, a: usize, m: usize) -> Emitted
             Cell {
                 kind: 17,
                 label: 0,
-                a: x.a,
-                b: x.b,
-                c: x.c,
+                ..x
             },
         );
     }
-    let Emitted::Next(z) = emit_value_cast(s, d, x.a, y.a, m) else {
-        return Emitted::Full;
-    };
+    let z = emit_value_cast(s, d, x.a, y.a, m)?;
     finish(
         d,
         z,
@@ -205,23 +190,11 @@ fn emit_part(s: &[u8], d: &mut [u8], v: usize, a: usize, m: usize) -> Emitted
 }
 
 // The first part of the value at v that is a number: by it the value is read under Int.
-fn number_part(s: &[u8], v: usize) -> Part
+fn number_part(s: &[u8], v: usize) -> Option<usize>
     requires { ValueEnds s.now v }
     ensures { FindsNumber s.now v result }
 {
-    let x = read_cell(s, v);
-    if x.kind == 22 {
-        let left = number_part(s, x.a);
-        let Part::Nothing = left else {
-            return left;
-        };
-        return number_part(s, x.b);
-    }
-    if x.kind == 17 {
-        Part::At(v)
-    } else {
-        Part::Nothing
-    }
+    first_part(s, v, &|p| read_cell(s, p).kind == 17)
 }
 
 // The number that the value at v is read as under Int, as it is stored: 48 bits.
@@ -229,7 +202,7 @@ pub fn read_number(s: &[u8], v: usize) -> usize
     requires { NumberReady s.now v }
     ensures { ReadsNumber s.now v result }
 {
-    let Part::At(p) = number_part(s, v) else {
+    let Some(p) = number_part(s, v) else {
         return 0;
     };
     let x = read_cell(s, p);

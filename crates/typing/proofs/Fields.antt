@@ -3,6 +3,7 @@ use Prim.Native.Nat.{ℕ}
 use native.Mathlib.Omega.{arith}
 use mathlib.Core.Path.{◌≡◌, refl}
 use mathlib.Core.List.{List}
+use Rattle.std.specs.Prelude.{Ok, Err}
 use Rattle.calculus.specs.Syntax.{Ty}
 use Rattle.calculus.specs.Decide as Decide
 use Rattle.calculus.specs.Decide.{is_top_like, field_part, no_part, top_part, more_parts, one_part}
@@ -16,35 +17,31 @@ use Rattle.projection.specs.declared.FieldPart.{FieldPart}
 use Rattle.projection.specs.declared.FieldPart.TheVariants.{TopLike, One}
 use Rattle.projection.specs.Parts.{PartIs, FindsFieldPart}
 use Rattle.projection.proofs.TypeParts.{Told, told}
-use Rattle.typing.specs.declared.Found.TheVariants.{Typed, Refused}
+use Rattle.typing.specs.declared.TheConstants.{TOP}
 use Rattle.typing.specs.Finding.{Answered, Adds, FindFieldReady, FindsField}
 
 tells : {s : List ℕ} {a l : ℕ} {r x : FieldPart} {A : Ty} → FindsFieldPart s a l r → r ≡ x → HoldsType s a A → Told s a x (field_part l A)
 tells {s} {a} {r = r} f e h = rw (← e) (told s a r _ (f.says _ h))
 
 module _ {s : List ℕ} {n a l i : ℕ} {r : FieldPart} (p : FindFieldReady s n a) (f : FindsFieldPart s a l r) where
-  pub field_one : {b : ℕ} → r ≡ One b → FindsField s s n a l i (Typed b n)
+  pub field_one : {b : ℕ} → r ≡ One b → FindsField s s n n a l i (Ok b)
   unfolding picked
   field_one {b} e = record {
     says = λ A h.
         let w = tells f e h in
-        rw w.1 (b, n, refl, omega arith, omega arith, same_refl s n, omega (arith, w.2, p.below), w.3);
+        rw w.1 (_, refl, omega arith, omega arith, same_refl s n, omega (arith, w.2, p.below), w.3);
   }
 
-  -- the cell's mark is m
-  pub field_top : {t : List ℕ} {m k : ℕ} → r ≡ TopLike → Adds s t n 2 0 0 0 m k → m ≡ 1 → FindsField s t n a l i (Typed n k)
+  pub field_top : {t : List ℕ} {k x : ℕ} → r ≡ TopLike → Adds s t n k TOP x → FindsField s t n k a l i (Ok x)
   unfolding picked is_top_like
-  field_top {k = k} e w o = record {
-    says = λ A h.
-        rw (tells f e h) (n, k, refl, omega (arith, w.counts), omega (arith, w.counts), w.same, omega (arith, w.counts), h_top w.there o);
-  }
+  field_top e w = record { says = λ A h. rw (tells f e h, w.answers, w.counts) (n, refl, omega arith, omega arith, w.same, omega arith, h_top w.there refl) }
 
   -- no part has the field and none is top-like; or more than one has it
-  pub field_none : ¬ (r ≡ TopLike) → ((b : ℕ) → ¬ (r ≡ One b)) → FindsField s s n a l i (Refused (Projection i))
+  pub field_none : ¬ (r ≡ TopLike) → ((b : ℕ) → ¬ (r ≡ One b)) → FindsField s s n n a l i (Err (Projection i))
   unfolding picked follow
   field_none u v = record { says = λ A h. go (field_part l A) (f.says A h) }
     where
-      go : (q : Decide.FieldPart) → PartIs s a r q → Answered s s n 1 i (Refused (Projection i)) (picked q)
+      go : (q : Decide.FieldPart) → PartIs s a r q → Answered s s n n 1 i (Err (Projection i)) (picked q)
       go no_part h = (Projection i, refl, refl)
       go top_part h = absurd (u h)
       go more_parts h = (Projection i, refl, refl)

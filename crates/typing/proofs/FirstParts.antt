@@ -4,6 +4,7 @@ use native.Mathlib.Omega.{arith}
 use mathlib.Core.Path.{◌≡◌, refl, ◌∙◌, ap}
 use mathlib.Core.List.{List, ◌∷◌}
 use lib.ListN.{length}
+use Rattle.std.specs.Prelude.{Result, Ok, Err}
 use Rattle.calculus.specs.Syntax.{Ty, Term, app, merge, size}
 use Rattle.calculus.specs.Infer as Infer
 use Rattle.calculus.specs.Infer.{Reason, applied, merged, labelled, projected, infer}
@@ -11,8 +12,6 @@ use Rattle.format.specs.Cell.{Cell, cell_at}
 use Rattle.answers.specs.declared.Refusal.{Refusal}
 use Rattle.cells.specs.Held.{HoldsTerm, HoldsContext}
 use Rattle.cells.proofs.Held.{same_held, same_context, same_refl, held_within}
-use Rattle.typing.specs.declared.Found.{Found}
-use Rattle.typing.specs.declared.Found.TheVariants.{Typed, Refused}
 use Rattle.typing.specs.Finding.{FindReady, Finds}
 use Rattle.typing.proofs.Answers.{finding, IsFound, typed, refused_by, handed}
 use Rattle.typing.proofs.Parts.{Part, Two, ready_part, Read, AtCell, FoundAt, app_of, merge_of, rcd_of, proj_of}
@@ -79,22 +78,22 @@ lefts rcd_first p = rcd_lefts p.cell p.kind
 lefts proj_first p = proj_lefts p.cell p.kind
 
 module _ {s : List ℕ} {n c i k μ : ℕ} {y : Cell} (b : HasFirstPart k) (p : Read s n c i k μ y) where
-  pub left_asks : (4 * y.a + 3 < μ) × FindReady s n c y.a
+  pub left_asks : (3 * y.a + 2 < μ) × FindReady s n c y.a
   left_asks =
       let v = (lefts b p).of p.ready.holds_term in
       (omega (arith, v.part.leads.lower, p.measure), ready_part p.ready v.part (same_refl s n) (omega arith) (omega (arith, v.smaller, p.ready.room)))
 
-  pub left_refused : {u : List ℕ} {r : Found} {q : Refusal} → Finds s u n c y.a r → r ≡ Refused q → Finds s u n c i r
+  pub left_refused : {u : List ℕ} {m : ℕ} {r : Result ℕ Refusal} {q : Refusal} → Finds s u n m c y.a r → r ≡ Err q → Finds s u n m c i (Err q)
   left_refused f e =
       record {
         says = λ Γ d g h.
             let v = (lefts b p).of h in
             let z = refused_by (finding f g v.part.holds) e in
-            rw (v.hands Γ z.reason z.path z.is) (handed v.part.leads p.ready.term_below (same_refl s n) e z);
+            rw (v.hands Γ z.reason z.path z.is) (handed v.part.leads p.ready.term_below (same_refl s n) z);
       }
 
   -- the found type's cell can be read
-  pub left_within : {u : List ℕ} {x m : ℕ} → FoundAt s u n c y.a x m → 8 * x + 8 ≤ length u
+  pub left_within : {u : List ℕ} {m x : ℕ} → FoundAt s u n m c y.a x → 8 * x + 8 ≤ length u
   left_within f =
       let v = (lefts b p).of p.ready.holds_term in
       held_within (typed (finding f.finds p.ready.holds_context v.part.holds) f.is).holds
@@ -115,13 +114,13 @@ unfolding size
 sides_size app_sides a b = refl
 sides_size merge_sides a b = refl
 
-module _ {s u : List ℕ} {n c i k x m μ : ℕ} {y : Cell} {f : Term → Term → Term} (d : Sides k f) (p : Read s n c i k μ y)
-    (q : FoundAt s u n c y.a x m) where
+module _ {s u : List ℕ} {n m c i k x μ : ℕ} {y : Cell} {f : Term → Term → Term} (d : Sides k f) (p : Read s n c i k μ y)
+    (q : FoundAt s u n m c y.a x) where
   -- of whatever context and term the cells hold
   pub record Known (Γ : List Ty) (t : Term) : Type 0 where
     pub sides : Two s i y f t
     pub sizes : size t ≡ 1 + size sides.first + size sides.second
-    pub left : IsFound s u n (size sides.first) x m (infer Γ sides.first)
+    pub left : IsFound s u n m (size sides.first) x (infer Γ sides.first)
     pub context : HoldsContext u c Γ
     pub right : HoldsTerm u y.b sides.second
 
@@ -140,7 +139,7 @@ module _ {s u : List ℕ} {n c i k x m μ : ℕ} {y : Cell} {f : Term → Term �
   pub own : Known p.ready.context p.ready.term
   own = known p.ready.holds_context p.ready.holds_term
 
-  pub right_asks : (4 * y.b + 3 < μ) × FindReady u m c y.b
+  pub right_asks : (3 * y.b + 2 < μ) × FindReady u m c y.b
   right_asks =
       let z = own in (
         omega (arith, z.sides.right.leads.lower, p.measure),
@@ -152,12 +151,12 @@ module _ {s u : List ℕ} {n c i k x m μ : ℕ} {y : Cell} {f : Term → Term �
 pub record AtLeft (k μ : ℕ) : Type 0 where
   pub at : AtCell k μ
   pub u : List ℕ
-  pub x : ℕ
   pub m : ℕ
-  pub left : FoundAt at.s u at.n at.c at.y.a x m
+  pub x : ℕ
+  pub left : FoundAt at.s u at.n m at.c at.y.a x
 
-abbrev pub at_left : {k μ x m : ℕ} {u : List ℕ} {r : Found} (p : AtCell k μ) → Finds p.s u p.n p.c p.y.a r → r ≡ Typed x m → length u ≡ length p.s → AtLeft k μ
-at_left {x = x} {m = m} {u = u} {r = r} p f e l = record { at = p; u = u; x = x; m = m; left = record { answer = r; finds = f; is = e; kept = l } }
+abbrev pub at_left : {k m x μ : ℕ} {u : List ℕ} {r : Result ℕ Refusal} (p : AtCell k μ) → Finds p.s u p.n m p.c p.y.a r → r ≡ Ok x → AtLeft k μ
+at_left {m = m} {x = x} {u = u} {r = r} p f e = record { at = p; u = u; m = m; x = x; left = record { answer = r; finds = f; is = e } }
 
 pub record AtType (k μ : ℕ) : Type 0 where
   pub at : AtLeft k μ

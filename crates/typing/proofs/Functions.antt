@@ -5,6 +5,7 @@ use mathlib.Core.Path.{◌≡◌, refl, ◌∙◌, ap}
 use mathlib.Core.List.{List, ◌∷◌}
 use lib.ListN.{length}
 use Rattle.calculus.proofs.Subtyping.{size_positive}
+use Rattle.std.specs.Prelude.{Result, Ok, Err}
 use Rattle.calculus.specs.Syntax.{Ty, arrow, Term, fix, size, size_type}
 use Rattle.calculus.specs.Infer as Infer
 use Rattle.calculus.specs.Infer.{infer}
@@ -14,8 +15,6 @@ use Rattle.answers.specs.declared.Refusal.{Refusal}
 use Rattle.cells.specs.Held.{HoldsType, HoldsTerm, HoldsContext, Same}
 use Rattle.cells.proofs.Makes.{h_arrow}
 use Rattle.cells.proofs.Held.{same_held, same_trans, held_within, type_mark, mark_one}
-use Rattle.typing.specs.declared.Found.{Found}
-use Rattle.typing.specs.declared.Found.TheVariants.{Typed, Refused}
 use Rattle.typing.specs.Finding.{Finds, ReadyFor, checked_here, Checks, RoomFor, Adds, BinderBelow, Binds}
 use Rattle.typing.proofs.Answers.{Answer, checking, typed, refused_by, handed, carried, checked_carried}
 use Rattle.typing.proofs.Parts.{Function, Noted, ready_body, Read, AtCell, lam_of, fix_of}
@@ -40,8 +39,8 @@ module _ {s : List ℕ} {n c i μ : ℕ} {y : Cell} (p : Read s n c i 21 μ y) w
         room = omega (arith, own_room);
       }
 
-  module _ {t : List ℕ} {m : ℕ} (w : Binds s t n y.b c m) where
-    pub lam_asks : (4 * y.a + 3 < μ) × ReadyFor t m n y.a y.c
+  module _ {t : List ℕ} {m o : ℕ} (w : Binds s t n m y.b c o) where
+    pub lam_asks : (3 * y.a + 2 < μ) × ReadyFor t m o y.a y.c
     lam_asks =
         let r = own_room in
         let l = size_positive own.input in
@@ -55,13 +54,13 @@ module _ {s : List ℕ} {n c i μ : ℕ} {y : Cell} (p : Read s n c i 21 μ y) w
           },
         )
 
-    module _ {u : List ℕ} {r : Found} (f : Checks t u m n y.a y.c r) where
+    module _ {u : List ℕ} {k : ℕ} {r : Result ℕ Refusal} (f : Checks t u m k o y.a y.c r) where
       -- the body's answer, of whatever context and function the cells hold
       record Body (Γ : List Ty) (d : Term) : Type 0 where
         view : Function s i y d
         input_below : y.b < n
         output_below : y.c < n
-        answer : Answer t u m (size view.body) y.a r (checked_here (infer (view.input ∷ Γ) view.body) view.output)
+        answer : Answer t u m k (size view.body) y.a r (checked_here (infer (view.input ∷ Γ) view.body) view.output)
         is : infer Γ d ≡ carried 0 (Infer.found (arrow view.input view.output)) (checked_here (infer (view.input ∷ Γ) view.body) view.output)
 
       body : {Γ : List Ty} {d : Term} → HoldsContext s c Γ → HoldsTerm s i d → Body Γ d
@@ -80,16 +79,16 @@ module _ {s : List ℕ} {n c i μ : ℕ} {y : Cell} (p : Read s n c i 21 μ y) w
             is = ap (infer Γ) v.is ∙ checked_carried 0 (infer (v.input ∷ Γ) v.body) v.output (Infer.found (arrow v.input v.output));
           }
 
-      pub lam_refused : {q : Refusal} → r ≡ Refused q → Finds s u n c i r
+      pub lam_refused : {q : Refusal} → r ≡ Err q → Finds s u n k c i (Err q)
       lam_refused e =
           record {
             says = λ Γ d g h.
                 let v = body g h in
                 let z = refused_by v.answer e in
-                rw (v.is, z.is) (handed v.view.left.leads p.ready.term_below w.same e z);
+                rw (v.is, z.is) (handed v.view.left.leads p.ready.term_below w.same z);
           }
 
-      module _ {x k : ℕ} (e : r ≡ Typed x k) where
+      module _ {x : ℕ} (e : r ≡ Ok x) where
         -- the body passed
         record Passed (Γ : List Ty) (d : Term) : Type 0 where
           of : Body Γ d
@@ -121,7 +120,7 @@ module _ {s : List ℕ} {n c i μ : ℕ} {y : Cell} (p : Read s n c i 21 μ y) w
         pub lam_within : 8 * y.c + 8 ≤ length u
         lam_within = held_within own_passed.output
 
-        pub lam_room : {g : Cell} → g ≡ cell_at u y.c → RoomFor u k y.b y.c g.c
+        pub lam_room : {g : Cell} → g ≡ cell_at u y.c → RoomFor u k (record { kind = 3; label = 0; a = y.b; b = y.c; c = g.c })
         unfolding size
         lam_room j =
             let z = own_passed in
@@ -131,14 +130,17 @@ module _ {s : List ℕ} {n c i μ : ℕ} {y : Cell} (p : Read s n c i 21 μ y) w
             record {
               long = z.same.long ∙ p.ready.long;
               room = r;
-              a_fits = omega (arith, z.of.input_below, z.more);
-              b_fits = omega (arith, z.of.output_below, z.more);
-              c_fits = rw (j, type_mark z.output) (omega (arith, mark_one v.output));
+              fits = record {
+                a = omega (arith, z.of.input_below, z.more);
+                b = omega (arith, z.of.output_below, z.more);
+                c = rw (j, type_mark z.output) (omega (arith, mark_one v.output));
+              };
             }
 
-        pub lam_found : {v : List ℕ} {g : Cell} {l : ℕ} → g ≡ cell_at u y.c → Adds u v k 3 0 y.b y.c g.c l → Finds s v n c i (Typed k l)
+        pub lam_found : {v : List ℕ} {g : Cell} {l r' : ℕ} → g ≡ cell_at u y.c →
+            Adds u v k l (record { kind = 3; label = 0; a = y.b; b = y.c; c = g.c }) r' → Finds s v n l c i (Ok r')
         unfolding size is_top_like
-        lam_found {l = l} j a =
+        lam_found j a =
             record {
               says = λ Γ d g h.
                   let z = passed g h in
@@ -146,14 +148,13 @@ module _ {s : List ℕ} {n c i μ : ℕ} {y : Cell} (p : Read s n c i 21 μ y) w
                   let q = ap size v.is in
                   let b : y.b < k = omega (arith, z.of.input_below, z.more) in
                   let o : y.c < k = omega (arith, z.of.output_below, z.more) in
-                  rw z.is (
+                  rw (z.is, a.answers, a.counts) (
                     k,
-                    l,
                     refl,
-                    omega (arith, z.more, a.counts),
-                    omega (arith, z.less, a.counts, size_positive v.input, size_positive v.output),
+                    omega (arith, z.more),
+                    omega (arith, z.less, size_positive v.input, size_positive v.output),
                     same_trans z.same a.same (omega (arith, z.more)),
-                    omega (arith, a.counts),
+                    omega arith,
                     h_arrow a.there (ap (λ (x : Cell). x.c) j ∙ type_mark z.output) b o (same_held a.same b z.input) (same_held a.same o z.output),
                   );
             }
@@ -177,8 +178,8 @@ module _ {s : List ℕ} {n c i μ : ℕ} {y : Cell} (p : Read s n c i 23 μ y) w
         room = omega (arith, fix_room);
       }
 
-  module _ {t : List ℕ} {m : ℕ} (w : Binds s t n y.b c m) where
-    pub fix_asks : (4 * y.a + 3 < μ) × ReadyFor t m n y.a y.b
+  module _ {t : List ℕ} {m o : ℕ} (w : Binds s t n m y.b c o) where
+    pub fix_asks : (3 * y.a + 2 < μ) × ReadyFor t m o y.a y.b
     fix_asks =
         let r = fix_room in
         let l = size_positive fix_own.type in (
@@ -191,7 +192,7 @@ module _ {s : List ℕ} {n c i μ : ℕ} {y : Cell} (p : Read s n c i 23 μ y) w
           },
         )
 
-    pub fix_finds : {u : List ℕ} {r : Found} → Checks t u m n y.a y.b r → Finds s u n c i r
+    pub fix_finds : {u : List ℕ} {k : ℕ} {r : Result ℕ Refusal} → Checks t u m k o y.a y.b r → Finds s u n k c i r
     unfolding infer size
     fix_finds f =
         record {
@@ -212,7 +213,8 @@ pub record AtBody (μ : ℕ) : Type 0 where
   pub t : List ℕ
   pub u : List ℕ
   pub m : ℕ
-  pub answer : Found
-  pub binds : Binds at.s t at.n at.y.b at.c m
-  pub checks : Checks t u m at.n at.y.a at.y.c answer
-  pub kept : length u ≡ length at.s
+  pub k : ℕ
+  pub o : ℕ
+  pub answer : Result ℕ Refusal
+  pub binds : Binds at.s t at.n m at.y.b at.c o
+  pub checks : Checks t u m k o at.y.a at.y.c answer

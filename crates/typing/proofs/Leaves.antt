@@ -4,23 +4,26 @@ use native.Mathlib.Omega.{arith}
 use native.Mathlib.Numerals.{sub-one}
 use mathlib.Core.Path.{◌≡◌, refl}
 use mathlib.Core.Bool.{Bool, true, false, ◌&&◌, cond}
-use mathlib.Core.Option.{Option, none, some}
+use mathlib.Core.Option as Math
+use mathlib.Core.Option.{none, some}
 use mathlib.Core.List.{List, [], ◌∷◌}
 use lib.ListN.{length, get_elem?}
 use lib.Seq.{sets}
+use Rattle.std.specs.Prelude.{Option, Some, None, Result, Ok, ok_or}
 use Rattle.calculus.specs.Syntax.{Ty, inter, Term, var, size}
 use Rattle.calculus.specs.Infer as Infer
 use Rattle.calculus.specs.Infer.{infer}
 use Rattle.calculus.specs.Decide.{is_top_like}
 use Rattle.format.specs.Cell.{Cell, cell_at, cell_bytes}
 use Rattle.format.specs.Book.{follow}
+use Rattle.answers.specs.declared.Refusal.{Refusal}
 use Rattle.answers.specs.declared.Refusal.TheVariants.{Unbound}
+use Rattle.cells.specs.declared.Cell as Code
+use Rattle.cells.specs.Coded.{as_cell, CellFits}
 use Rattle.cells.specs.Held.{mark, HoldsType, HoldsTerm, HoldsContext, h_empty, h_bind}
 use Rattle.cells.proofs.Makes.{h_int, h_top, h_inter}
 use Rattle.cells.proofs.Held.{same_held, same_context, same_refl, type_mark, mark_one, written, var_at, lit_at, unit_at}
-use Rattle.typing.specs.declared.Found.TheVariants.{Typed, Refused}
-use Rattle.typing.specs.declared.Bound.{Bound}
-use Rattle.typing.specs.declared.Bound.TheVariants.{At, Free}
+use Rattle.typing.specs.declared.TheConstants.{INT, TOP}
 use Rattle.typing.specs.Finding.{Answered, ReadyAt, Finds, BoundBy, ContextAt, Looks, RoomFor, Adds, BinderBelow, Binds, TypesBelow, AddsInter}
 
 -- ---- contexts
@@ -50,28 +53,30 @@ bind_at o (h_bind {A = A} {Γ = Γ} p a b h g) z =
 
 -- ---- a cell more
 
-pub adds : {s t : List ℕ} {n a b c : ℕ} (k l : ℕ) → RoomFor s n a b c → t ≡ sets s (8 * n) (cell_bytes (record { kind = k; label = l; a = a; b = b; c = c })) →
-    Adds s t n k l a b c (n + 1)
-adds k l p e =
+pub adds : {s t : List ℕ} {n : ℕ} (y : Code.Cell) → RoomFor s n y → t ≡ sets s (8 * n) (cell_bytes (as_cell y)) →
+    Adds s t n (n + 1) y n
+adds y p e =
     let w = written _ (omega (arith, p.long, p.room)) e in
-    record { counts = refl; same = w.same; there = w.there }
+    record { answers = refl; counts = refl; same = w.same; there = w.there }
 
 -- the cell of a binder, above all cells
-pub binds : {s t : List ℕ} {n a c r : ℕ} → BinderBelow s n a c → Adds s t n 0 0 a c 0 r → Binds s t n a c r
+pub binds : {s t : List ℕ} {n k a c r : ℕ} → BinderBelow s n a c → Adds s t n k (record { kind = 0; label = 0; a = a; b = c; c = 0 }) r →
+    Binds s t n k a c r
 binds p w =
     record {
+      answers = w.answers;
       counts = w.counts;
       same = w.same;
-      holds = λ A Γ h g. h_bind w.there p.type_below p.context_below (same_held w.same p.type_below h) (same_context w.same p.context_below g);
+      holds = λ A Γ h g. rw w.answers (h_bind w.there p.type_below p.context_below (same_held w.same p.type_below h) (same_context w.same p.context_below g));
     }
 
 -- ---- `lookup`
 
-pub looks_free : {s : List ℕ} {c k : ℕ} → c ≡ 0 → Looks s c k Free
+pub looks_free : {s : List ℕ} {c k : ℕ} → c ≡ 0 → Looks s c k None
 looks_free e = record { says = λ Γ h. rw (context_empty h e) refl }
 
 module _ {s : List ℕ} {c : ℕ} {y : Cell} (o : y ≡ cell_at s c) (z : ¬ (c ≡ 0)) where
-  pub looks_here : {k : ℕ} → k ≡ 0 → Looks s c k (At y.a)
+  pub looks_here : {k : ℕ} → k ≡ 0 → Looks s c k (Some y.a)
   looks_here e =
       record {
         says = λ Γ h.
@@ -84,10 +89,10 @@ module _ {s : List ℕ} {c : ℕ} {y : Cell} (o : y ≡ cell_at s c) (z : ¬ (c 
       let v = bind_at o p.holds z in
       (v.rest_lower, record { long = p.long; context = v.rest; holds = v.holds_rest })
 
-  pub looks_on : {r : Bound} {k : ℕ} → ¬ (k ≡ 0) → Looks s y.b (k - 1) r → Looks s c k r
+  pub looks_on : {r : Option ℕ} {k : ℕ} → ¬ (k ≡ 0) → Looks s y.b (k - 1) r → Looks s c k r
   looks_on {r} {k} e f = go k e (rw sub-one at f)
     where
-      lift : (b : ℕ) (o : Option Ty) → b < c → BoundBy s b r o → BoundBy s c r o
+      lift : (b : ℕ) (o : Math.Option Ty) → b < c → BoundBy s b r o → BoundBy s c r o
       lift b none l h = h
       lift b (some A) l h = (h.0, h.1, omega (arith, h.2), h.3)
 
@@ -106,40 +111,34 @@ module _ {s : List ℕ} {n c i : ℕ} {y : Cell} (p : ReadyAt s n c i 16) (o : y
   var_is : {e : Term} → HoldsTerm s i e → e ≡ var y.a
   var_is h = rw o (var_at h p.kind)
 
-  module _ {r : Bound} (f : Looks s c y.a r) where
-    pub var_free : r ≡ Free → Finds s s n c i (Refused (Unbound i))
-    unfolding infer Infer.lookup size follow
-    var_free e =
-        record { says = λ Γ d g h. rw (var_is h) (go (get_elem? Γ y.a) (f.says Γ g)) }
-      where
-        go : (w : Option Ty) → BoundBy s c r w → Answered s s n 1 i (Refused (Unbound i)) (Infer.lookup w)
-        go none b = (Unbound i, refl, refl)
-        go (some A) b = let z : ◌≡◌ {A = ℕ} 0 1 = cc b.1 in absurd (omega arith)
-
-    pub var_found : {x : ℕ} → r ≡ At x → Finds s s n c i (Typed x n)
-    unfolding infer Infer.lookup size
-    var_found {x} e =
-        record { says = λ Γ d g h. rw (var_is h) (go (get_elem? Γ y.a) (f.says Γ g)) }
-      where
-        go : (w : Option Ty) → BoundBy s c r w → Answered s s n 1 i (Typed x n) (Infer.lookup w)
-        go none b = let z : ◌≡◌ {A = ℕ} 0 1 = cc in absurd (omega arith)
-        go (some A) b =
-            let z : b.0 ≡ x = cc b.1 in
-            let l : x < c = rw (← z) b.2 in
-            (x, n, refl, omega arith, omega arith, same_refl s n, omega (arith, p.ready.context_below), rw (← z) b.3)
+  pub var_finds : {o : Option ℕ} {r : Result ℕ Refusal} → Looks s c y.a o → r ≡ ok_or o (Unbound i) → Finds s s n n c i r
+  unfolding infer Infer.lookup size follow
+  var_finds {o} f e =
+      record { says = λ Γ d g h. rw (var_is h, e) (go (get_elem? Γ y.a) (f.says Γ g)) }
+    where
+      go : (w : Math.Option Ty) → BoundBy s c o w → Answered s s n n 1 i (ok_or o (Unbound i)) (Infer.lookup w)
+      go none b = rw b (Unbound i, refl, refl)
+      go (some A) b =
+          rw b.1 (b.0, refl, omega arith, omega arith, same_refl s n, omega (arith, b.2, p.ready.context_below), b.3)
 
 -- ---- a number and the top value: a cell of their type
 
-module _ {s t : List ℕ} {n c i r : ℕ} where
-  pub lit_found : ReadyAt s n c i 17 → Adds s t n 1 0 0 0 0 r → Finds s t n c i (Typed n r)
+pub INT_fits : CellFits INT
+INT_fits = record { a = omega arith; b = omega arith; c = omega arith }
+
+pub TOP_fits : CellFits TOP
+TOP_fits = record { a = omega arith; b = omega arith; c = omega arith }
+
+module _ {s t : List ℕ} {n k c i r : ℕ} where
+  pub lit_found : ReadyAt s n c i 17 → Adds s t n k INT r → Finds s t n k c i (Ok r)
   unfolding infer size is_top_like
   lit_found p w =
-      record { says = λ Γ d g h. rw (lit_at h p.kind) (n, r, refl, omega (arith, w.counts), omega (arith, w.counts), w.same, omega (arith, w.counts), h_int w.there refl) }
+      record { says = λ Γ d g h. rw (lit_at h p.kind, w.answers, w.counts) (n, refl, omega arith, omega arith, w.same, omega arith, h_int w.there refl) }
 
-  pub unit_found : ReadyAt s n c i 18 → Adds s t n 2 0 0 0 1 r → Finds s t n c i (Typed n r)
+  pub unit_found : ReadyAt s n c i 18 → Adds s t n k TOP r → Finds s t n k c i (Ok r)
   unfolding infer size is_top_like
   unit_found p w =
-      record { says = λ Γ d g h. rw (unit_at h p.kind) (n, r, refl, omega (arith, w.counts), omega (arith, w.counts), w.same, omega (arith, w.counts), h_top w.there refl) }
+      record { says = λ Γ d g h. rw (unit_at h p.kind, w.answers, w.counts) (n, refl, omega arith, omega arith, w.same, omega arith, h_top w.there refl) }
 
 -- ---- the cell of an intersection
 
@@ -160,11 +159,13 @@ module _ {s : List ℕ} {n a b : ℕ} {x y : Cell} (p : TypesBelow s n a b) (o :
   pub inter_mark : x.c * y.c ≤ 1
   inter_mark = rw (mark_of p.types.holds_first p.types.holds_second) (mark_one (inter p.types.first p.types.second))
 
-  pub inter_adds : {t : List ℕ} {r : ℕ} → Adds s t n 4 0 a b (x.c * y.c) r → AddsInter s t n a b (Typed n r)
+  pub inter_adds : {t : List ℕ} {k r : ℕ} → Adds s t n k (record { kind = 4; label = 0; a = a; b = b; c = x.c * y.c }) r → AddsInter s t n k a b r
   inter_adds w =
       record {
-        answers = rw w.counts;
+        answers = w.answers;
+        counts = w.counts;
         same = w.same;
         holds = λ A B g h.
-            h_inter w.there (mark_of g h) p.first_below p.second_below (same_held w.same p.first_below g) (same_held w.same p.second_below h);
+            rw w.answers
+            (h_inter w.there (mark_of g h) p.first_below p.second_below (same_held w.same p.first_below g) (same_held w.same p.second_below h));
       }

@@ -1,9 +1,10 @@
 -- Merge: both halves' types, whether they may stand together, and their intersection. Assumes nothing.
-use Prim.Native.Nat.{ℕ, ◌+◌, ◌<◌}
+use Prim.Native.Nat.{ℕ, ◌<◌}
 use native.Mathlib.Omega.{arith}
 use mathlib.Core.Path.{◌≡◌, refl, ◌∙◌}
 use mathlib.Core.Bool.{Bool, true, false}
 use mathlib.Core.List.{List}
+use Rattle.std.specs.Prelude.{Result, Ok, Err}
 use Rattle.calculus.specs.Syntax.{Ty, Term, size}
 use Rattle.calculus.specs.Infer.{is_mergeable, merged, infer}
 use Rattle.format.specs.Cell.{Cell}
@@ -13,29 +14,27 @@ use Rattle.answers.specs.declared.Refusal.TheVariants.{Merge}
 use Rattle.cells.specs.Held.{HoldsType, HoldsTerm, HoldsContext, Same}
 use Rattle.cells.proofs.Held.{same_held, same_trans}
 use Rattle.decisions.specs.Questions.{HalvesAt, HalvesSay}
-use Rattle.typing.specs.declared.Found.{Found}
-use Rattle.typing.specs.declared.Found.TheVariants.{Refused}
 use Rattle.typing.specs.Finding.{Finds, TypesBelow, AddsInter}
 use Rattle.typing.proofs.Answers.{finding, IsFound, typed, refused_by, handed}
 use Rattle.typing.proofs.FirstParts.{merge_sides, Known, known, AtLeft}
 use Rattle.typing.proofs.Parts.{Read, FoundAt}
 
-module _ {s u v : List ℕ} {n c i x k μ : ℕ} {y : Cell} (p : Read s n c i 22 μ y) (f : FoundAt s u n c y.a x k) where
-  pub merge_right_refused : {r' : Found} {q : Refusal} → Finds u v k c y.b r' → r' ≡ Refused q → Finds s v n c i r'
+module _ {s u v : List ℕ} {n k c i x μ : ℕ} {y : Cell} (p : Read s n c i 22 μ y) (f : FoundAt s u n k c y.a x) where
+  pub merge_right_refused : {k' : ℕ} {r' : Result ℕ Refusal} {q : Refusal} → Finds u v k k' c y.b r' → r' ≡ Err q → Finds s v n k' c i (Err q)
   unfolding infer merged
   merge_right_refused f' e' =
       record {
         says = λ Γ d g h.
             let z = known merge_sides p f g h in
             let b = refused_by (finding f' z.context z.right) e' in
-            rw (z.sides.is, z.left.is, b.is) (handed z.sides.right.leads p.ready.term_below z.left.same e' b);
+            rw (z.sides.is, z.left.is, b.is) (handed z.sides.right.leads p.ready.term_below z.left.same b);
       }
 
-  module _ {x' k' : ℕ} (f' : FoundAt u v k c y.b x' k') where
+  module _ {k' x' : ℕ} (f' : FoundAt u v k k' c y.b x') where
     -- both halves' types, of whatever context and term the cells hold
     record Both (Γ : List Ty) (d : Term) : Type 0 where
       of : Known merge_sides p f Γ d
-      second : IsFound u v k (size of.sides.second) x' k' (infer Γ of.sides.second)
+      second : IsFound u v k k' (size of.sides.second) x' (infer Γ of.sides.second)
       same : Same s v n
       left_below : y.a < n
       right_below : y.b < n
@@ -92,7 +91,7 @@ module _ {s u v : List ℕ} {n c i x k μ : ℕ} {y : Cell} (p : Read s n c i 22
           z.holds
           z.second.holds
 
-      pub merge_conflict : b ≡ false → Finds s v n c i (Refused (Merge i))
+      pub merge_conflict : b ≡ false → Finds s v n k' c i (Err (Merge i))
       unfolding infer merged follow
       merge_conflict j =
           record {
@@ -101,20 +100,19 @@ module _ {s u v : List ℕ} {n c i x k μ : ℕ} {y : Cell} (p : Read s n c i 22
                 rw (z.of.sides.is, z.of.left.is, z.second.is, ← say z, j) (Merge i, refl, refl);
           }
 
-      pub merge_found : {w : List ℕ} {a : Found} → b ≡ true → AddsInter v w k' x x' a → Finds s w n c i a
+      pub merge_found : {w : List ℕ} {l r : ℕ} → b ≡ true → AddsInter v w k' l x x' r → Finds s w n l c i (Ok r)
       unfolding infer merged size
       merge_found j a =
           record {
             says = λ Γ d g h.
                 let z = both g h in
-                rw (z.of.sides.is, z.of.left.is, z.second.is, ← say z, j) (
-                  k',
-                  k' + 1,
-                  a.answers,
+                rw (z.of.sides.is, z.of.left.is, z.second.is, ← say z, j, a.counts) (
+                  _,
+                  refl,
                   omega (arith, z.of.left.more, z.second.more),
                   omega (arith, z.of.left.less, z.second.less),
                   same_trans z.same a.same (omega (arith, z.of.left.more, z.second.more)),
-                  omega arith,
+                  omega (arith, a.answers),
                   a.holds z.of.left.type z.second.type z.holds z.second.holds,
                 );
           }
@@ -123,6 +121,6 @@ module _ {s u v : List ℕ} {n c i x k μ : ℕ} {y : Cell} (p : Read s n c i 22
 pub record AtBoth (μ : ℕ) : Type 0 where
   pub at : AtLeft 22 μ
   pub v : List ℕ
-  pub x : ℕ
   pub m : ℕ
-  pub right : FoundAt at.u v at.m at.at.c at.at.y.b x m
+  pub x : ℕ
+  pub right : FoundAt at.u v at.m m at.at.c at.at.y.b x

@@ -3,10 +3,10 @@
 use Prim.Native.Nat.{ℕ, zero, suc, ◌+◌, ◌*◌, ◌≤◌, ◌<◌}
 use native.Mathlib.Omega.{arith}
 use mathlib.Core.Path.{◌≡◌, refl, ◌∙◌}
-use mathlib.Core.Logic.{◌⊎◌, inl, inr, ⊎_elim}
 use mathlib.Core.List.{List, ◌∷◌}
 use mathlib.Core.Option.{some}
-use lib.ListN.{length}
+use Rattle.std.specs.Prelude.{Result, Ok}
+use Rattle.answers.specs.declared.Refusal.{Refusal}
 use Rattle.calculus.specs.Syntax.{Ty, top, arrow, field}
 use Rattle.calculus.specs.Syntax.{Term, anno, app, lam, merge, fix, rcd, proj, size}
 use Rattle.calculus.specs.Infer.{infer}
@@ -14,12 +14,12 @@ use Rattle.format.specs.declared.Version.TheVariants.{Two as Version-as-Two}
 use Rattle.format.specs.Table.{term_sort, refers, Row, table, row_in, row_for, row_of}
 use Rattle.format.specs.Cell.{Cell, cell_at}
 use Rattle.format.proofs.Trees.{term_cells, term_positive}
+use Rattle.cells.specs.declared.Cell as Code
+use Rattle.cells.specs.Coded.{CellFits}
 use Rattle.cells.specs.Held.{HoldsType, HoldsTerm, Same}
 use Rattle.cells.proofs.Held.{TermAndType, TwoTerms, OneTerm, held_kinds, top_at, arrow_at, field_at, anno_at, app_at, lam_at, merge_at, fix_at, rcd_at, proj_at}
 use Rattle.cells.proofs.Held.{same_held, same_context}
-use Rattle.typing.specs.declared.Found.{Found}
-use Rattle.typing.specs.declared.Found.TheVariants.{Typed}
-use Rattle.typing.specs.Finding.{FindReady, ReadyAt, ReadyTwo, Finds, Binds}
+use Rattle.typing.specs.Finding.{FindReady, ReadyAt, Finds, RoomFor, Binds}
 use Rattle.typing.proofs.Paths.{Leads, leads}
 use Rattle.typing.proofs.Answers.{finding, IsFound, typed}
 
@@ -190,14 +190,14 @@ ready_part {e = e} r p q l k =
     }
 
 -- The body of a function or a fixpoint is ready under it.
-pub ready_body : {s t : List ℕ} {n m a c i f j : ℕ} {A : Ty} {e : Term} → FindReady s n c i → Part s i f j e →
-    Binds s t n a c m → HoldsType s a A → n + 1 + size e ≤ 8192 → FindReady t m n j
+pub ready_body : {s t : List ℕ} {n m k a c i f j : ℕ} {A : Ty} {e : Term} → FindReady s n c i → Part s i f j e →
+    Binds s t n m a c k → HoldsType s a A → n + 1 + size e ≤ 8192 → FindReady t m k j
 ready_body {A = A} {e = e} r p w h k =
     record {
       long = w.same.long ∙ r.long;
       context = A ∷ r.context;
       holds_context = w.holds A r.context h r.holds_context;
-      context_below = omega (arith, w.counts);
+      context_below = omega (arith, w.answers, w.counts);
       term = e;
       holds_term = same_held w.same (omega (arith, p.leads.lower, r.term_below)) p.holds;
       term_below = omega (arith, w.counts, p.leads.lower, r.term_below);
@@ -205,13 +205,16 @@ ready_body {A = A} {e = e} r p w h k =
     }
 
 -- What was found at a cell that was ready.
-pub found : {s u : List ℕ} {n c i x k : ℕ} {r : Found} → (p : FindReady s n c i) → Finds s u n c i r → r ≡ Typed x k →
-    IsFound s u n (size p.term) x k (infer p.context p.term)
+pub found : {s u : List ℕ} {n k c i x : ℕ} {r : Result ℕ Refusal} → (p : FindReady s n c i) → Finds s u n k c i r → r ≡ Ok x →
+    IsFound s u n k (size p.term) x (infer p.context p.term)
 found p f e = typed (finding f p.holds_context p.holds_term) e
 
 -- There is room for a cell.
-pub room_one : {s : List ℕ} {n c i : ℕ} → FindReady s n c i → n < 8192
+room_one : {s : List ℕ} {n c i : ℕ} → FindReady s n c i → n < 8192
 room_one p = omega (arith, p.room, size_one p.term)
+
+pub room_for : {s : List ℕ} {n c i : ℕ} {y : Code.Cell} → FindReady s n c i → CellFits y → RoomFor s n y
+room_for p f = record { long = p.long; room = room_one p; fits = f }
 
 -- The kind that was read, of a cell that is ready.
 pub at_kind : {s : List ℕ} {n c i k : ℕ} {y : Cell} → FindReady s n c i → y ≡ cell_at s i → y.kind ≡ k → ReadyAt s n c i k
@@ -229,48 +232,22 @@ none_of k m (suc n) h r = let b = none_of k m n h r.0 in omega (arith, r.1)
 exactly : {k : ℕ} → (16 ≤ k) × (k ≤ 27) → 27 ≤ k → k ≡ 27
 exactly b l = omega arith
 
--- k is none of the kinds below a choice's, as finding tests them
-abbrev pub NoneBelow : ℕ → Type 0
-NoneBelow k = (((((NoneOf k 16 4 × ¬ ((k ≡ 20) ⊎ (k ≡ 22))) × ¬ (k ≡ 21)) × ¬ (k ≡ 23)) × ¬ (k ≡ 24)) × ¬ (k ≡ 25)) × ¬ (k ≡ 26)
-
 -- A term of none of the other kinds is a choice.
-pub at_last : {s : List ℕ} {n c i : ℕ} {y : Cell} → FindReady s n c i → y ≡ cell_at s i → NoneBelow y.kind → ReadyAt s n c i 27
+pub at_last : {s : List ℕ} {n c i : ℕ} {y : Cell} → FindReady s n c i → y ≡ cell_at s i → NoneOf y.kind 16 11 → ReadyAt s n c i 27
 at_last {y = y} p o r =
     let b : (16 ≤ y.kind) × (y.kind ≤ 27) = rw o (held_kinds p.holds_term) in
-    let q = r.0.0 in
-    let u : y.kind ≡ 20 → ⊥ = λ e. q.0.0.0.1 (inl e) in
-    let v : y.kind ≡ 22 → ⊥ = λ e. q.0.0.0.1 (inr e) in
-    let l : 27 ≤ y.kind = none_of y.kind 16 11 b.0 (((((((q.0.0.0.0, u), q.0.0.1), v), q.0.1), q.1), r.0.1), r.1) in
-    at_kind p o (exactly b l)
-
--- A term of one of two kinds, and of the second where it is not of the first.
-pub at_two : {s : List ℕ} {n c i : ℕ} {y : Cell} → FindReady s n c i → y ≡ cell_at s i → (y.kind ≡ 20) ⊎ (y.kind ≡ 22) → ReadyTwo s n c i
-at_two p o e = record { ready = p; kinds = rw o at e }
-
-pub at_second : {s : List ℕ} {n c i : ℕ} {y : Cell} → ReadyTwo s n c i → y ≡ cell_at s i → (y.kind ≡ 20 → ⊥) → ReadyAt s n c i 22
-at_second p o u = record { ready = p.ready; kind = ⊎_elim (λ e. absurd ((rw o at u) e)) (λ e. e) p.kinds }
+    at_kind p o (exactly b (none_of y.kind 16 11 b.0 r))
 
 -- ---- what is known at a point of the code
-
--- A term is ready at cell i, which was read as y; the measure, with mode m, is μ.
-pub record AtTerm (m μ : ℕ) : Type 0 where
-  pub s : List ℕ
-  pub n : ℕ
-  pub c : ℕ
-  pub i : ℕ
-  pub y : Cell
-  pub ready : FindReady s n c i
-  pub cell : y ≡ cell_at s i
-  pub measure : 4 * i + m ≡ μ
 
 -- A term of kind k is ready at cell i, which was read as y; the measure of its arm is μ.
 pub record Read (s : List ℕ) (n c i k μ : ℕ) (y : Cell) : Type 0 where
   pub ready : FindReady s n c i
   pub kind : (cell_at s i).kind ≡ k
   pub cell : y ≡ cell_at s i
-  pub measure : 4 * i ≡ μ
+  pub measure : 3 * i ≡ μ
 
-pub as_read : {s : List ℕ} {n c i k μ : ℕ} {y : Cell} → ReadyAt s n c i k → 4 * i ≡ μ → y ≡ cell_at s i → Read s n c i k μ y
+pub as_read : {s : List ℕ} {n c i k μ : ℕ} {y : Cell} → ReadyAt s n c i k → 3 * i ≡ μ → y ≡ cell_at s i → Read s n c i k μ y
 as_read p m o = record { ready = p.ready; kind = p.kind; cell = o; measure = m }
 
 -- The same, at some cell of some buffer.
@@ -285,9 +262,8 @@ pub record AtCell (k μ : ℕ) : Type 0 where
 abbrev pub at_cell : {s : List ℕ} {n c i k μ : ℕ} {y : Cell} → Read s n c i k μ y → AtCell k μ
 at_cell {s} {n} {c} {i} {y = y} p = record { s = s; n = n; c = c; i = i; y = y; read = p }
 
--- The term at cell j was asked for its type, which is at cell x, with k cells used.
-pub record FoundAt (s u : List ℕ) (n c j x k : ℕ) : Type 0 where
-  pub answer : Found
-  pub finds : Finds s u n c j answer
-  pub is : answer ≡ Typed x k
-  pub kept : length u ≡ length s
+-- The term at cell j was asked for its type, which is at cell x, of k that are used then.
+pub record FoundAt (s u : List ℕ) (n k c j x : ℕ) : Type 0 where
+  pub answer : Result ℕ Refusal
+  pub finds : Finds s u n k c j answer
+  pub is : answer ≡ Ok x

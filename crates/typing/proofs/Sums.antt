@@ -4,6 +4,7 @@ use Prim.Native.Nat.{ℕ, suc, ◌+◌, ◌*◌, ◌≤◌, ◌<◌}
 use native.Mathlib.Omega.{arith}
 use mathlib.Core.Path.{◌≡◌, refl, ◌∙◌, ap}
 use mathlib.Core.List.{List}
+use Rattle.std.specs.Prelude.{Result, Ok, Err}
 use Rattle.calculus.specs.Syntax.{Ty, int, Term, size}
 use Rattle.calculus.specs.Infer as Infer
 use Rattle.calculus.specs.Infer.{checked, infer}
@@ -15,8 +16,7 @@ use Rattle.answers.specs.declared.Refusal.{Refusal}
 use Rattle.cells.specs.Held.{HoldsType, HoldsTerm, HoldsContext, Same}
 use Rattle.cells.proofs.Makes.{h_int}
 use Rattle.cells.proofs.Held.{sum_at, choice_at, same_held, same_context, same_trans}
-use Rattle.typing.specs.declared.Found.{Found}
-use Rattle.typing.specs.declared.Found.TheVariants.{Typed, Refused}
+use Rattle.typing.specs.declared.TheConstants.{INT}
 use Rattle.typing.specs.Finding.{Finds, ReadyFor, checked_here, Checks, Adds}
 use Rattle.typing.proofs.Paths.{leads}
 use Rattle.typing.proofs.Answers.{Answer, checking, typed, refused_by, handed, carried, checked_carried}
@@ -38,11 +38,12 @@ pub record Remaining (s : List ℕ) (n m i : ℕ) (y : Cell) (f w : ℕ) (Γ : L
   pub is : infer Γ d ≡ finds
   pub room : m + cells ≤ n + size d
 
--- The part at field f comes next: those before it passed. The buffer is t, with m cells used, of which the first that was added holds Int.
-pub record Turn {k μ : ℕ} (p : AtCell k μ) (t : List ℕ) (m f w : ℕ) : Type 0 where
+-- The part at field f comes next: those before it passed. The buffer is t, with m cells used; cell j holds Int.
+pub record Turn {k μ : ℕ} (p : AtCell k μ) (t : List ℕ) (j m f w : ℕ) : Type 0 where
   pub same : Same p.s t p.n
-  pub more : p.n < m
-  pub wanted : HoldsType t p.n int
+  pub more : p.n ≤ m
+  pub wanted : HoldsType t j int
+  pub wanted_below : j < m
   pub remains : {Γ : List Ty} {d : Term} → HoldsContext p.s p.c Γ → HoldsTerm p.s p.i d → Remaining p.s p.n m p.i p.y f w Γ d
 
 -- ---- the first part
@@ -81,19 +82,21 @@ all_parts {Γ = Γ} choice_parts o k h =
       room = omega (arith, ap size v.is);
     })
 
-pub first_turn : {k w μ m : ℕ} {t : List ℕ} {p : AtCell k μ} → Summed k w → Adds p.s t p.n 1 0 0 0 0 m → Turn p t m 0 w
+pub first_turn : {k w μ m j : ℕ} {t : List ℕ} {p : AtCell k μ} → Summed k w → Adds p.s t p.n m INT j → Turn p t j m 0 w
 unfolding is_top_like
 first_turn {p = p} b a =
-    record {
+    rw (a.answers, a.counts)
+    (record {
       same = a.same;
-      more = omega (arith, a.counts);
+      more = omega arith;
       wanted = h_int a.there refl;
-      remains = λ g h. rw a.counts (all_parts b p.read.cell p.read.kind h);
-    }
+      wanted_below = omega arith;
+      remains = λ g h. all_parts b p.read.cell p.read.kind h;
+    })
 
 -- ---- a part in its turn
 
-module _ {k μ m f w : ℕ} {t : List ℕ} {p : AtCell k μ} (q : Turn p t m f (suc w)) where
+module _ {k μ j m f w : ℕ} {t : List ℕ} {p : AtCell k μ} (q : Turn p t j m f (suc w)) where
   -- of whatever context and term the cells hold
   record Here (Γ : List Ty) (d : Term) : Type 0 where
     term : Term
@@ -114,43 +117,44 @@ module _ {k μ m f w : ℕ} {t : List ℕ} {p : AtCell k μ} (q : Turn p t m f (
   own : Here p.read.ready.context p.read.ready.term
   own = here p.read.ready.holds_context p.read.ready.holds_term
 
-  pub part_asks : (4 * field_in p.y f + 3 < μ) × ReadyFor t m p.c (field_in p.y f) p.n
+  pub part_asks : (3 * field_in p.y f + 2 < μ) × ReadyFor t m p.c (field_in p.y f) j
   part_asks =
       let r = p.read.ready in
       let v = own in (
         omega (arith, v.part.leads.lower, p.read.measure),
         record {
-          ready = ready_part r v.part q.same (omega (arith, q.more)) (omega (arith, v.room, r.room));
+          ready = ready_part r v.part q.same q.more (omega (arith, v.room, r.room));
           wanted = int;
           holds_wanted = q.wanted;
-          wanted_below = q.more;
+          wanted_below = q.wanted_below;
         },
       )
 
-  module _ {u : List ℕ} {r : Found} (a : Checks t u m p.c (field_in p.y f) p.n r) where
+  module _ {u : List ℕ} {l : ℕ} {r : Result ℕ Refusal} (a : Checks t u m l p.c (field_in p.y f) j r) where
     answer : {Γ : List Ty} {d : Term} → HoldsContext p.s p.c Γ → (v : Here Γ d) →
-        Answer t u m (size v.term) (field_in p.y f) r (checked_here (infer Γ v.term) int)
+        Answer t u m l (size v.term) (field_in p.y f) r (checked_here (infer Γ v.term) int)
     answer g v =
         let r = p.read.ready in
         let b : field_in p.y f < p.n = omega (arith, v.part.leads.lower, r.term_below) in
         checking a (same_context q.same r.context_below g) (same_held q.same b v.part.holds) q.wanted
 
-    pub part_refused : {e : Refusal} → r ≡ Refused e → Finds p.s u p.n p.c p.i r
+    pub part_refused : {e : Refusal} → r ≡ Err e → Finds p.s u p.n l p.c p.i (Err e)
     part_refused o =
         record {
           says = λ Γ d g h.
               let v = here g h in
               let z = refused_by (answer g v) o in
-              rw (v.is, z.is) (handed v.part.leads p.read.ready.term_below q.same o z);
+              rw (v.is, z.is) (handed v.part.leads p.read.ready.term_below q.same z);
         }
 
-    pub next_turn : {x l : ℕ} → r ≡ Typed x l → Turn p u l (suc f) w
+    pub next_turn : {x : ℕ} → r ≡ Ok x → Turn p u j l (suc f) w
     next_turn o =
         let b = typed (answer p.read.ready.holds_context own) o in
         record {
-          same = same_trans q.same b.same (omega (arith, q.more));
+          same = same_trans q.same b.same q.more;
           more = omega (arith, q.more, b.more);
-          wanted = same_held b.same q.more q.wanted;
+          wanted = same_held b.same q.wanted_below q.wanted;
+          wanted_below = omega (arith, q.wanted_below, b.more);
           remains = λ g h.
               let v = here g h in
               let z = typed (answer g v) o in
@@ -161,14 +165,14 @@ all_done : {s : List ℕ} {i f z : ℕ} {y : Cell} {Γ : List Ty} {S : Infer.Fou
 all_done done = refl
 
 -- The last part's answer is the whole's.
-pub part_last : {k μ m f : ℕ} {t u : List ℕ} {r : Found} {p : AtCell k μ} → Turn p t m f 1 → Checks t u m p.c (field_in p.y f) p.n r →
-    Finds p.s u p.n p.c p.i r
+pub part_last : {k μ j m l f : ℕ} {t u : List ℕ} {r : Result ℕ Refusal} {p : AtCell k μ} → Turn p t j m f 1 → Checks t u m l p.c (field_in p.y f) j r →
+    Finds p.s u p.n l p.c p.i r
 part_last {p = p} q a =
     record {
       says = λ Γ d g h.
           let v = here q g h in
           rw (v.is, all_done v.after)
-          (carried_on (infer Γ v.term) int (size d) v.part.leads p.read.ready.term_below q.same (omega (arith, q.more)) (omega (arith, v.room))
+          (carried_on (infer Γ v.term) int (size d) v.part.leads p.read.ready.term_below q.same q.more (omega (arith, v.room))
           (answer q a g v));
     }
 
@@ -177,12 +181,13 @@ part_last {p = p} q a =
 pub record AtPart (k μ f w : ℕ) : Type 0 where
   pub at : AtCell k μ
   pub t : List ℕ
+  pub j : ℕ
   pub m : ℕ
-  pub turn : Turn at t m f w
+  pub turn : Turn at t j m f w
 
-abbrev pub first_part : {k w μ m : ℕ} {t : List ℕ} → Summed k w → (p : AtCell k μ) → Adds p.s t p.n 1 0 0 0 0 m → AtPart k μ 0 w
-first_part {m = m} {t = t} b p a = record { at = p; t = t; m = m; turn = first_turn b a }
+abbrev pub first_part : {k w μ m j : ℕ} {t : List ℕ} → Summed k w → (p : AtCell k μ) → Adds p.s t p.n m INT j → AtPart k μ 0 w
+first_part {m = m} {j = j} {t = t} b p a = record { at = p; t = t; j = j; m = m; turn = first_turn b a }
 
-abbrev pub next_part : {k μ f w x m : ℕ} {u : List ℕ} {r : Found} (p : AtPart k μ f (suc w)) →
-    Checks p.t u p.m p.at.c (field_in p.at.y f) p.at.n r → r ≡ Typed x m → AtPart k μ (suc f) w
-next_part {m = m} {u = u} p a o = record { at = p.at; t = u; m = m; turn = next_turn p.turn a o }
+abbrev pub next_part : {k μ f w x l : ℕ} {u : List ℕ} {r : Result ℕ Refusal} (p : AtPart k μ f (suc w)) →
+    Checks p.t u p.m l p.at.c (field_in p.at.y f) p.j r → r ≡ Ok x → AtPart k μ (suc f) w
+next_part {l = l} {u = u} p a o = record { at = p.at; t = u; j = p.j; m = l; turn = next_turn p.turn a o }

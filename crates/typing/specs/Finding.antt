@@ -1,8 +1,9 @@
 -- Finding and checking over a buffer: what a call needs, and what it answers and leaves. The buffer's first n cells stay as they were;
 -- types found are cells, never copies. Of the cells above, and of the buffer after a refusal, nothing is decided but what stands here.
 -- Assumes nothing.
-use Rattle.std.specs.Prelude.{ℕ, ◌+◌, ◌≤◌, ◌<◌, ◌≡◌, cond, ◌⊎◌, List, [], ◌∷◌, length}
-use Rattle.std.proofs.Math.Option.{Option, none, some}
+use Rattle.std.specs.Prelude.{ℕ, ◌+◌, ◌≤◌, ◌<◌, ◌≡◌, cond, List, [], ◌∷◌, length, Option, Some, None, Result, Ok, Err}
+use Rattle.std.proofs.Math.Option as Math
+use Rattle.std.proofs.Math.Option.{none, some}
 use Rattle.std.proofs.Math.ListN.{get_elem?}
 use Rattle.calculus.specs.Syntax.{Ty, inter, Term, size}
 use Rattle.calculus.specs.Infer as Infer
@@ -13,13 +14,11 @@ use Rattle.format.specs.Book.{follow}
 use Rattle.answers.specs.Answer.{refused, reason_number}
 use Rattle.answers.specs.Cases.{refusal_answer}
 use Rattle.answers.specs.declared.Refusal.{Refusal}
+use Rattle.cells.specs.declared.Cell.{Cell}
+use Rattle.cells.specs.Coded.{CellFits}
 use Rattle.cells.specs.Held.{IsCell, HoldsType, HoldsTerm, HoldsContext, Same}
 use Rattle.decisions.specs.Questions.{TypesAt}
 use Rattle.projection.specs.Parts.{TypeAt}
-use Rattle.typing.specs.declared.Found.{Found}
-use Rattle.typing.specs.declared.Found.TheVariants.{Typed, Refused}
-use Rattle.typing.specs.declared.Bound.{Bound}
-use Rattle.typing.specs.declared.Bound.TheVariants.{At, Free}
 
 -- A buffer of 8,192 cells, of which n are used: a context, a term, and room for a cell for each cell of the term.
 pub record FindReady (s : List ℕ) (n c i : ℕ) : Type 0 where
@@ -37,21 +36,16 @@ pub record ReadyAt (s : List ℕ) (n c i k : ℕ) : Type 0 where
   pub ready : FindReady s n c i
   pub kind : (cell_at s i).kind ≡ k
 
--- The same, at an application or a merge.
-pub record ReadyTwo (s : List ℕ) (n c i : ℕ) : Type 0 where
-  pub ready : FindReady s n c i
-  pub kinds : ((cell_at s i).kind ≡ 20) ⊎ ((cell_at s i).kind ≡ 22)
-
--- What is answered for a found type or a refusal: a cell that holds the type, at most m cells added; or the refusal, at the cell that
--- the path leads to.
-abbrev pub Answered : (s t : List ℕ) (n m i : ℕ) → Found → Infer.Found → Type 0
-Answered s t n m i r (Infer.found A) =
-    (c : ℕ) × (k : ℕ) × (r ≡ Typed c k) × (n ≤ k) × (k ≤ n + m) × Same s t n × (c < k) × HoldsType t c A
-Answered s t n m i r (Infer.refused w p) = (q : Refusal) × (r ≡ Refused q) × (refusal_answer q ≡ refused (reason_number w) (follow s i p))
+-- What is answered for a found type or a refusal: a cell that holds the type, of k that are used then, at most m of them added; or the
+-- refusal, at the cell that the path leads to.
+abbrev pub Answered : (s t : List ℕ) (n k m i : ℕ) → Result ℕ Refusal → Infer.Found → Type 0
+Answered s t n k m i r (Infer.found A) =
+    (c : ℕ) × (r ≡ Ok c) × (n ≤ k) × (k ≤ n + m) × Same s t n × (c < k) × HoldsType t c A
+Answered s t n k m i r (Infer.refused w p) = (q : Refusal) × (r ≡ Err q) × (refusal_answer q ≡ refused (reason_number w) (follow s i p))
 
 -- Finding: what infer says of the term in the context.
-pub record Finds (s t : List ℕ) (n c i : ℕ) (r : Found) : Type 0 where
-  pub says : (Γ : List Ty) (e : Term) → HoldsContext s c Γ → HoldsTerm s i e → Answered s t n (size e) i r (infer Γ e)
+pub record Finds (s t : List ℕ) (n k c i : ℕ) (r : Result ℕ Refusal) : Type 0 where
+  pub says : (Γ : List Ty) (e : Term) → HoldsContext s c Γ → HoldsTerm s i e → Answered s t n k (size e) i r (infer Γ e)
 
 -- For checking, also a wanted type.
 pub record ReadyFor (s : List ℕ) (n c i w : ℕ) : Type 0 where
@@ -66,9 +60,9 @@ checked_here (Infer.found C) A = cond (is_below C A) (Infer.found A) (Infer.refu
 checked_here (Infer.refused r p) A = Infer.refused r p
 
 -- Checking: what infer says of the term, checked against the wanted type.
-pub record Checks (s t : List ℕ) (n c i w : ℕ) (r : Found) : Type 0 where
+pub record Checks (s t : List ℕ) (n k c i w : ℕ) (r : Result ℕ Refusal) : Type 0 where
   pub says : (Γ : List Ty) (e : Term) (A : Ty) → HoldsContext s c Γ → HoldsTerm s i e → HoldsType s w A →
-      Answered s t n (size e) i r (checked_here (infer Γ e) A)
+      Answered s t n k (size e) i r (checked_here (infer Γ e) A)
 
 -- Looking a variable up: the cell of its binder's type, or none.
 pub record ContextAt (s : List ℕ) (c : ℕ) : Type 0 where
@@ -77,27 +71,26 @@ pub record ContextAt (s : List ℕ) (c : ℕ) : Type 0 where
   pub holds : HoldsContext s c context
 
 -- A cell below c that holds the type; or none: the variable is free.
-abbrev pub BoundBy : (s : List ℕ) (c : ℕ) → Bound → Option Ty → Type 0
-BoundBy s c r none = r ≡ Free
-BoundBy s c r (some A) = (t : ℕ) × (r ≡ At t) × (t < c) × HoldsType s t A
+abbrev pub BoundBy : (s : List ℕ) (c : ℕ) → Option ℕ → Math.Option Ty → Type 0
+BoundBy s c r none = r ≡ None
+BoundBy s c r (some A) = (t : ℕ) × (r ≡ Some t) × (t < c) × HoldsType s t A
 
 -- The answer for the variable that skips k binders.
-pub record Looks (s : List ℕ) (c k : ℕ) (r : Bound) : Type 0 where
+pub record Looks (s : List ℕ) (c k : ℕ) (r : Option ℕ) : Type 0 where
   pub says : (Γ : List Ty) → HoldsContext s c Γ → BoundBy s c r (get_elem? Γ k)
 
--- Room for a cell of these fields.
-pub record RoomFor (s : List ℕ) (n a b c : ℕ) : Type 0 where
+-- Room for the cell.
+pub record RoomFor (s : List ℕ) (n : ℕ) (y : Cell) : Type 0 where
   pub long : length s ≡ 65536
   pub room : n < 8192
-  pub a_fits : a < 65536
-  pub b_fits : b < 65536
-  pub c_fits : c < 65536
+  pub fits : CellFits y
 
--- The cell, at n; r cells are used then.
-pub record Adds (s t : List ℕ) (n k l a b c r : ℕ) : Type 0 where
-  pub counts : r ≡ n + 1
+-- The cell, at n; k cells are used then.
+pub record Adds (s t : List ℕ) (n k : ℕ) (y : Cell) (r : ℕ) : Type 0 where
+  pub answers : r ≡ n
+  pub counts : k ≡ n + 1
   pub same : Same s t n
-  pub there : IsCell t n k l a b c
+  pub there : IsCell t n y.kind y.label y.a y.b y.c
 
 -- A type and a context below n, and room for a cell.
 pub record BinderBelow (s : List ℕ) (n a c : ℕ) : Type 0 where
@@ -106,11 +99,12 @@ pub record BinderBelow (s : List ℕ) (n a c : ℕ) : Type 0 where
   pub context_below : c < n
   pub room : n < 8192
 
--- One binder more, in cell n; r cells are used then.
-pub record Binds (s t : List ℕ) (n a c r : ℕ) : Type 0 where
-  pub counts : r ≡ n + 1
+-- One binder more, in cell n; k cells are used then.
+pub record Binds (s t : List ℕ) (n k a c r : ℕ) : Type 0 where
+  pub answers : r ≡ n
+  pub counts : k ≡ n + 1
   pub same : Same s t n
-  pub holds : (A : Ty) (Γ : List Ty) → HoldsType s a A → HoldsContext s c Γ → HoldsContext t n (A ∷ Γ)
+  pub holds : (A : Ty) (Γ : List Ty) → HoldsType s a A → HoldsContext s c Γ → HoldsContext t r (A ∷ Γ)
 
 -- Two types below n, and room for a cell.
 pub record TypesBelow (s : List ℕ) (n a b : ℕ) : Type 0 where
@@ -120,11 +114,12 @@ pub record TypesBelow (s : List ℕ) (n a b : ℕ) : Type 0 where
   pub second_below : b < n
   pub room : n < 8192
 
--- The intersection, in cell n.
-pub record AddsInter (s t : List ℕ) (n a b : ℕ) (r : Found) : Type 0 where
-  pub answers : r ≡ Typed n (n + 1)
+-- The intersection, in cell n; k cells are used then.
+pub record AddsInter (s t : List ℕ) (n k a b r : ℕ) : Type 0 where
+  pub answers : r ≡ n
+  pub counts : k ≡ n + 1
   pub same : Same s t n
-  pub holds : (A B : Ty) → HoldsType s a A → HoldsType s b B → HoldsType t n (inter A B)
+  pub holds : (A B : Ty) → HoldsType s a A → HoldsType s b B → HoldsType t r (inter A B)
 
 -- A type below n, and room for a cell.
 pub record FindFieldReady (s : List ℕ) (n a : ℕ) : Type 0 where
@@ -134,5 +129,5 @@ pub record FindFieldReady (s : List ℕ) (n a : ℕ) : Type 0 where
   pub room : n < 8192
 
 -- A read of the field of label l, at cell i: the type that the part of the type at a gives it, at most one cell added; or that there is none.
-pub record FindsField (s t : List ℕ) (n a l i : ℕ) (r : Found) : Type 0 where
-  pub says : (A : Ty) → HoldsType s a A → Answered s t n 1 i r (picked (field_part l A))
+pub record FindsField (s t : List ℕ) (n k a l i : ℕ) (r : Result ℕ Refusal) : Type 0 where
+  pub says : (A : Ty) → HoldsType s a A → Answered s t n k 1 i r (picked (field_part l A))

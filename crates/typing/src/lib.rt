@@ -1,338 +1,359 @@
 // Finding a type and checking against one, over a buffer that holds a book's cells and, above them, the type and context cells that
 // typing adds. A found type is a cell number, never a copy. The term's cell number falls from call to call, checking before finding.
+// Kinds and marks are numbers, and dispatch is on them (document 01). Cells are named by number in one buffer of fixed length: no heap.
 #![tactic(auto)]
 
+ghost use Rattle.std.specs.Prelude.{◌≡◌, ◌+◌, ◌*◌, ◌≤◌, length};
+ghost use Rattle.calculus.specs.Infer.{is_mergeable};
+ghost use Rattle.calculus.specs.Decide.{is_below};
+ghost use Rattle.format.specs.Cell.{cell_at};
+ghost use Rattle.cells.specs.Coded.{as_cell};
+ghost use Rattle.decisions.specs.Questions.{TypesAt, TypesSay, HalvesAt, HalvesSay};
+ghost use Rattle.projection.specs.Parts.{TypeAt, FindsFieldPart};
 ghost use Rattle.typing.specs.Finding.{FindReady, ReadyAt, Finds, ReadyFor, Checks, ContextAt, Looks};
-ghost use Rattle.typing.specs.Finding.{ReadyTwo, RoomFor, Adds, BinderBelow, Binds, TypesBelow, AddsInter, FindFieldReady, FindsField};
+ghost use Rattle.typing.specs.Finding.{RoomFor, Adds, BinderBelow, Binds, TypesBelow, AddsInter, FindFieldReady, FindsField};
 
 use answers::Refusal;
 use cells::{Cell, read_cell, write_cell};
 use decisions::{mergeable, subtype};
 use projection::{FieldPart, type_part};
 
-// A cell that holds the type, and the count of cells used; or why there is none.
-#[derive(Clone, Copy)]
-pub enum Found {
-    Typed(usize, usize),
-    Refused(Refusal),
+// The cell of Int, and the one of Top.
+const INT: Cell = Cell {
+    kind: 1,
+    label: 0,
+    a: 0,
+    b: 0,
+    c: 0,
+};
+
+const TOP: Cell = Cell {
+    kind: 2,
+    label: 0,
+    a: 0,
+    b: 0,
+    c: 1,
+};
+
+// A buffer of cells, of which the first `used` are taken: those of a book and, above them, the ones that typing adds. No Vec: fixed memory.
+#[derive(Drop)]
+pub struct Types<'a> {
+    pub cells: &'a mut [u8],
+    pub used: usize,
 }
 
-// The cell of a binder's type.
-#[derive(Clone, Copy)]
-pub enum Bound {
-    At(usize),
-    Free,
-}
-
-// The type of the variable that skips k binders of the context at c.
-fn lookup(s: &[u8], c: usize, k: usize) -> Bound
-    requires { ContextAt s.now c }
-    ensures { Looks s.now c k result }
-{
-    if c == 0 {
-        return Bound::Free;
+// `same` in each contract, that the buffer is the one lent, is a fact of two states, which no invariant says; c and i are what a question is about.
+impl Types<'_> {
+    // What is asked of the cells leaves them as they are: these four lend `&self`, so that this needs no proof at the calls.
+    fn read(&self, i: usize) -> Cell
+        requires { 8 * i + 8 ≤ length self.now.cells.now }
+        ensures { as_cell result ≡ cell_at self.now.cells.now i }
+    {
+        read_cell(self.cells, i)
     }
-    let t = read_cell(s, c);
-    if k == 0 {
-        return Bound::At(t.a);
+
+    fn subtype(&self, a: usize, b: usize) -> bool
+        requires { TypesAt self.now.cells.now a b }
+        ensures { TypesSay self.now.cells.now a b is_below result }
+    {
+        subtype(self.cells, a, b)
     }
-    lookup(s, t.b, k - 1)
-}
 
-fn find_var(s: &mut [u8], n: usize, c: usize, i: usize) -> Found
-    requires { ReadyAt s.old n c i 16 }
-    ensures { Finds s.old s.new n c i result }
-{
-    let t = read_cell(s, i);
-    let Bound::At(a) = lookup(s, c, t.a) else {
-        return Found::Refused(Refusal::Unbound(i));
-    };
-    Found::Typed(a, n)
-}
-
-// A cell more, at n; the count of cells used then.
-fn add(s: &mut [u8], n: usize, kind: u8, label: u8, a: usize, b: usize, c: usize) -> usize
-    requires { RoomFor s.old n a b c }
-    ensures { Adds s.old s.new n kind label a b c result }
-{
-    write_cell(
-        s,
-        n,
-        Cell {
-            kind,
-            label,
-            a,
-            b,
-            c,
-        },
-    );
-    n + 1
-}
-
-fn find_lit(s: &mut [u8], n: usize, c: usize, i: usize) -> Found
-    requires { ReadyAt s.old n c i 17 }
-    ensures { Finds s.old s.new n c i result }
-{
-    Found::Typed(n, add(s, n, 1, 0, 0, 0, 0))
-}
-
-fn find_unit(s: &mut [u8], n: usize, c: usize, i: usize) -> Found
-    requires { ReadyAt s.old n c i 18 }
-    ensures { Finds s.old s.new n c i result }
-{
-    Found::Typed(n, add(s, n, 2, 0, 0, 0, 1))
-}
-
-#[cycle(finding)]
-fn find_anno(s: &mut [u8], n: usize, c: usize, i: usize) -> Found
-    requires { ReadyAt s.old n c i 19 }
-    ensures { Finds s.old s.new n c i result }
-{
-    let t = read_cell(s, i);
-    check(s, n, c, t.a, t.b)
-}
-
-// 12 is tested before the right side is walked.
-#[cycle(finding)]
-fn find_app(s: &mut [u8], n: usize, c: usize, i: usize) -> Found
-    requires { ReadyAt s.old n c i 20 }
-    ensures { Finds s.old s.new n c i result }
-{
-    let t = read_cell(s, i);
-    let left = find_left(s, n, c, t.a);
-    let Found::Typed(f, m) = left else {
-        return left;
-    };
-    let g = read_cell(s, f);
-    if g.kind == 2 {
-        return check(s, m, c, t.b, f);
+    fn mergeable(&self, i: usize, j: usize, a: usize, b: usize) -> bool
+        requires { HalvesAt self.now.cells.now i j a b }
+        ensures { HalvesSay self.now.cells.now i j a b is_mergeable result }
+    {
+        mergeable(self.cells, i, j, a, b)
     }
-    if g.kind != 3 {
-        return Found::Refused(Refusal::Application(i));
+
+    fn part(&self, a: usize, label: u8) -> FieldPart
+        requires { TypeAt self.now.cells.now a }
+        ensures { FindsFieldPart self.now.cells.now a label result }
+    {
+        type_part(self.cells, a, label)
     }
-    let right = check(s, m, c, t.b, g.a);
-    let Found::Typed(_, k) = right else {
-        return right;
-    };
-    Found::Typed(g.b, k)
-}
 
-// The context c with one binder more, of the type at a.
-fn bind(s: &mut [u8], n: usize, a: usize, c: usize) -> usize
-    requires { BinderBelow s.old n a c }
-    ensures { Binds s.old s.new n a c result }
-{
-    add(s, n, 0, 0, a, c, 0)
-}
-
-#[cycle(finding)]
-fn find_lam(s: &mut [u8], n: usize, c: usize, i: usize) -> Found
-    requires { ReadyAt s.old n c i 21 }
-    ensures { Finds s.old s.new n c i result }
-{
-    let t = read_cell(s, i);
-    let m = bind(s, n, t.b, c);
-    let body = check(s, m, n, t.a, t.c);
-    let Found::Typed(_, k) = body else {
-        return body;
-    };
-    let output = read_cell(s, t.c);
-    Found::Typed(k, add(s, k, 3, 0, t.b, t.c, output.c))
-}
-
-// The intersection of two types, in a cell of its own.
-fn add_inter(s: &mut [u8], n: usize, a: usize, b: usize) -> Found
-    requires { TypesBelow s.old n a b }
-    ensures { AddsInter s.old s.new n a b result }
-{
-    let x = read_cell(s, a);
-    let y = read_cell(s, b);
-    Found::Typed(n, add(s, n, 4, 0, a, b, x.c * y.c))
-}
-
-#[cycle(finding)]
-fn find_merge(s: &mut [u8], n: usize, c: usize, i: usize) -> Found
-    requires { ReadyAt s.old n c i 22 }
-    ensures { Finds s.old s.new n c i result }
-{
-    let t = read_cell(s, i);
-    let left = find_left(s, n, c, t.a);
-    let Found::Typed(a, m) = left else {
-        return left;
-    };
-    let right = find(s, m, c, t.b);
-    let Found::Typed(b, k) = right else {
-        return right;
-    };
-    if mergeable(s, t.a, t.b, a, b) {
-        add_inter(s, k, a, b)
-    } else {
-        Found::Refused(Refusal::Merge(i))
+    // The cell of the type of the variable that skips k binders of the context at c; none: the variable is free. 0 is the empty
+    // context, and no Option: a binder's cell has the one around it in field b.
+    fn lookup(&self, c: usize, k: usize) -> Option<usize>
+        requires { ContextAt self.now.cells.now c }
+        ensures { Looks self.now.cells.now c k result }
+    {
+        if c == 0 {
+            return None;
+        }
+        let t = self.read(c);
+        if k == 0 {
+            return Some(t.a);
+        }
+        self.lookup(t.b, k - 1)
     }
-}
 
-#[cycle(finding)]
-fn find_fix(s: &mut [u8], n: usize, c: usize, i: usize) -> Found
-    requires { ReadyAt s.old n c i 23 }
-    ensures { Finds s.old s.new n c i result }
-{
-    let t = read_cell(s, i);
-    let m = bind(s, n, t.b, c);
-    check(s, m, n, t.a, t.b)
-}
-
-#[cycle(finding)]
-fn find_rcd(s: &mut [u8], n: usize, c: usize, i: usize) -> Found
-    requires { ReadyAt s.old n c i 24 }
-    ensures { Finds s.old s.new n c i result }
-{
-    let t = read_cell(s, i);
-    let inside = find(s, n, c, t.a);
-    let Found::Typed(a, m) = inside else {
-        return inside;
-    };
-    let content = read_cell(s, a);
-    Found::Typed(m, add(s, m, 5, t.label, a, 0, content.c))
-}
-
-// A field read at i over the intersection at a: the content's type where one part has the field; Top, in a cell more, where none has it
-// and some part is top-like.
-fn find_field(s: &mut [u8], n: usize, a: usize, label: u8, i: usize) -> Found
-    requires { FindFieldReady s.old n a }
-    ensures { FindsField s.old s.new n a label i result }
-{
-    let part = type_part(s, a, label);
-    match part {
-        FieldPart::One(b) => Found::Typed(b, n),
-        FieldPart::TopLike => Found::Typed(n, add(s, n, 2, 0, 0, 0, 1)),
-        _ => Found::Refused(Refusal::Projection(i)),
+    // A cell more, of a type or a binder, and its number.
+    fn add(&mut self, t: Cell) -> usize
+        requires { RoomFor self.old.cells.now self.old.used t }
+        ensures same { self.new.cells.ghost_name ≡ self.old.cells.ghost_name }
+        ensures adds { Adds self.old.cells.now self.new.cells.now self.old.used self.new.used t result }
+    {
+        let n = self.used;
+        write_cell(self.cells, n, t);
+        self.used = n + 1;
+        n
     }
-}
 
-#[cycle(finding)]
-fn find_proj(s: &mut [u8], n: usize, c: usize, i: usize) -> Found
-    requires { ReadyAt s.old n c i 25 }
-    ensures { Finds s.old s.new n c i result }
-{
-    let t = read_cell(s, i);
-    let inside = find(s, n, c, t.a);
-    let Found::Typed(a, m) = inside else {
-        return inside;
-    };
-    let content = read_cell(s, a);
-    if content.kind == 2 {
-        return Found::Typed(a, m);
+    fn find_var(&mut self, c: usize, i: usize) -> Result<usize, Refusal>
+        requires { ReadyAt self.old.cells.now self.old.used c i 16 }
+        ensures same { self.new.cells.ghost_name ≡ self.old.cells.ghost_name }
+        ensures finds { Finds self.old.cells.now self.new.cells.now self.old.used self.new.used c i result }
+    {
+        let t = self.read(i);
+        self.lookup(c, t.a).ok_or(Refusal::Unbound(i))
     }
-    if content.kind == 4 {
-        return find_field(s, m, a, t.label, i);
+
+    #[cycle(finding)]
+    fn find_anno(&mut self, c: usize, i: usize) -> Result<usize, Refusal>
+        requires { ReadyAt self.old.cells.now self.old.used c i 19 }
+        ensures same { self.new.cells.ghost_name ≡ self.old.cells.ghost_name }
+        ensures finds { Finds self.old.cells.now self.new.cells.now self.old.used self.new.used c i result }
+    {
+        let t = self.read(i);
+        self.check(c, t.a, t.b)
     }
-    if content.kind == 5 {
-        if content.label == t.label {
-            return Found::Typed(content.a, m);
+
+    // 12 is tested before the right side is walked. No `?` for the left: document 01 names
+    // `let .. else` for it, "its refusal handed on before the right is walked".
+    #[cycle(finding)]
+    fn find_app(&mut self, c: usize, i: usize) -> Result<usize, Refusal>
+        requires { ReadyAt self.old.cells.now self.old.used c i 20 }
+        ensures same { self.new.cells.ghost_name ≡ self.old.cells.ghost_name }
+        ensures finds { Finds self.old.cells.now self.new.cells.now self.old.used self.new.used c i result }
+    {
+        let t = self.read(i);
+        let left = self.find_left(c, t.a);
+        let Ok(f) = left else {
+            return left;
+        };
+        let g = self.read(f);
+        match g.kind {
+            2 => self.check(c, t.b, f),
+            3 => {
+                self.check(c, t.b, g.a)?;
+                Ok(g.b)
+            }
+            _ => Err(Refusal::Application(i)),
         }
     }
-    Found::Refused(Refusal::Projection(i))
-}
 
-// A sum: its type, Int, in a cell more; each part is checked against it before the next is walked.
-#[cycle(finding)]
-fn find_sum(s: &mut [u8], n: usize, c: usize, i: usize) -> Found
-    requires { ReadyAt s.old n c i 26 }
-    ensures { Finds s.old s.new n c i result }
-{
-    let t = read_cell(s, i);
-    let m = add(s, n, 1, 0, 0, 0, 0);
-    let left = check(s, m, c, t.a, n);
-    let Found::Typed(_, k) = left else {
-        return left;
-    };
-    check(s, k, c, t.b, n)
-}
-
-// A choice: the same of three parts.
-#[cycle(finding)]
-fn find_choice(s: &mut [u8], n: usize, c: usize, i: usize) -> Found
-    requires { ReadyAt s.old n c i 27 }
-    ensures { Finds s.old s.new n c i result }
-{
-    let t = read_cell(s, i);
-    let m = add(s, n, 1, 0, 0, 0, 0);
-    let tested = check(s, m, c, t.a, n);
-    let Found::Typed(_, k) = tested else {
-        return tested;
-    };
-    let zero = check(s, k, c, t.b, n);
-    let Found::Typed(_, l) = zero else {
-        return zero;
-    };
-    check(s, l, c, t.c, n)
-}
-
-// An application or a merge.
-#[cycle(finding)]
-fn find_two(s: &mut [u8], n: usize, c: usize, i: usize) -> Found
-    requires { ReadyTwo s.old n c i }
-    ensures { Finds s.old s.new n c i result }
-{
-    let t = read_cell(s, i);
-    if t.kind == 20 {
-        return find_app(s, n, c, i);
+    // The context c with one binder more, of the type at a.
+    fn bind(&mut self, a: usize, c: usize) -> usize
+        requires { BinderBelow self.old.cells.now self.old.used a c }
+        ensures same { self.new.cells.ghost_name ≡ self.old.cells.ghost_name }
+        ensures binds { Binds self.old.cells.now self.new.cells.now self.old.used self.new.used a c result }
+    {
+        let binder = Cell {
+            kind: 0,
+            label: 0,
+            a,
+            b: c,
+            c: 0,
+        };
+        self.add(binder)
     }
-    find_merge(s, n, c, i)
-}
 
-// The left part of an application or a merge. One that is of these kinds itself is asked directly, so that a chain takes no more stack than
-// its own calls.
-#[cycle(finding)]
-fn find_left(s: &mut [u8], n: usize, c: usize, i: usize) -> Found
-    requires { FindReady s.old n c i }
-    ensures { Finds s.old s.new n c i result }
-{
-    let t = read_cell(s, i);
-    if t.kind == 20 {
-        return find_app(s, n, c, i);
+    #[cycle(finding)]
+    fn find_lam(&mut self, c: usize, i: usize) -> Result<usize, Refusal>
+        requires { ReadyAt self.old.cells.now self.old.used c i 21 }
+        ensures same { self.new.cells.ghost_name ≡ self.old.cells.ghost_name }
+        ensures finds { Finds self.old.cells.now self.new.cells.now self.old.used self.new.used c i result }
+    {
+        let t = self.read(i);
+        let inner = self.bind(t.b, c);
+        self.check(inner, t.a, t.c)?;
+        let output = self.read(t.c);
+        let arrow = Cell {
+            kind: 3,
+            label: 0,
+            a: t.b,
+            b: t.c,
+            c: output.c,
+        };
+        Ok(self.add(arrow))
     }
-    if t.kind == 22 {
-        return find_merge(s, n, c, i);
-    }
-    find(s, n, c, i)
-}
 
-#[cycle(finding)]
-pub fn find(s: &mut [u8], n: usize, c: usize, i: usize) -> Found
-    requires { FindReady s.old n c i }
-    ensures { Finds s.old s.new n c i result }
-{
-    let t = read_cell(s, i);
-    let kind = t.kind;
-    match kind {
-        16 => find_var(s, n, c, i),
-        17 => find_lit(s, n, c, i),
-        18 => find_unit(s, n, c, i),
-        19 => find_anno(s, n, c, i),
-        20 | 22 => find_two(s, n, c, i),
-        21 => find_lam(s, n, c, i),
-        23 => find_fix(s, n, c, i),
-        24 => find_rcd(s, n, c, i),
-        25 => find_proj(s, n, c, i),
-        26 => find_sum(s, n, c, i),
-        _ => find_choice(s, n, c, i),
+    // The intersection of two types, in a cell of its own.
+    fn add_inter(&mut self, a: usize, b: usize) -> usize
+        requires { TypesBelow self.old.cells.now self.old.used a b }
+        ensures same { self.new.cells.ghost_name ≡ self.old.cells.ghost_name }
+        ensures adds { AddsInter self.old.cells.now self.new.cells.now self.old.used self.new.used a b result }
+    {
+        let x = self.read(a);
+        let y = self.read(b);
+        let inter = Cell {
+            kind: 4,
+            label: 0,
+            a,
+            b,
+            c: x.c * y.c,
+        };
+        self.add(inter)
     }
-}
 
-// "Checking: find a type; it must be below the wanted one."
-#[cycle(finding)]
-fn check(s: &mut [u8], n: usize, c: usize, i: usize, w: usize) -> Found
-    requires { ReadyFor s.old n c i w }
-    ensures { Checks s.old s.new n c i w result }
-{
-    let found = find(s, n, c, i);
-    let Found::Typed(t, m) = found else {
-        return found;
-    };
-    if subtype(s, t, w) {
-        Found::Typed(w, m)
-    } else {
-        Found::Refused(Refusal::Mismatch(i))
+    #[cycle(finding)]
+    fn find_merge(&mut self, c: usize, i: usize) -> Result<usize, Refusal>
+        requires { ReadyAt self.old.cells.now self.old.used c i 22 }
+        ensures same { self.new.cells.ghost_name ≡ self.old.cells.ghost_name }
+        ensures finds { Finds self.old.cells.now self.new.cells.now self.old.used self.new.used c i result }
+    {
+        let t = self.read(i);
+        let left = self.find_left(c, t.a)?;
+        let right = self.find(c, t.b)?;
+        if self.mergeable(t.a, t.b, left, right) {
+            Ok(self.add_inter(left, right))
+        } else {
+            Err(Refusal::Merge(i))
+        }
+    }
+
+    #[cycle(finding)]
+    fn find_fix(&mut self, c: usize, i: usize) -> Result<usize, Refusal>
+        requires { ReadyAt self.old.cells.now self.old.used c i 23 }
+        ensures same { self.new.cells.ghost_name ≡ self.old.cells.ghost_name }
+        ensures finds { Finds self.old.cells.now self.new.cells.now self.old.used self.new.used c i result }
+    {
+        let t = self.read(i);
+        let inner = self.bind(t.b, c);
+        self.check(inner, t.a, t.b)
+    }
+
+    #[cycle(finding)]
+    fn find_rcd(&mut self, c: usize, i: usize) -> Result<usize, Refusal>
+        requires { ReadyAt self.old.cells.now self.old.used c i 24 }
+        ensures same { self.new.cells.ghost_name ≡ self.old.cells.ghost_name }
+        ensures finds { Finds self.old.cells.now self.new.cells.now self.old.used self.new.used c i result }
+    {
+        let t = self.read(i);
+        let inside = self.find(c, t.a)?;
+        let content = self.read(inside);
+        let field = Cell {
+            kind: 5,
+            label: t.label,
+            a: inside,
+            b: 0,
+            c: content.c,
+        };
+        Ok(self.add(field))
+    }
+
+    // A field read at i over the intersection at a: the content's type where one part has the field; Top, in a cell more, where none has it
+    // and some part is top-like.
+    fn find_field(&mut self, a: usize, label: u8, i: usize) -> Result<usize, Refusal>
+        requires { FindFieldReady self.old.cells.now self.old.used a }
+        ensures same { self.new.cells.ghost_name ≡ self.old.cells.ghost_name }
+        ensures finds { FindsField self.old.cells.now self.new.cells.now self.old.used self.new.used a label i result }
+    {
+        match self.part(a, label) {
+            FieldPart::One(b) => Ok(b),
+            FieldPart::TopLike => Ok(self.add(TOP)),
+            _ => Err(Refusal::Projection(i)),
+        }
+    }
+
+    #[cycle(finding)]
+    fn find_proj(&mut self, c: usize, i: usize) -> Result<usize, Refusal>
+        requires { ReadyAt self.old.cells.now self.old.used c i 25 }
+        ensures same { self.new.cells.ghost_name ≡ self.old.cells.ghost_name }
+        ensures finds { Finds self.old.cells.now self.new.cells.now self.old.used self.new.used c i result }
+    {
+        let t = self.read(i);
+        let inside = self.find(c, t.a)?;
+        let content = self.read(inside);
+        match content.kind {
+            2 => Ok(inside),
+            4 => self.find_field(inside, t.label, i),
+            5 if content.label == t.label => Ok(content.a),
+            _ => Err(Refusal::Projection(i)),
+        }
+    }
+
+    // A sum: its type, Int, in a cell more; each part is checked against it before the next is walked.
+    #[cycle(finding)]
+    fn find_sum(&mut self, c: usize, i: usize) -> Result<usize, Refusal>
+        requires { ReadyAt self.old.cells.now self.old.used c i 26 }
+        ensures same { self.new.cells.ghost_name ≡ self.old.cells.ghost_name }
+        ensures finds { Finds self.old.cells.now self.new.cells.now self.old.used self.new.used c i result }
+    {
+        let sum = self.read(i);
+        let int = self.add(INT);
+        self.check(c, sum.a, int)?;
+        self.check(c, sum.b, int)
+    }
+
+    // A choice: the same of three parts. A loop over the parts of both is no plainer than a line for each.
+    #[cycle(finding)]
+    fn find_choice(&mut self, c: usize, i: usize) -> Result<usize, Refusal>
+        requires { ReadyAt self.old.cells.now self.old.used c i 27 }
+        ensures same { self.new.cells.ghost_name ≡ self.old.cells.ghost_name }
+        ensures finds { Finds self.old.cells.now self.new.cells.now self.old.used self.new.used c i result }
+    {
+        let choice = self.read(i);
+        let int = self.add(INT);
+        self.check(c, choice.a, int)?;
+        self.check(c, choice.b, int)?;
+        self.check(c, choice.c, int)
+    }
+
+    // The left part of an application or a merge. One that is of these kinds itself is asked directly, so that a chain takes no more stack
+    // than its own calls.
+    #[cycle(finding)]
+    fn find_left(&mut self, c: usize, i: usize) -> Result<usize, Refusal>
+        requires { FindReady self.old.cells.now self.old.used c i }
+        ensures same { self.new.cells.ghost_name ≡ self.old.cells.ghost_name }
+        ensures finds { Finds self.old.cells.now self.new.cells.now self.old.used self.new.used c i result }
+    {
+        let t = self.read(i);
+        match t.kind {
+            20 => self.find_app(c, i),
+            22 => self.find_merge(c, i),
+            _ => self.find(c, i),
+        }
+    }
+
+    // The type of the term at i in the context at c.
+    #[cycle(finding)]
+    pub fn find(&mut self, c: usize, i: usize) -> Result<usize, Refusal>
+        requires { FindReady self.old.cells.now self.old.used c i }
+        ensures same { self.new.cells.ghost_name ≡ self.old.cells.ghost_name }
+        ensures finds { Finds self.old.cells.now self.new.cells.now self.old.used self.new.used c i result }
+    {
+        let t = self.read(i);
+        match t.kind {
+            16 => self.find_var(c, i),
+            17 => Ok(self.add(INT)),
+            18 => Ok(self.add(TOP)),
+            19 => self.find_anno(c, i),
+            20 => self.find_app(c, i),
+            21 => self.find_lam(c, i),
+            22 => self.find_merge(c, i),
+            23 => self.find_fix(c, i),
+            24 => self.find_rcd(c, i),
+            25 => self.find_proj(c, i),
+            26 => self.find_sum(c, i),
+            _ => self.find_choice(c, i),
+        }
+    }
+
+    // "Checking: find a type; it must be below the wanted one."
+    #[cycle(finding)]
+    fn check(&mut self, c: usize, i: usize, w: usize) -> Result<usize, Refusal>
+        requires { ReadyFor self.old.cells.now self.old.used c i w }
+        ensures same { self.new.cells.ghost_name ≡ self.old.cells.ghost_name }
+        ensures finds { Checks self.old.cells.now self.new.cells.now self.old.used self.new.used c i w result }
+    {
+        let found = self.find(c, i)?;
+        if self.subtype(found, w) {
+            Ok(w)
+        } else {
+            Err(Refusal::Mismatch(i))
+        }
     }
 }

@@ -8,8 +8,8 @@ use mathlib.Core.Bool.{false}
 use mathlib.Core.List.{List, [], ◌++◌, append_assoc, append-nil}
 use borrow.Author.Tests.{ne_eqb}
 use lib.Dec.{eqb}
-use lib.ListN.{length, take, drop, length-append, take-append-drop}
-use lib.Seq.{sets, sets-eq, length-sets, take_at, drop_at, drop-drop, get_or-drop, set-get_or}
+use lib.ListN.{length, take, drop, length-append}
+use lib.Seq.{sets, sets-eq, length-sets, take_at, take_all, drop_at, drop-drop, get_or-drop, set-get_or}
 use Rattle.calculus.specs.Syntax.{Ty, int, top, arrow, inter, field}
 use Rattle.calculus.specs.Syntax.{Term, var, lit, unit, anno, app, lam, merge, fix, rcd, proj, sum, choice}
 use Rattle.format.specs.declared.Version.{Version}
@@ -18,7 +18,6 @@ use Rattle.format.specs.Cell.{IsBytes, byte, pair, Cell, cell_at, cell_bytes}
 use Rattle.format.specs.Tree.{Tree, raw, node, cells, refer, encode}
 use Rattle.format.specs.Terms.{from_type, from_term_in, from_term}
 use Rattle.format.specs.Widths.{wide_cell}
-use Rattle.format.proofs.Trees.{term_cells}
 use Rattle.format.proofs.Tests.{cell_fits}
 use Rattle.format.proofs.Encoding.{Part, part_left, part_right, cell_back, length_encode}
 use Rattle.format.proofs.Widths.{narrowed, term_narrowed}
@@ -173,14 +172,16 @@ encode_narrowed {s = s} {m = m} (other {a = a} {b = b} {c = c} q na nb nc) p =
     rw (end, cell_back _ pd, fc, fb, fa, q, same_size na, same_size nb, same_refer m na, same_refer (m + cells a) nb, same_refer (m + cells a + cells b) nc)
     (simp append_assoc)
 
-pub narrowing_all : {d e : List ℕ} {n : ℕ} → Narrowing d e n → Narrows d e n
+pub narrowing_all : {d e : List ℕ} → Narrowing d e (length d / 8) → Narrows d e
 unfolding narrowed_cells
-narrowing_all {d} {e} {n} p =
+narrowing_all {d} {e} p =
     record {
       long = p.long;
-      says = λ f h q s.
-          let all : n ≡ 0 + cells (from_term f) = omega (arith, q, term_cells Two f) in
-          let there : Part d 0 (encode 0 (from_term f)) =
-          record { before = []; after = drop (8 * n) d; starts = refl; split = rw (← s) (sym (take-append-drop (8 * n) d)) } in
-          p.first ∙ ap (narrowed_cells d) all ∙ encode_narrowed (term_plain f) there ∙ ap (encode 0) (term_narrowed One f h);
+      says = λ f h s.
+          let t = from_term f in
+          let z : length d ≡ 8 * cells t = ap length s ∙ length_encode 0 t in
+          let n : length d / 8 ≡ 0 + cells t = omega (arith, z) in
+          let there : Part d 0 (encode 0 t) = record { before = []; after = []; starts = refl; split = s ∙ sym (append-nil (encode 0 t)) } in
+          sym (take_all (8 * (length d / 8)) e (omega (arith, p.long, z)))
+          ∙ p.first ∙ ap (narrowed_cells d) n ∙ encode_narrowed (term_plain f) there ∙ ap (encode 0) (term_narrowed One f h);
     }

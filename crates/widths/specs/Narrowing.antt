@@ -1,7 +1,7 @@
 -- Numbers of 48 bits become numbers of 32: of one cell, and of a term that is encoded. Assumes nothing.
-use Rattle.std.specs.Prelude.{ℕ, ◌*◌, ◌≡◌, cond, List, eqb, length, take}
+use Rattle.std.specs.Prelude.{ℕ, ◌*◌, ◌≡◌, cond, List, eqb, length}
 use Rattle.std.proofs.lemmas.List.Edits.{sets}
-use Rattle.calculus.specs.Syntax.{Term, size}
+use Rattle.calculus.specs.Syntax.{Term}
 use Rattle.format.specs.declared.Version.TheVariants.{One}
 use Rattle.format.specs.Version.{half_of}
 use Rattle.format.specs.Cell.{Cell, cell_at, cell_bytes}
@@ -16,7 +16,7 @@ narrow_cell t = cond (eqb t.kind 17) (record { kind = t.kind; label = t.label; a
 pub record NarrowsCell (d e : List ℕ) (i : ℕ) : Type 0 where
   pub is : e ≡ sets d (8 * i) (cell_bytes (narrow_cell (cell_at d i)))
 
--- A term whose numbers fit 32 bits, encoded in the first n cells, is encoded there as a book of version 1 has it. Of other bytes there nothing is decided.
-pub record Narrows (d e : List ℕ) (n : ℕ) : Type 0 where
+-- A term whose numbers fit 32 bits, encoded in d, is encoded in e as a book of version 1 has it. Of other bytes there nothing is decided.
+pub record Narrows (d e : List ℕ) : Type 0 where
   pub long : length e ≡ length d
-  pub says : (f : Term) → TermFits (half_of One) f → n ≡ size f → take (8 * n) d ≡ encode 0 (from_term f) → take (8 * n) e ≡ encode 0 (from_term_in One f)
+  pub says : (f : Term) → TermFits (half_of One) f → d ≡ encode 0 (from_term f) → e ≡ encode 0 (from_term_in One f)

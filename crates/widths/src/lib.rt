@@ -1,5 +1,6 @@
 // Numbers in the form that a book of version 1 has, 32 bits, and in the one form that they have outside of such books: 48 bits, as version 2 stores
 // them. Proved: a cell is widened as the format has it, and a term whose numbers fit 32 bits, encoded and then narrowed, is encoded as version 1 has it.
+// Kinds are numbers, as in cells: document 01, "dispatch on kind numbers".
 
 #![tactic(auto)]
 
@@ -18,7 +19,7 @@ fn sign_field(c: usize) -> usize
     if c < 32768 { 0 } else { 65535 }
 }
 
-// A cell of a book of this version, as it is outside of books.
+// A cell of a book of this version, as it is outside of books. A number is kind 17: document 01 dispatches on kind numbers.
 pub fn widen(version: Version, t: Cell) -> Cell
     ensures { as_cell result ≡ wide_cell version (as_cell t) }
 {
@@ -27,11 +28,10 @@ pub fn widen(version: Version, t: Cell) -> Cell
     }
     match version {
         Version::One => Cell {
-            kind: t.kind,
-            label: t.label,
             a: t.b,
             b: t.c,
             c: sign_field(t.c),
+            ..t
         },
         Version::Two => t,
     }
@@ -48,24 +48,20 @@ fn narrow_cell(d: &mut [u8], i: usize)
             d,
             i,
             Cell {
-                kind: t.kind,
-                label: t.label,
                 a: 0,
                 b: t.a,
                 c: t.b,
+                ..t
             },
         );
     }
 }
 
-// The term encoded in the first n cells becomes as version 1 has it.
-pub fn narrow(d: &mut [u8], n: usize)
-    requires { 8 * n ≤ length d.old }
-    ensures { Narrows d.old d.new n }
+// An encoded term becomes as version 1 has it.
+pub fn narrow(d: &mut [u8])
+    ensures { Narrows d.old d.new }
 {
-    let mut i = 0;
-    while i < n {
+    for i in 0..d.len() / 8 {
         narrow_cell(d, i);
-        i += 1;
     }
 }

@@ -16,14 +16,8 @@ field_size-requires-2 c = λ u. omega (arith, (sizes (goal.at.field_size-require
 pub field_size-requires-3 : goal.field_size-requires-3
 field_size-requires-3 c = λ u. omega (arith, (sizes (goal.at.field_size-requires-3 c).After-entry_of-e).c_lower u)
 
-pub returns-then-size-lt-CAP : goal.returns-then-size-lt-CAP
-returns-then-size-lt-CAP c =
-    let z = sizes (goal.at.returns-then-size-lt-CAP c).After-entry_of-e in
-    omega
-    (arith, z.a_size, c.field_size.ensures, z.b_size, c.field_size-2.ensures, z.c_size, c.field_size-3.ensures, z.whole)
-
-pub returns-else-size-lt-CAP : goal.returns-else-size-lt-CAP
-returns-else-size-lt-CAP c =
-    let z = sizes (goal.at.returns-else-size-lt-CAP c).After-entry_of-e in
+pub returns : goal.returns
+returns c =
+    let z = sizes (goal.at.returns c).After-entry_of-e in
     omega
     (arith, z.a_size, c.field_size.ensures, z.b_size, c.field_size-2.ensures, z.c_size, c.field_size-3.ensures, z.whole)

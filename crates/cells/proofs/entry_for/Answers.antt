@@ -1,7 +1,6 @@
 -- `cells::entry_for` meets its contract. Assumes nothing.
 use native.Mathlib.Omega.{arith}
 use mathlib.Core.Path.{◌∙◌}
-use Rattle.format.specs.Table.{table}
 use Rattle.cells.proofs.Table.{number_of_one, other_row}
 use Rattle.cells.proofs.entry_for.Goals as goal
 
@@ -11,5 +10,4 @@ returns-then-kind-ne17 c =
     c.entry_of.ensures ∙ other_row at.version at.kind c.if-kind-ne17.true (omega arith)
 
 pub returns-in-One : goal.returns-in-One
-unfolding table
-returns-in-One c = rw (c.entry_at.ensures, c.in-One.is, c.if-kind-ne17.false) number_of_one
+returns-in-One c = rw (c.in-One.is, c.if-kind-ne17.false) number_of_one

@@ -4,9 +4,9 @@ use mathlib.Core.Path.{refl}
 use mathlib.Core.List.{◌∷◌}
 use Rattle.format.specs.declared.Version.TheVariants.{Two}
 use Rattle.format.specs.Table.{table, row_in, row_for}
-use Rattle.cells.proofs.Table.{lines, right_at}
+use Rattle.cells.proofs.Table.{unknown, entries, right_at}
 use Rattle.cells.proofs.entry_of.Goals as goal
 
 pub returns : goal.returns
 unfolding row_for row_in table
-returns c = rw c.entry_at.ensures (right_at (0 ∷ lines (table Two)) 0 refl c.args.kind _ c.place.ensures.0 (omega arith))
+returns c = right_at (unknown ∷ entries (table Two)) unknown refl c.args.kind _ c.place.ensures.0 (omega arith)

@@ -1,7 +1,4 @@
 -- `cells::write_cell` meets its contract: the eight bytes are stored one after the other. Assumes nothing.
-use native.Mathlib.Omega.{arith}
-use mathlib.Core.Path.{◌∙◌}
-use lib.ListN.{length-set}
 use Rattle.cells.specs.Coded.{as_cell}
 use Rattle.cells.proofs.Written.{cell_written}
 use Rattle.cells.proofs.write_cell.Goals as goal

@@ -1,17 +1,14 @@
 -- `cerealbank::cerealbank_check` meets its contract. Assumes nothing.
-use mathlib.Core.Path.{sym, subst}
-use Rattle.cerealbank.specs.Packed.{AnswerFits}
-use Rattle.cerealbank.proofs.Packing.{packs}
+use Rattle.cerealbank.proofs.Packing.{packs, fits_too, check_second}
 use Rattle.cerealbank.proofs.Values.{check_fits}
 use Rattle.cerealbank.proofs.cerealbank_check.Goals as goal
 
-pub pack_check-requires : goal.pack_check-requires
-pack_check-requires c =
-    subst AnswerFits (sym c.check.ensures.answer)
-    (check_fits _ _ (λ i. (c.type_inv.book i).fits))
+pub pack-requires : goal.pack-requires
+pack-requires c =
+    fits_too (check_fits _ _ (λ i. (c.type_inv.book i).fits)) c.check.ensures.answer (check_second _)
 
 pub returns : goal.returns
 returns c =
     let k = c.check.ensures in
     packs _ (check_fits _ _ (λ i. (c.type_inv.book i).fits))
-    k.answer k.left c.pack_check.ensures
+    k.answer (check_second _) k.left c.pack.ensures

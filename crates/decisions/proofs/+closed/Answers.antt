@@ -8,27 +8,24 @@ use Rattle.decisions.proofs.+closed.Goals.{After-binders-inner}
 -- what is known once the cell and its row are read
 inner : (t : ℕ) (c : After-binders-inner t) → Inner c.args.s.now c.args.u c.args.i c.args.k (as_cell c.read_cell-x.result) c.entry_of-e.result c.binders-inner.result
 inner t c = record {
-  more = c.if-u-lt3.false;
+  term = c.in-ToTerm.is;
   cell = c.read_cell-x.ensures;
   inner = c.if-x-eq16.false;
   row = c.entry_of-e.ensures;
   skips = c.binders-inner.ensures;
 }
 
-pub returns-then-u-lt3 : goal.returns-then-u-lt3
-returns-then-u-lt3 t c = none_closed c.if-u-lt3.true
+pub returns-in_default : goal.returns-in_default
+returns-in_default t c = none_closed c.in_default.not-ToTerm
 
 pub read_cell-x-requires : goal.read_cell-x-requires
-read_cell-x-requires t c = term_within {u = c.args.u} c.if-u-lt3.false c.requires.at.holds
+read_cell-x-requires t c = term_within {u = c.args.u} c.in-ToTerm.is c.requires.at.holds
 
 pub returns-then-x-eq16 : goal.returns-then-x-eq16
-returns-then-x-eq16 t c = variable_closed c.if-u-lt3.false c.read_cell-x.ensures c.if-x-eq16.true
-
-pub entry_of-e-requires : goal.entry_of-e-requires
-entry_of-e-requires t c = tt
+returns-then-x-eq16 t c = variable_closed c.in-ToTerm.is c.read_cell-x.ensures c.if-x-eq16.true
 
 pub binders-inner-requires : goal.binders-inner-requires
-binders-inner-requires t c = few_binders c.if-u-lt3.false c.requires
+binders-inner-requires t c = few_binders c.in-ToTerm.is c.requires
 
 pub closed-requires : goal.closed-requires
 closed-requires t c = (parts (inner t (goal.at.closed-requires t c).After-binders-inner) c.requires c.decreases).1.1

@@ -3,8 +3,8 @@ use Prim.Native.Nat.{◌+◌, ◌*◌}
 use Rattle.cells.proofs.Rows.{field_measure}
 use Rattle.emission.proofs.+emitting.Given as goal
 
-abbrev pub decreases-emit_child : goal.decreases-emit_child
-decreases-emit_child l = field_measure l.u l.x
+abbrev pub decreases-emit_field : goal.decreases-emit_field
+decreases-emit_field l = field_measure l.u l.x
 
 abbrev pub decreases-emit_tree : goal.decreases-emit_tree
 decreases-emit_tree l = 2 * l.i + 1

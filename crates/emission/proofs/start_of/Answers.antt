@@ -8,6 +8,7 @@ use Rattle.cells.specs.Coded.{row_from}
 use Rattle.cells.specs.declared.Entry.{Entry}
 use Rattle.emission.specs.Copies.{StartReady}
 use Rattle.emission.proofs.Copies.{Follows, follows_within, Following, started, goes_down}
+use Rattle.emission.proofs.Emitting.{a_reference}
 use Rattle.emission.proofs.start_of.Goals as goal
 
 -- what is known once the cell and its row are read
@@ -16,16 +17,16 @@ following : {s : List ℕ} {at i : ℕ} {t : Cell} {y : Entry} → StartReady s 
 following p f e r b = record { ready = p; follows = f; read = record { cell = e; row = r; bytes = b } }
 
 pub read_cell-t-requires : goal.read_cell-t-requires
-read_cell-t-requires c = follows_within c.requires c.loop-t.invariant
+read_cell-t-requires c = follows_within c.requires c.loop-i.invariant
 
-pub returns-then-e-lt2 : goal.returns-then-e-lt2
-returns-then-e-lt2 c =
-    started (following c.requires c.loop-t.invariant c.read_cell-t.ensures c.entry_of-e.ensures (λ k. (c.type_inv.s k).fits)) c.if-e-lt2.true
+pub returns-in-Unused : goal.returns-in-Unused
+returns-in-Unused c =
+    started (following c.requires c.loop-i.invariant c.read_cell-t.ensures c.entry_of-e.ensures (λ k. (c.type_inv.s k).fits)) c.in-Unused.is
 
-pub loop-t-smaller : goal.loop-t-smaller
-loop-t-smaller c =
-    (goes_down (following c.requires c.loop-t.invariant c.read_cell-t.ensures c.entry_of-e.ensures (λ k. (c.type_inv.s k).fits)) c.if-e-lt2.false).1
+pub loop-i-smaller : goal.loop-i-smaller
+loop-i-smaller c =
+    (goes_down (following c.requires c.loop-i.invariant c.read_cell-t.ensures c.entry_of-e.ensures (λ k. (c.type_inv.s k).fits)) (a_reference c.in-ToType.is)).1
 
-pub loop-t-preserved : goal.loop-t-preserved
-loop-t-preserved c =
-    (goes_down (following c.requires c.loop-t.invariant c.read_cell-t.ensures c.entry_of-e.ensures (λ k. (c.type_inv.s k).fits)) c.if-e-lt2.false).0
+pub loop-i-preserved : goal.loop-i-preserved
+loop-i-preserved c =
+    (goes_down (following c.requires c.loop-i.invariant c.read_cell-t.ensures c.entry_of-e.ensures (λ k. (c.type_inv.s k).fits)) (a_reference c.in-ToType.is)).0

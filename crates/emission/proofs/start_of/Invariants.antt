@@ -2,8 +2,8 @@
 use Rattle.emission.proofs.Copies.{Follows}
 use Rattle.emission.proofs.start_of.Given as goal
 
-abbrev pub invariant-loop-t : goal.invariant-loop-t
-invariant-loop-t l = Follows l.s l.at l.i
+abbrev pub invariant-loop-i : goal.invariant-loop-i
+invariant-loop-i l = Follows l.s l.at l.i
 
-abbrev pub decreases-loop-t : goal.decreases-loop-t
-decreases-loop-t l = l.i
+abbrev pub decreases-loop-i : goal.decreases-loop-i
+decreases-loop-i l = l.i

@@ -9,6 +9,10 @@ pub judge-requires : goal.judge-requires
 unfolding zeros
 judge-requires c = record { zeros_only = refl }
 
-pub returns : goal.returns
-returns c =
-    previews _ _ _ _ c.judge.ensures.says (λ i. (c.type_inv.project i).fits) (λ i. (c.type_inv.part i).fits) refl
+-- an acceptance
+pub returns-in-Ok : goal.returns-in-Ok
+returns-in-Ok c = previews _ _ _ _ c.in-Ok.ensures.says (λ i. (c.type_inv.project i).fits) (λ i. (c.type_inv.part i).fits) refl
+
+-- a refusal
+pub returns-in-Ok-2 : goal.returns-in-Ok-2
+returns-in-Ok-2 c = previews _ _ _ _ c.in-Ok.ensures.says (λ i. (c.type_inv.project i).fits) (λ i. (c.type_inv.part i).fits) refl

@@ -5,4 +5,4 @@ use Rattle.joining.proofs.refuse_zeroed.Goals as goal
 pub returns : goal.returns
 unfolding zeros
 returns c =
-    record { says = c.refused.ensures; zeroed = c.clear.ensures }
+    record { says = c.refused.ensures; zeroed = c.fill.ensures.after (λ y h. h) }

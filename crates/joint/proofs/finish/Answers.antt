@@ -3,4 +3,4 @@ use Rattle.joint.proofs.Whole.{finished}
 use Rattle.joint.proofs.finish.Goals as goal
 
 pub returns : goal.returns
-returns c = finished c.write_cell.ensures c.version_byte.ensures c.write_cell-2.ensures
+returns c = finished c.write_cell.ensures c.write_trailer.ensures

@@ -2,6 +2,5 @@
 use Rattle.layout.proofs.Encoded.{encodes_tree}
 use Rattle.layout.proofs.encode_tree.Goals as goal
 
-pub returns-in-Next : goal.returns-in-Next
-returns-in-Next c =
-    encodes_tree c.requires c.emit_field.ensures c.in-Next.is
+pub returns : goal.returns
+returns c = rw c.unwrap_or.ensures (encodes_tree c.requires c.emit_field.ensures)

@@ -5,24 +5,15 @@ use Rattle.moving.proofs.Placing.{placing_none, placing_ready, placing_more, pla
 use Rattle.moving.proofs.place.Goals as goal
 
 pub loop-placed-init : goal.loop-placed-init
-loop-placed-init c = (omega arith, placing_none _ _ _ _)
+loop-placed-init c = placing_none _ _ _ _
 
 pub place_cell-requires : goal.place_cell-requires
 place_cell-requires c =
-    placing_ready c.requires c.loop-placed-test.true c.loop-placed.invariant.1
-
-pub overflow_add-placed : goal.overflow_add-placed
-overflow_add-placed c = omega arith
-
-pub loop-placed-smaller : goal.loop-placed-smaller
-loop-placed-smaller c = omega arith
+    placing_ready c.requires c.loop-placed-test.true c.loop-placed.invariant
 
 pub loop-placed-preserved : goal.loop-placed-preserved
 loop-placed-preserved c =
-    (omega arith, placing_more c.requires c.loop-placed-test.true c.loop-placed.invariant.1 c.place_cell.ensures)
-
-pub shape_of-w : goal.shape_of-w
-shape_of-w c = c.loop-placed.invariant.1.long
+    placing_more c.requires c.loop-placed-test.true c.loop-placed.invariant c.place_cell.ensures
 
 pub returns : goal.returns
-returns c = let e : c.loop-placed.placed ≡ c.args.n = omega arith in placing_all (rw e at c.loop-placed.invariant.1)
+returns c = let e : c.loop-placed.placed ≡ c.args.n = omega arith in placing_all (rw e at c.loop-placed.invariant)

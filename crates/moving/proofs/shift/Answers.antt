@@ -5,24 +5,15 @@ use Rattle.moving.proofs.Shifting.{shifting_none, shifting_ready, shifting_more,
 use Rattle.moving.proofs.shift.Goals as goal
 
 pub loop-moved-init : goal.loop-moved-init
-loop-moved-init c = (omega arith, shifting_none _ _ _)
+loop-moved-init c = shifting_none _ _ _
 
 pub shift_cell-requires : goal.shift_cell-requires
 shift_cell-requires c =
-    shifting_ready c.requires c.loop-moved-test.true c.loop-moved.invariant.1
-
-pub overflow_add-moved : goal.overflow_add-moved
-overflow_add-moved c = omega arith
-
-pub loop-moved-smaller : goal.loop-moved-smaller
-loop-moved-smaller c = omega arith
+    shifting_ready c.requires c.loop-moved-test.true c.loop-moved.invariant
 
 pub loop-moved-preserved : goal.loop-moved-preserved
 loop-moved-preserved c =
-    (omega arith, shifting_more c.requires c.loop-moved.invariant.1 c.shift_cell.ensures)
-
-pub shape_of-w : goal.shape_of-w
-shape_of-w c = c.loop-moved.invariant.1.long
+    shifting_more c.requires c.loop-moved.invariant c.shift_cell.ensures
 
 pub returns : goal.returns
-returns c = let e : c.loop-moved.moved ≡ c.args.n = omega arith in shifting_all (rw e at c.loop-moved.invariant.1)
+returns c = let e : c.loop-moved.moved ≡ c.args.n = omega arith in shifting_all (rw e at c.loop-moved.invariant)

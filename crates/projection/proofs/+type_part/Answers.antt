@@ -1,11 +1,10 @@
 -- `type_part` meets its contract. Assumes nothing.
 use native.Mathlib.Omega.{arith}
-use mathlib.Core.Logic.{⊎_elim}
 use Rattle.cells.proofs.Held.{held_within}
-use Rattle.projection.proofs.Joining.{joins, beside_none}
-use Rattle.projection.proofs.Walk.{own, starts, to_right, to_left, ends}
+use Rattle.projection.proofs.Joining.{right_none}
+use Rattle.projection.proofs.Walk.{only_marked, own, starts, to_right, to_left, ends}
 use Rattle.projection.proofs.+type_part.Goals as goal
-use Rattle.projection.proofs.+type_part.Goals.{then-loop-x-test+else-x-ne1, else-loop-x-test}
+use Rattle.projection.proofs.+type_part.Goals.{then-loop-x-test+else-x-ne1, else-loop-x-test, in-Absent, in_default}
 
 pub loop-x-init : goal.loop-x-init
 loop-x-init t c = starts c.requires c.read_cell-x.ensures
@@ -32,15 +31,18 @@ loop-x-smaller t c = (own c.loop-x.invariant c.loop-x-test.true).first_lower
 
 pub loop-x-preserved : goal.loop-x-preserved
 loop-x-preserved t c =
-    to_left c.loop-x.invariant c.loop-x-test.true c.read_cell-y.ensures (λ k. ⊎_elim (λ w. w.1) (λ w. absurd (w k)) c.else-y-eq4.either) c.single_part-right.ensures (joins (rw c.in-Absent.is (beside_none _))) c.read_cell-x-else-y-eq4.ensures
-
-pub loop-x-smaller-in_default : goal.loop-x-smaller-in_default
-loop-x-smaller-in_default t c = (own c.loop-x.invariant c.loop-x-test.true).first_lower
-
-pub loop-x-preserved-in_default : goal.loop-x-preserved-in_default
-loop-x-preserved-in_default t c =
-    to_left c.loop-x.invariant c.loop-x-test.true c.read_cell-y.ensures (λ k. ⊎_elim (λ w. w.1) (λ w. absurd (w k)) c.else-y-eq4.either) c.single_part-right.ensures c.both-found-in_default.ensures
+    to_left c.loop-x.invariant c.loop-x-test.true c.read_cell-y.ensures
+    (only_marked c.else-y-eq4.either) c.single_part-right.ensures
+    (right_none (elim c.match-matches.branch [ in-Absent w ↦ w.in-Absent.is | in_default w ↦ grind (arith, w.matches-is, c.if-not-matches.false) ]))
     c.read_cell-x-else-y-eq4.ensures
+
+pub loop-x-smaller-then-not-matches : goal.loop-x-smaller-then-not-matches
+loop-x-smaller-then-not-matches t c = (own c.loop-x.invariant c.loop-x-test.true).first_lower
+
+pub loop-x-preserved-then-not-matches : goal.loop-x-preserved-then-not-matches
+loop-x-preserved-then-not-matches t c =
+    to_left c.loop-x.invariant c.loop-x-test.true c.read_cell-y.ensures (only_marked c.else-y-eq4.either) c.single_part-right.ensures
+    c.both-found-then-not-matches.ensures c.read_cell-x-else-y-eq4.ensures
 
 pub returns : goal.returns
 returns t c =

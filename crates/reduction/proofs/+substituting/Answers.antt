@@ -1,14 +1,12 @@
 -- `reduction::emit_substituted` and `reduction::substitute_field` meet their contracts, over kind and field. Assumes nothing.
-use native.Mathlib.Omega.{arith}
 use mathlib.Core.Path.{◌≡◌}
 use mathlib.Core.List.{List}
 use Prim.Native.Nat.{ℕ}
+use Rattle.std.specs.Prelude.{Option, Some}
 use Rattle.format.specs.Table.{row_of, inside}
 use Rattle.format.specs.Cell.{IsBytes, Cell, cell_at}
 use Rattle.cells.specs.Coded.{row_from}
 use Rattle.cells.specs.declared.Entry.{Entry}
-use Rattle.emission.specs.Emits.{emitted_of}
-use Rattle.emission.proofs.Ends.{emitted_full, emitted_next}
 use Rattle.emission.proofs.Chain.{First, Second, Third, first, none_first, second_space, second, none_second, third_space, third, none_third, emitted}
 use Rattle.reduction.specs.Steps.{SubstituteReady, EmitsSubstitutedField}
 use Rattle.reduction.specs.declared.Source.{Source}
@@ -23,75 +21,75 @@ started h e r b n q = record { ready = h; read = record { cell = e; row = r; byt
 
 -- and after each field that fitted
 module _ {s d : List ℕ} {i k m : ℕ} {p : Source} {t : Cell} {y : Entry} {g : ℕ} (j : Started s d i k m p t y g) {f : List ℕ} {x : ℕ}
-    (q : EmitsSubstitutedField s d f y.a t.a g m p (emitted_of x)) (n : x ≡ 4096 → ⊥) where
+    {r : Option ℕ} (q : EmitsSubstitutedField s d f y.a t.a g m p r) (n : r ≡ Some x) where
   after_first : First (substitute_chain j) f x
-  after_first = first (substitute_chain j) (each_a j q) (emitted_next n)
+  after_first = first (substitute_chain j) (each_a j q) n
 
-  module _ {h : List ℕ} {v : ℕ} (r : EmitsSubstitutedField s f h y.b t.b k x p (emitted_of v)) (o : v ≡ 4096 → ⊥) where
+  module _ {h : List ℕ} {v : ℕ} {u : Option ℕ} (o : EmitsSubstitutedField s f h y.b t.b k x p u) (e : u ≡ Some v) where
     after_second : Second (substitute_chain j) f x h v
-    after_second = second after_first (each_b j r) (emitted_next o)
+    after_second = second after_first (each_b j o) e
 
-    after_third : {l : List ℕ} {w : ℕ} → EmitsSubstitutedField s h l y.c t.c k v p (emitted_of w) → (w ≡ 4096 → ⊥)
+    after_third : {l : List ℕ} {w : ℕ} {z : Option ℕ} → EmitsSubstitutedField s h l y.c t.c k v p z → z ≡ Some w
         → Third (substitute_chain j) f x h v l w
-    after_third u z = third after_second (each_c j u) (emitted_next z)
+    after_third a b = third after_second (each_c j a) b
 
-pub emit_substituted-substitute_field-x-requires : goal.emit_substituted-substitute_field-x-requires
-emit_substituted-substitute_field-x-requires t c =
+pub emit_substituted-substitute_field-requires : goal.emit_substituted-substitute_field-requires
+emit_substituted-substitute_field-requires t c =
     let j =
     started c.requires c.read_cell-t.ensures c.entry_of-e.ensures (λ n. (c.type_inv.s n).fits) c.if-t-eq16.false c.binders-inner.ensures in
     ((less j c.decreases).0, ready_a j)
 
-pub emit_substituted-returns-then-x-eq4096 : goal.emit_substituted-returns-then-x-eq4096
-emit_substituted-returns-then-x-eq4096 t c =
+pub emit_substituted-returns-in_err-x : goal.emit_substituted-returns-in_err-x
+emit_substituted-returns-in_err-x t c =
     let j =
     started c.requires c.read_cell-t.ensures c.entry_of-e.ensures (λ n. (c.type_inv.s n).fits) c.if-t-eq16.false c.binders-inner.ensures in
-    bodies (none_first (substitute_chain j) (each_a j c.substitute_field-x.ensures) (emitted_full c.if-x-eq4096.true))
+    rw c.from_residual.ensures (bodies (none_first (substitute_chain j) (each_a j c.substitute_field.ensures) c.in_err-x.was))
 
-pub emit_substituted-substitute_field-y-requires : goal.emit_substituted-substitute_field-y-requires
-emit_substituted-substitute_field-y-requires t c =
+pub emit_substituted-substitute_field-requires-2 : goal.emit_substituted-substitute_field-requires-2
+emit_substituted-substitute_field-requires-2 t c =
     let j =
     started c.requires c.read_cell-t.ensures c.entry_of-e.ensures (λ n. (c.type_inv.s n).fits) c.if-t-eq16.false c.binders-inner.ensures in
-    ((less j c.decreases).1, ready_b j (second_space (after_first j c.substitute_field-x.ensures c.if-x-eq4096.false)))
+    ((less j c.decreases).1, ready_b j (second_space (after_first j c.substitute_field.ensures c.in_ok-x.was)))
 
-pub emit_substituted-returns-then-y-eq4096 : goal.emit_substituted-returns-then-y-eq4096
-emit_substituted-returns-then-y-eq4096 t c =
+pub emit_substituted-returns-in_err-y : goal.emit_substituted-returns-in_err-y
+emit_substituted-returns-in_err-y t c =
     let j =
     started c.requires c.read_cell-t.ensures c.entry_of-e.ensures (λ n. (c.type_inv.s n).fits) c.if-t-eq16.false c.binders-inner.ensures in
-    let at = after_first j c.substitute_field-x.ensures c.if-x-eq4096.false in
-    bodies (none_second at (each_b j c.substitute_field-y.ensures) (emitted_full c.if-y-eq4096.true))
+    let at = after_first j c.substitute_field.ensures c.in_ok-x.was in
+    rw c.from_residual-in_err-y.ensures (bodies (none_second {z = substitute_chain j} at (each_b j c.substitute_field-2.ensures) c.in_err-y.was))
 
-pub emit_substituted-substitute_field-z-requires : goal.emit_substituted-substitute_field-z-requires
-emit_substituted-substitute_field-z-requires t c =
+pub emit_substituted-substitute_field-requires-3 : goal.emit_substituted-substitute_field-requires-3
+emit_substituted-substitute_field-requires-3 t c =
     let j =
     started c.requires c.read_cell-t.ensures c.entry_of-e.ensures (λ n. (c.type_inv.s n).fits) c.if-t-eq16.false c.binders-inner.ensures in
-    let at = after_second j c.substitute_field-x.ensures c.if-x-eq4096.false c.substitute_field-y.ensures c.if-y-eq4096.false in
+    let at = after_second j c.substitute_field.ensures c.in_ok-x.was c.substitute_field-2.ensures c.in_ok-y.was in
     ((less j c.decreases).2, ready_c j (third_space at))
 
-pub emit_substituted-returns-then-z-eq4096 : goal.emit_substituted-returns-then-z-eq4096
-emit_substituted-returns-then-z-eq4096 t c =
+pub emit_substituted-returns-in_err-z : goal.emit_substituted-returns-in_err-z
+emit_substituted-returns-in_err-z t c =
     let j =
     started c.requires c.read_cell-t.ensures c.entry_of-e.ensures (λ n. (c.type_inv.s n).fits) c.if-t-eq16.false c.binders-inner.ensures in
-    let at = after_second j c.substitute_field-x.ensures c.if-x-eq4096.false c.substitute_field-y.ensures c.if-y-eq4096.false in
-    bodies (none_third at (each_c j c.substitute_field-z.ensures) (emitted_full c.if-z-eq4096.true))
+    let at = after_second j c.substitute_field.ensures c.in_ok-x.was c.substitute_field-2.ensures c.in_ok-y.was in
+    rw c.from_residual-in_err-z.ensures (bodies (none_third {z = substitute_chain j} at (each_c j c.substitute_field-3.ensures) c.in_err-z.was))
 
-pub emit_substituted-finish_row-r-requires : goal.emit_substituted-finish_row-r-requires
-emit_substituted-finish_row-r-requires t c =
+pub emit_substituted-finish_row-requires : goal.emit_substituted-finish_row-requires
+emit_substituted-finish_row-requires t c =
     let j =
     started c.requires c.read_cell-t.ensures c.entry_of-e.ensures (λ n. (c.type_inv.s n).fits) c.if-t-eq16.false c.binders-inner.ensures in
-    substitute_ready j (after_third j c.substitute_field-x.ensures c.if-x-eq4096.false c.substitute_field-y.ensures c.if-y-eq4096.false c.substitute_field-z.ensures c.if-z-eq4096.false)
+    substitute_ready j (after_third j c.substitute_field.ensures c.in_ok-x.was c.substitute_field-2.ensures c.in_ok-y.was c.substitute_field-3.ensures c.in_ok-z.was)
 
 pub emit_substituted-returns : goal.emit_substituted-returns
 emit_substituted-returns t c =
     let j =
     started c.requires c.read_cell-t.ensures c.entry_of-e.ensures (λ n. (c.type_inv.s n).fits) c.if-t-eq16.false c.binders-inner.ensures in
-    let at = after_third j c.substitute_field-x.ensures c.if-x-eq4096.false c.substitute_field-y.ensures c.if-y-eq4096.false c.substitute_field-z.ensures c.if-z-eq4096.false in
-    rw c.end_of.ensures (bodies (emitted at c.finish_row-r.ensures))
+    let at = after_third j c.substitute_field.ensures c.in_ok-x.was c.substitute_field-2.ensures c.in_ok-y.was c.substitute_field-3.ensures c.in_ok-z.was in
+    bodies (emitted at c.finish_row.ensures)
 
-pub substitute_field-returns-then-u-lt2 : goal.substitute_field-returns-then-u-lt2
-substitute_field-returns-then-u-lt2 t c = nothing_emits c.if-u-lt2.true c.requires
+pub substitute_field-returns-in-Unused : goal.substitute_field-returns-in-Unused
+substitute_field-returns-in-Unused t c = nothing_emits c.in-Unused.is c.requires
 
-pub substitute_field-returns-then-u-eq2 : goal.substitute_field-returns-then-u-eq2
-substitute_field-returns-then-u-eq2 t c = rw c.end_of.ensures (copy_emits c.if-u-eq2.true c.emit_run_to-r.ensures)
+pub substitute_field-returns-in-ToType : goal.substitute_field-returns-in-ToType
+substitute_field-returns-in-ToType t c = copy_emits c.in-ToType.is c.emit_run_to.ensures
 
-pub substitute_field-returns : goal.substitute_field-returns
-substitute_field-returns t c = body_emits (omega (arith, c.if-u-lt2.false, c.if-u-eq2.false)) c.emit_substituted.ensures
+pub substitute_field-returns-in-ToTerm : goal.substitute_field-returns-in-ToTerm
+substitute_field-returns-in-ToTerm t c = body_emits c.in-ToTerm.is c.emit_substituted.ensures

@@ -2,54 +2,44 @@
 use mathlib.Core.Path.{◌≡◌, refl}
 use mathlib.Core.List.{List}
 use Prim.Native.Nat.{ℕ}
-use Rattle.emission.specs.Emits.{emitted_of}
 use Rattle.emission.specs.Copies.{EmitsEnd}
-use Rattle.emission.specs.declared.Emitted.{Emitted}
-use Rattle.emission.specs.declared.Emitted.TheVariants.{Next}
+use Rattle.std.specs.Prelude.{Option, Some}
 use Rattle.emission.proofs.Chain.{First, Third, first, none_first, second_space, second, none_second, third_none, ends, emitted}
 use Rattle.emission.proofs.Copies.{run_ready}
-use Rattle.emission.proofs.Ends.{emitted_full, emitted_next}
 use Rattle.reduction.specs.Steps.{InstanceReady, EmitsSubstituted}
 use Rattle.reduction.specs.declared.Source.{Source}
-use Rattle.reduction.proofs.Instances.{renamed_emits, instance, instance_chain, body_each, type_each}
+use Rattle.reduction.proofs.Instances.{instance, instance_chain, body_each, type_each}
 use Rattle.reduction.proofs.emit_instance.Goals as goal
 
--- what is known after each part that fitted; p is the source, q another name of it
-module _ {s d : List ℕ} {i a m : ℕ} {p q : Source} (o : InstanceReady s d i a m p) (e : q ≡ p) {f : List ℕ} {x : ℕ}
-    (b : EmitsSubstituted s d f i 0 m q (emitted_of x)) (n : x ≡ 4096 → ⊥) where
+-- what is known after each part that fitted
+module _ {s d : List ℕ} {i a m : ℕ} {p : Source} (o : InstanceReady s d i a m p) {f : List ℕ} {x : ℕ} {q : Option ℕ}
+    (b : EmitsSubstituted s d f i 0 m p q) (n : q ≡ Some x) where
   after_body : First (instance_chain o) f x
-  after_body = first (instance_chain o) (body_each o (renamed_emits e b)) (emitted_next n)
+  after_body = first (instance_chain o) (body_each o b) n
 
-  after_type : {g : List ℕ} {y : ℕ} {r : Emitted} → EmitsEnd s f g a x r → r ≡ Next y → Third (instance_chain o) f x g y g y
+  after_type : {g : List ℕ} {y : ℕ} {r : Option ℕ} → EmitsEnd s f g a x r → r ≡ Some y → Third (instance_chain o) f x g y g y
   after_type h k = third_none (second after_body (type_each o h) k) refl
 
-pub returns-then-x-eq4096 : goal.returns-then-x-eq4096
-returns-then-x-eq4096 c =
-    instance
-    (none_first (instance_chain c.requires)
-    (body_each c.requires (renamed_emits c.pack-q.ensures c.emit_substituted-x.ensures))
-    (emitted_full c.if-x-eq4096.true))
+pub returns-in_err-x : goal.returns-in_err-x
+returns-in_err-x c =
+    rw c.from_residual.ensures
+    (instance (none_first (instance_chain c.requires) (body_each c.requires c.emit_substituted.ensures) c.in_err-x.was))
 
 pub emit_run_to-requires : goal.emit_run_to-requires
-emit_run_to-requires c =
-    run_ready c.requires.holds.run (second_space (after_body c.requires c.pack-q.ensures c.emit_substituted-x.ensures c.if-x-eq4096.false))
+emit_run_to-requires c = run_ready c.requires.holds.run (second_space (after_body c.requires c.emit_substituted.ensures c.in_ok-x.was))
 
-pub returns-in_default : goal.returns-in_default
-returns-in_default c =
-    let k = after_body c.requires c.pack-q.ensures c.emit_substituted-x.ensures c.if-x-eq4096.false in
-    instance (none_second k (type_each c.requires c.emit_run_to.ensures) c.in_default.is)
+pub returns-in_err-y : goal.returns-in_err-y
+returns-in_err-y c =
+    let k = after_body c.requires c.emit_substituted.ensures c.in_ok-x.was in
+    rw c.from_residual-in_err-y.ensures (instance (none_second k (type_each c.requires c.emit_run_to.ensures) c.in_err-y.was))
 
 pub overflow_sub-x : goal.overflow_sub-x
-overflow_sub-x c =
-    (ends (after_type c.requires c.pack-q.ensures c.emit_substituted-x.ensures c.if-x-eq4096.false c.emit_run_to.ensures c.in-Next.is)).0
+overflow_sub-x c = (ends (after_type c.requires c.emit_substituted.ensures c.in_ok-x.was c.emit_run_to.ensures c.in_ok-y.was)).0
 
 pub overflow_sub-y : goal.overflow_sub-y
-overflow_sub-y c =
-    (ends (after_type c.requires c.pack-q.ensures c.emit_substituted-x.ensures c.if-x-eq4096.false c.emit_run_to.ensures c.in-Next.is)).1
+overflow_sub-y c = (ends (after_type c.requires c.emit_substituted.ensures c.in_ok-x.was c.emit_run_to.ensures c.in_ok-y.was)).1
 
 pub returns : goal.returns
 returns c =
     instance
-    (emitted
-    (after_type c.requires c.pack-q.ensures c.emit_substituted-x.ensures c.if-x-eq4096.false c.emit_run_to.ensures c.in-Next.is)
-    c.finish.ensures)
+    (emitted (after_type c.requires c.emit_substituted.ensures c.in_ok-x.was c.emit_run_to.ensures c.in_ok-y.was) c.finish.ensures)

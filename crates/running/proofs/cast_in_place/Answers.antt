@@ -14,11 +14,11 @@ returns-then-y-eq1 c = search (h_became)
 pub read_cell-v-requires : goal.read_cell-v-requires
 read_cell-v-requires c = search value_in
 
-pub returns-then-y-eq3 : goal.returns-then-y-eq3
-returns-then-y-eq3 c = search h_became
+pub returns-in-21-eq3 : goal.returns-in-21-eq3
+returns-in-21-eq3 c = search h_became
 
 pub became-requires : goal.became-requires
 became-requires c = search redex_root
 
-pub returns-then-y-eq1-2 : goal.returns-then-y-eq1-2
-returns-then-y-eq1-2 c = record { says = h_became refl (λ h. becomes_at c.became.ensures (search casts_number)) }
+pub returns-in-17-eq1 : goal.returns-in-17-eq1
+returns-in-17-eq1 c = record { says = h_became refl (λ h. becomes_at c.became.ensures (search casts_number)) }

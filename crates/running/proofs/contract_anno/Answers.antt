@@ -2,5 +2,5 @@
 use Rattle.running.proofs.Contracting.{became_is}
 use Rattle.running.proofs.contract_anno.Goals as goal
 
-pub returns-in-Became : goal.returns-in-Became
-returns-in-Became c = search became_is
+pub returns-in-Some : goal.returns-in-Some
+returns-in-Some c = search became_is

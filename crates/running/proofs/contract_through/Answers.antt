@@ -1,5 +1,6 @@
 -- `running::contract_through` meets its contract. Assumes nothing.
 use native.Mathlib.Omega.{arith}
+use mathlib.Core.Path.{refl}
 use Rattle.running.proofs.Ranges.{redex_start, redex_low}
 use Rattle.running.proofs.Contracting.{emit_ready, contracts_full, installing, contracts_next}
 use Rattle.running.proofs.contract_through.Goals as goal
@@ -13,11 +14,11 @@ overflow_sub-m c = omega (arith, redex_low)
 pub emit_contractum-requires : goal.emit_contractum-requires
 emit_contractum-requires c = search emit_ready
 
-pub returns-in_default : goal.returns-in_default
-returns-in_default c = search contracts_full
+pub returns-in_err-end : goal.returns-in_err-end
+returns-in_err-end c h = contracts_full c.requires c.emit_contractum.ensures c.in_err-end.was c.from_residual.ensures
 
 pub install-requires : goal.install-requires
-install-requires c = search installing
+install-requires c = installing c.requires c.emit_contractum.ensures c.in_ok-end.was c.emit_contractum.auto.d refl
 
 pub returns : goal.returns
-returns c = search contracts_next
+returns c h = contracts_next c.requires c.emit_contractum.ensures c.in_ok-end.was c.install.ensures

@@ -8,14 +8,14 @@ read_cell-v-requires c = search value_within
 pub became-requires : goal.became-requires
 became-requires c = search redex_root
 
-pub returns-then-v-eq18 : goal.returns-then-v-eq18
-returns-then-v-eq18 c = search (becomes_at, projects_top)
+pub returns-in-18 : goal.returns-in-18
+returns-in-18 c = search (becomes_at, projects_top)
 
 pub overflow_sub-p : goal.overflow_sub-p
 overflow_sub-p c = search value_left
 
-pub became-requires-2 : goal.became-requires-2
-became-requires-2 c = search redex_root
+pub became-requires-in_default : goal.became-requires-in_default
+became-requires-in_default c = search redex_root
 
-pub returns : goal.returns
-returns c = search (becomes_at, projects_record)
+pub returns-in_default : goal.returns-in_default
+returns-in_default c = search (becomes_at, projects_record)

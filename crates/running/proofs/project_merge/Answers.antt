@@ -14,15 +14,15 @@ returns-in_default c h =
 
 pub overflow_sub-n : goal.overflow_sub-n
 overflow_sub-n c =
-    omega (arith, part_range _ _ c.requires c.value_part.ensures c.in-Cells.is)
+    omega (arith, part_range _ _ c.requires c.value_part.ensures c.in-Some.is)
 
 pub shift-requires : goal.shift-requires
 shift-requires c =
-    part_shift _ _ c.requires c.value_part.ensures c.in-Cells.is
+    part_shift _ _ c.requires c.value_part.ensures c.in-Some.is
 
 pub overflow_add-p : goal.overflow_add-p
 overflow_add-p c =
-    omega (arith, part_range _ _ c.requires c.value_part.ensures c.in-Cells.is)
+    omega (arith, part_range _ _ c.requires c.value_part.ensures c.in-Some.is)
 
 pub became-requires : goal.became-requires
 became-requires c = search redex_low
@@ -30,4 +30,4 @@ became-requires c = search redex_low
 pub returns : goal.returns
 returns c h =
     becomes_at c.became.ensures
-    (projects_part _ _ c.requires c.value_part.ensures c.in-Cells.is c.shift.ensures)
+    (projects_part _ _ c.requires c.value_part.ensures c.in-Some.is c.shift.ensures)

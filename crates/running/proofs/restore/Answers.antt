@@ -1,4 +1,5 @@
 -- `running::restore` meets its contract. Assumes nothing.
+use Rattle.std.proofs.Common.{rules}
 use native.Mathlib.Omega.{arith}
 use mathlib.Core.Path.{refl}
 use mathlib.Core.Logic.{inl, inr}
@@ -9,7 +10,7 @@ use Rattle.running.proofs.restore.Goals.{then-t-eq0-via-then-t-eq0, then-t-eq0-v
 
 pub write_cell-requires : goal.write_cell-requires
 write_cell-requires c =
-    let f = restore_fits c.requires c.read_cell-t.ensures (λ i. (c.slice_known-1.given i).fits) in
+    let f = restore_fits c.requires c.read_cell-t.ensures (λ i. search rules) in
     (search restore_within, omega arith)
 
 -- the premises by name: with another cell written, the fact that fails is the cell
@@ -20,7 +21,7 @@ returns-then-t-eq0 c =
 
 pub write_cell-requires-2 : goal.write_cell-requires-2
 write_cell-requires-2 c =
-    let f = restore_fits c.requires c.read_cell-t.ensures (λ i. (c.slice_known-1.given i).fits) in
+    let f = restore_fits c.requires c.read_cell-t.ensures (λ i. search rules) in
     (search restore_within, omega arith)
 
 pub returns : goal.returns

@@ -2,9 +2,6 @@
 use Rattle.running.proofs.Loop.{going_first, going_ready, going_less, going_next, ending_whole, going_ends}
 use Rattle.running.proofs.run_on.Goals as goal
 
-pub start-requires : goal.start-requires
-start-requires c = search
-
 pub loop-next-init : goal.loop-next-init
 loop-next-init c = search going_first
 
@@ -19,7 +16,7 @@ loop-next-preserved c = search going_next
 
 pub encode_whole-cells-requires : goal.encode_whole-cells-requires
 encode_whole-cells-requires c =
-    ending_whole c.loop-next.invariant c.step.auto.s c.step.ensures c.in-Ended.is
+    ending_whole c.loop-next.invariant c.step.auto.s c.step.ensures c.in-Break.is
 
-pub returns-in-Ended : goal.returns-in-Ended
-returns-in-Ended c = search going_ends
+pub returns-in-Break : goal.returns-in-Break
+returns-in-Break c = search going_ends

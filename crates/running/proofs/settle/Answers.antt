@@ -1,5 +1,5 @@
 -- `running::settle` meets its contract. Assumes nothing.
-use Rattle.running.proofs.Settling.{under_first, under_next, under_ready, under_falls, under_redex, under_whole}
+use Rattle.running.proofs.Settling.{under_first, under_next, under_ready, under_falls, under_settled}
 use Rattle.running.proofs.settle.Goals as goal
 
 pub loop-focus-init : goal.loop-focus-init
@@ -23,14 +23,5 @@ loop-focus-smaller c = search under_falls
 pub loop-focus-preserved : goal.loop-focus-preserved
 loop-focus-preserved c = search under_next
 
-pub shape_of-w-in-Redex : goal.shape_of-w-in-Redex
-shape_of-w-in-Redex c = search
-
 pub returns-in-Redex : goal.returns-in-Redex
-returns-in-Redex c = search under_redex
-
-pub shape_of-w-in-Whole : goal.shape_of-w-in-Whole
-shape_of-w-in-Whole c = search
-
-pub returns-in-Whole : goal.returns-in-Whole
-returns-in-Whole c = search under_whole
+returns-in-Redex c = search under_settled

@@ -11,11 +11,11 @@ returns-then-k-limit c = search turn_spent
 pub returns-in_default-contract : goal.returns-in_default-contract
 returns-in_default-contract c = search turn_room
 
-pub settle-next-requires : goal.settle-next-requires
-settle-next-requires c = search contracted_ready
+pub settle-focus-requires : goal.settle-focus-requires
+settle-focus-requires c = search contracted_ready
 
-pub count_cells-n-requires : goal.count_cells-n-requires
-count_cells-n-requires c = search settled_gap
+pub cells-n-requires : goal.cells-n-requires
+cells-n-requires c = search settled_gap
 
 pub returns : goal.returns
 returns c = search turn_next

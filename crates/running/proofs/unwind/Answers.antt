@@ -15,8 +15,5 @@ loop-around-smaller c = search (outward_less, around_low)
 pub loop-around-preserved : goal.loop-around-preserved
 loop-around-preserved c = search outward_next
 
-pub shape_of-w : goal.shape_of-w
-shape_of-w c = search
-
 pub returns : goal.returns
 returns c = search outward_ends

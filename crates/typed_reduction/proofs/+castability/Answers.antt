@@ -1,21 +1,18 @@
--- Whether and by which part a held value can be read under a held type is decided exactly. The measure is three times the sum of the two
--- sizes, and 2, 1, 0 for the three functions. Assumes nothing.
+-- Whether and by which part a held value can be read under a held type is decided exactly. The measure is four times the sum of the two
+-- sizes, and 3, 2, 1, 0 for the three functions and the test of a part. Assumes nothing.
 use native.Mathlib.Omega.{arith}
 use Rattle.cells.specs.Coded.{as_cell}
 use Rattle.cells.proofs.Held.{held_within}
 use Rattle.emission.proofs.Runs.{holds_type, holds_term}
-use Rattle.typed_reduction.proofs.Deciding.{casts_top, Halves, halves, casts_both, casts_not_first, proper, casts_part, casts_nothing}
-use Rattle.typed_reduction.proofs.Deciding.{MergeHalves, merge_halves, under, finds_left, finds_right, single, finds_none, finds_itself}
+use Rattle.typed_reduction.proofs.Deciding.{casts_top, Halves, halves, casts_both, casts_not_first, proper, casts_found}
+use Rattle.typed_reduction.proofs.Deciding.{single, finds_part}
+use Rattle.typed_reduction.proofs.Parts.{part_runs}
 use Rattle.typed_reduction.proofs.Deciding.{CellsOf, casts_number, inputs, outputs, casts_function, casts_not_input, casts_no_function}
 use Rattle.typed_reduction.proofs.Deciding.{contents, casts_record, casts_not_label, casts_no_record}
 use Prim.Native.Nat.{ℕ}
 use Rattle.typed_reduction.proofs.+castability.Goals as goal
-use Rattle.typed_reduction.proofs.+castability.Goals.{find_part-Then-x-eq22}
 use Rattle.typed_reduction.proofs.+castability.Goals.{is_castable-Then-y-eq4}
 use Rattle.typed_reduction.proofs.+castability.Goals.{is_castable_part-After-read_cell-y}
-
-merged : (t : ℕ) → (c : find_part-Then-x-eq22 t) → let from = c.args in MergeHalves from.s.now from.v c.read_cell-x.result.a c.read_cell-x.result.b
-merged t c = merge_halves c.read_cell-x.ensures c.requires.both.holds_value c.if-x-eq22.true
 
 split : (t : ℕ) → (c : is_castable-Then-y-eq4 t) → let from = c.args in Halves from.s.now from.v from.a c.read_cell-y.result.a c.read_cell-y.result.b
 split t c = halves c.read_cell-y.ensures _ c.requires c.if-y-eq4.true
@@ -24,37 +21,16 @@ split t c = halves c.read_cell-y.ensures _ c.requires c.if-y-eq4.true
 cells_of : (t : ℕ) → (c : is_castable_part-After-read_cell-y t) → let at = c.args in CellsOf at.s.now at.v at.a (as_cell c.read_cell-x.result) (as_cell c.read_cell-y.result)
 cells_of t c = record { given = c.requires; value = c.read_cell-x.ensures; type = c.read_cell-y.ensures }
 
-pub find_part-read_cell-x-requires : goal.find_part-read_cell-x-requires
-find_part-read_cell-x-requires t c = held_within (holds_term c.requires.both.holds_value)
+pub find_part-first_part-requires : goal.find_part-first_part-requires
+find_part-first_part-requires t c =
+    let h = c.requires.both.holds_value in
+    record {
+      value = record { value = c.requires.both.value; holds = h };
+      tested = λ p o. (omega (arith, (part_runs o h).no_larger, c.decreases), single c.requires o);
+    }
 
-pub find_part-find_part-left-requires : goal.find_part-find_part-left-requires
-find_part-find_part-left-requires t c =
-    let h = merged t c in
-    (omega (arith, h.smaller.0, c.decreases), under c.requires h.first.holds)
-
-pub find_part-returns-in_default : goal.find_part-returns-in_default
-find_part-returns-in_default t c =
-    finds_left c.requires c.read_cell-x.ensures c.if-x-eq22.true c.find_part-left.ensures c.in_default.is
-
-pub find_part-find_part-requires : goal.find_part-find_part-requires
-find_part-find_part-requires t c =
-    let h = merged t (goal.at.find_part-find_part-requires t c).Then-x-eq22 in
-    (omega (arith, h.smaller.1, c.decreases), under c.requires h.second.holds)
-
-pub find_part-returns-then-x-eq22 : goal.find_part-returns-then-x-eq22
-find_part-returns-then-x-eq22 t c =
-    finds_right c.requires c.read_cell-x.ensures c.if-x-eq22.true c.find_part-left.ensures c.in-Nothing.is c.find_part.ensures
-
-pub find_part-is_castable_part-requires : goal.find_part-is_castable_part-requires
-find_part-is_castable_part-requires t c =
-    (omega (arith, c.decreases), single c.requires c.read_cell-x.ensures c.if-x-eq22.false)
-
-pub find_part-returns-then-is_castable_part : goal.find_part-returns-then-is_castable_part
-find_part-returns-then-is_castable_part t c =
-    finds_itself c.is_castable_part.ensures (single c.requires c.read_cell-x.ensures c.if-x-eq22.false) c.if-is_castable_part.true
-
-pub find_part-returns-else-is_castable_part : goal.find_part-returns-else-is_castable_part
-find_part-returns-else-is_castable_part t c = finds_none c.is_castable_part.ensures c.if-is_castable_part.false
+pub find_part-returns : goal.find_part-returns
+find_part-returns t c = finds_part c.requires c.first_part.ensures (λ p b h. h)
 
 pub is_castable-read_cell-y-requires : goal.is_castable-read_cell-y-requires
 is_castable-read_cell-y-requires t c = held_within (holds_type c.requires.holds_type)
@@ -82,11 +58,8 @@ pub is_castable-find_part-requires : goal.is_castable-find_part-requires
 is_castable-find_part-requires t c =
     (omega (arith, c.decreases), proper c.read_cell-y.ensures _ c.requires c.if-y-eq1.false c.if-y-eq4.false)
 
-pub is_castable-returns-in-At : goal.is_castable-returns-in-At
-is_castable-returns-in-At t c = casts_part c.find_part.ensures c.in-At.is
-
-pub is_castable-returns-in_default : goal.is_castable-returns-in_default
-is_castable-returns-in_default t c = casts_nothing c.find_part.ensures c.in_default.is
+pub is_castable-returns : goal.is_castable-returns
+is_castable-returns t c = rw c.is_some.ensures (casts_found c.find_part.ensures)
 
 pub is_castable_part-read_cell-x-requires : goal.is_castable_part-read_cell-x-requires
 is_castable_part-read_cell-x-requires t c = held_within (holds_term c.requires.at.both.holds_value)

@@ -13,33 +13,33 @@ use Prim.Native.Nat.{ℕ}
 use Rattle.typed_reduction.proofs.+casting.Goals as goal
 use Rattle.typed_reduction.proofs.+casting.Goals.{emit_part-After-read_cell-y}
 use Rattle.typed_reduction.proofs.+casting.Goals.{emit_part-Else-y-eq1}
-use Rattle.typed_reduction.proofs.+casting.Goals.{emit_part-In-Next}
+use Rattle.typed_reduction.proofs.+casting.Goals.{emit_part-In_ok-z}
 use Rattle.typed_reduction.proofs.+casting.Goals.{emit_value_cast-Else-t-ne4-2}
 use Rattle.typed_reduction.proofs.+casting.Goals.{emit_value_cast-Then-t-ne4-2, emit_value_cast-else-t-eq1-via-then-t-eq1+else-t-ne4, emit_value_cast-else-t-eq1-via-else-t-eq1}
-use Rattle.typed_reduction.proofs.+casting.Goals.{emit_value_cast-In-Next}
-use Rattle.typed_reduction.proofs.+casting.Goals.{emit_value_cast-In-Next-emit_value_cast}
+use Rattle.typed_reduction.proofs.+casting.Goals.{emit_value_cast-In_ok-x}
+use Rattle.typed_reduction.proofs.+casting.Goals.{emit_value_cast-In_ok-y}
 
 -- the part is found and the type's cell is read
-found : (t : ℕ) → (c : emit_part-After-read_cell-y t) → let at = c.args in Found at.s.now at.d.now at.v at.a at.m c.in-At.p (as_cell c.read_cell-y.result)
+found : (t : ℕ) → (c : emit_part-After-read_cell-y t) → let at = c.args in Found at.s.now at.d.now at.v at.a at.m c.in_ok-p.p (as_cell c.read_cell-y.result)
 found t c =
     record {
       bytes = λ j. (c.type_inv.s j).fits;
       ready = c.requires;
       answer = c.part_of.result;
       finds = c.part_of.ensures;
-      at = c.in-At.is;
+      at = c.in_ok-p.was;
       is = c.read_cell-y.ensures;
     }
 
 -- it is a record; and its content fitted
-recorded : (t : ℕ) → (c : emit_part-Else-y-eq1 t) → let at = c.args in Recorded at.s.now at.d.now at.v at.a at.m c.in-At.p (as_cell c.read_cell-y.result) (as_cell c.read_cell-x.result)
+recorded : (t : ℕ) → (c : emit_part-Else-y-eq1 t) → let at = c.args in Recorded at.s.now at.d.now at.v at.a at.m c.in_ok-p.p (as_cell c.read_cell-y.result) (as_cell c.read_cell-x.result)
 recorded t c =
     record { found = found t (goal.at.emit_part-Else-y-eq1 t c).After-read_cell-y; cell = c.read_cell-x.ensures; not_int = c.if-y-eq1.false; not_arrow = c.if-y-eq3.false }
 
-after_content : (t : ℕ) → (c : emit_part-In-Next t) → Third (record_chain (recorded t (goal.at.emit_part-In-Next t c).Else-y-eq1)) c.emit_value_cast.new.d c.in-Next.z c.emit_value_cast.new.d c.in-Next.z c.emit_value_cast.new.d c.in-Next.z
+after_content : (t : ℕ) → (c : emit_part-In_ok-z t) → Third (record_chain (recorded t (goal.at.emit_part-In_ok-z t c).Else-y-eq1)) c.emit_value_cast.new.d c.in_ok-z.z c.emit_value_cast.new.d c.in_ok-z.z c.emit_value_cast.new.d c.in_ok-z.z
 after_content t c =
-    let g = recorded t (goal.at.emit_part-In-Next t c).Else-y-eq1 in
-    third_none (second_none (first (record_chain g) (content_each g c.emit_value_cast.ensures) c.in-Next.is) refl) refl
+    let g = recorded t (goal.at.emit_part-In_ok-z t c).Else-y-eq1 in
+    third_none (second_none (first (record_chain g) (content_each g c.emit_value_cast.ensures) c.in_ok-z.was) refl) refl
 
 -- a type that is no intersection and is not answered at once is not top-like
 not_marked : (t : ℕ) (c : emit_value_cast-Then-t-ne4-2 t) → c.read_cell-t.result.c ≡ 1 → ⊥
@@ -52,19 +52,19 @@ not_marked t c = elim c.else-t-eq1.branch [
 split : (t : ℕ) → (c : emit_value_cast-Else-t-ne4-2 t) → let at = c.args in Split at.s.now at.d.now at.v at.a at.m (as_cell c.read_cell-t.result)
 split t c = record { is = c.read_cell-t.ensures; kind = c.if-t-ne4-2.false; ready = c.requires }
 
-after_first : (t : ℕ) → (c : emit_value_cast-In-Next t) → First (merge_chain (split t (goal.at.emit_value_cast-In-Next t c).Else-t-ne4-2)) c.emit_value_cast.new.d c.in-Next.x
-after_first t c = let g = split t (goal.at.emit_value_cast-In-Next t c).Else-t-ne4-2 in first (merge_chain g) (first_each g c.emit_value_cast.ensures) c.in-Next.is
+after_first : (t : ℕ) → (c : emit_value_cast-In_ok-x t) → First (merge_chain (split t (goal.at.emit_value_cast-In_ok-x t c).Else-t-ne4-2)) c.emit_value_cast.new.d c.in_ok-x.x
+after_first t c = let g = split t (goal.at.emit_value_cast-In_ok-x t c).Else-t-ne4-2 in first (merge_chain g) (first_each g c.emit_value_cast.ensures) c.in_ok-x.was
 
-after_second : (t : ℕ) → (c : emit_value_cast-In-Next-emit_value_cast t) → Third (merge_chain (split t (goal.at.emit_value_cast-In-Next-emit_value_cast t c).Else-t-ne4-2)) c.emit_value_cast.new.d c.in-Next.x c.emit_value_cast-2.new.d c.in-Next-emit_value_cast.y c.emit_value_cast-2.new.d c.in-Next-emit_value_cast.y
+after_second : (t : ℕ) → (c : emit_value_cast-In_ok-y t) → Third (merge_chain (split t (goal.at.emit_value_cast-In_ok-y t c).Else-t-ne4-2)) c.emit_value_cast.new.d c.in_ok-x.x c.emit_value_cast-2.new.d c.in_ok-y.y c.emit_value_cast-2.new.d c.in_ok-y.y
 after_second t c =
-    let g = split t (goal.at.emit_value_cast-In-Next-emit_value_cast t c).Else-t-ne4-2 in
-    third_none (second (after_first t (goal.at.emit_value_cast-In-Next-emit_value_cast t c).In-Next) (second_each g c.emit_value_cast-2.ensures) c.in-Next-emit_value_cast.is) refl
+    let g = split t (goal.at.emit_value_cast-In_ok-y t c).Else-t-ne4-2 in
+    third_none (second (after_first t (goal.at.emit_value_cast-In_ok-y t c).In_ok-x) (second_each g c.emit_value_cast-2.ensures) c.in_ok-y.was) refl
 
 pub emit_part-part_of-requires : goal.emit_part-part_of-requires
 emit_part-part_of-requires t c = proper_at c.requires
 
-pub emit_part-returns-in_default : goal.emit_part-returns-in_default
-emit_part-returns-in_default t c = no_part c.part_of.ensures c.in_default.is
+pub emit_part-returns-in_err-p : goal.emit_part-returns-in_err-p
+emit_part-returns-in_err-p t c = no_part c.part_of.ensures c.in_err-p.was
 
 pub emit_part-read_cell-y-requires : goal.emit_part-read_cell-y-requires
 emit_part-read_cell-y-requires t c = held_within (holds_type c.requires.ready.both.holds_type)
@@ -91,18 +91,18 @@ emit_part-emit_value_cast-requires t c =
     let g = recorded t (goal.at.emit_part-emit_value_cast-requires t c).Else-y-eq1 in
     (omega (arith, content_smaller g, c.decreases), content_ready g)
 
-pub emit_part-returns-in_default-emit_value_cast : goal.emit_part-returns-in_default-emit_value_cast
-emit_part-returns-in_default-emit_value_cast t c =
-    let g = recorded t (goal.at.emit_part-returns-in_default-emit_value_cast t c).Else-y-eq1 in all_casts (none_first (record_chain g) (content_each g c.emit_value_cast.ensures) c.in_default-emit_value_cast.is)
+pub emit_part-returns-in_err-z : goal.emit_part-returns-in_err-z
+emit_part-returns-in_err-z t c =
+    let g = recorded t (goal.at.emit_part-returns-in_err-z t c).Else-y-eq1 in rw c.from_residual-in_err-z.ensures (all_casts (none_first (record_chain g) (content_each g c.emit_value_cast.ensures) c.in_err-z.was))
 
 pub emit_part-overflow_sub-z : goal.emit_part-overflow_sub-z
-emit_part-overflow_sub-z t c = (ends (after_content t (goal.at.emit_part-overflow_sub-z t c).In-Next)).0
+emit_part-overflow_sub-z t c = (ends (after_content t (goal.at.emit_part-overflow_sub-z t c).In_ok-z)).0
 
 pub emit_part-finish-requires-2 : goal.emit_part-finish-requires-2
-emit_part-finish-requires-2 t c = last_ready (after_content t (goal.at.emit_part-finish-requires-2 t c).In-Next)
+emit_part-finish-requires-2 t c = last_ready (after_content t (goal.at.emit_part-finish-requires-2 t c).In_ok-z)
 
 pub emit_part-returns : goal.emit_part-returns
-emit_part-returns t c = all_casts (emitted (after_content t (goal.at.emit_part-returns t c).In-Next) c.finish-2.ensures)
+emit_part-returns t c = all_casts (emitted (after_content t (goal.at.emit_part-returns t c).In_ok-z) c.finish-2.ensures)
 
 pub emit_value_cast-read_cell-t-requires : goal.emit_value_cast-read_cell-t-requires
 emit_value_cast-read_cell-t-requires t c = held_within (holds_type c.requires.both.holds_type)
@@ -122,27 +122,27 @@ pub emit_value_cast-emit_value_cast-requires : goal.emit_value_cast-emit_value_c
 emit_value_cast-emit_value_cast-requires t c =
     let g = split t (goal.at.emit_value_cast-emit_value_cast-requires t c).Else-t-ne4-2 in (omega (arith, (smaller g).0, c.decreases), first_ready g c.requires.space)
 
-pub emit_value_cast-returns-in_default : goal.emit_value_cast-returns-in_default
-emit_value_cast-returns-in_default t c =
-    let g = split t (goal.at.emit_value_cast-returns-in_default t c).Else-t-ne4-2 in all_casts (none_first (merge_chain g) (first_each g c.emit_value_cast.ensures) c.in_default.is)
+pub emit_value_cast-returns-in_err-x : goal.emit_value_cast-returns-in_err-x
+emit_value_cast-returns-in_err-x t c =
+    let g = split t (goal.at.emit_value_cast-returns-in_err-x t c).Else-t-ne4-2 in rw c.from_residual.ensures (all_casts (none_first (merge_chain g) (first_each g c.emit_value_cast.ensures) c.in_err-x.was))
 
 pub emit_value_cast-emit_value_cast-requires-2 : goal.emit_value_cast-emit_value_cast-requires-2
 emit_value_cast-emit_value_cast-requires-2 t c =
-    let g = split t (goal.at.emit_value_cast-emit_value_cast-requires-2 t c).Else-t-ne4-2 in (omega (arith, (smaller g).1, c.decreases), second_ready g (second_space (after_first t (goal.at.emit_value_cast-emit_value_cast-requires-2 t c).In-Next)))
+    let g = split t (goal.at.emit_value_cast-emit_value_cast-requires-2 t c).Else-t-ne4-2 in (omega (arith, (smaller g).1, c.decreases), second_ready g (second_space (after_first t (goal.at.emit_value_cast-emit_value_cast-requires-2 t c).In_ok-x)))
 
-pub emit_value_cast-returns-in_default-emit_value_cast : goal.emit_value_cast-returns-in_default-emit_value_cast
-emit_value_cast-returns-in_default-emit_value_cast t c =
-    let g = split t (goal.at.emit_value_cast-returns-in_default-emit_value_cast t c).Else-t-ne4-2 in
-    all_casts (none_second (after_first t (goal.at.emit_value_cast-returns-in_default-emit_value_cast t c).In-Next) (second_each g c.emit_value_cast-2.ensures) c.in_default-emit_value_cast.is)
+pub emit_value_cast-returns-in_err-y : goal.emit_value_cast-returns-in_err-y
+emit_value_cast-returns-in_err-y t c =
+    let g = split t (goal.at.emit_value_cast-returns-in_err-y t c).Else-t-ne4-2 in
+    rw c.from_residual-in_err-y.ensures (all_casts (none_second (after_first t (goal.at.emit_value_cast-returns-in_err-y t c).In_ok-x) (second_each g c.emit_value_cast-2.ensures) c.in_err-y.was))
 
 pub emit_value_cast-overflow_sub-x : goal.emit_value_cast-overflow_sub-x
-emit_value_cast-overflow_sub-x t c = (ends (after_second t (goal.at.emit_value_cast-overflow_sub-x t c).In-Next-emit_value_cast)).0
+emit_value_cast-overflow_sub-x t c = (ends (after_second t (goal.at.emit_value_cast-overflow_sub-x t c).In_ok-y)).0
 
 pub emit_value_cast-overflow_sub-y : goal.emit_value_cast-overflow_sub-y
-emit_value_cast-overflow_sub-y t c = (ends (after_second t (goal.at.emit_value_cast-overflow_sub-y t c).In-Next-emit_value_cast)).1
+emit_value_cast-overflow_sub-y t c = (ends (after_second t (goal.at.emit_value_cast-overflow_sub-y t c).In_ok-y)).1
 
 pub emit_value_cast-finish-requires : goal.emit_value_cast-finish-requires
-emit_value_cast-finish-requires t c = last_ready (after_second t (goal.at.emit_value_cast-finish-requires t c).In-Next-emit_value_cast)
+emit_value_cast-finish-requires t c = last_ready (after_second t (goal.at.emit_value_cast-finish-requires t c).In_ok-y)
 
 pub emit_value_cast-returns : goal.emit_value_cast-returns
-emit_value_cast-returns t c = all_casts (emitted (after_second t (goal.at.emit_value_cast-returns t c).In-Next-emit_value_cast) c.finish.ensures)
+emit_value_cast-returns t c = all_casts (emitted (after_second t (goal.at.emit_value_cast-returns t c).In_ok-y) c.finish.ensures)

@@ -9,13 +9,13 @@ use Rattle.typed_reduction.proofs.read_number.Goals.{After-read_cell-x}
 
 -- what is known once the part's cell is read
 number : (c : After-read_cell-x) → ReadsNumber c.args.s.now c.args.v (stored Two c.read_cell-x.result.a c.read_cell-x.result.b c.read_cell-x.result.c)
-number c = reads_number c.requires c.number_part.ensures c.in-At.is (λ j. (c.type_inv.s j).fits) c.read_cell-x.ensures
+number c = reads_number c.requires c.number_part.ensures c.in-Some.is (λ j. (c.type_inv.s j).fits) c.read_cell-x.ensures
 
 pub returns-in_default : goal.returns-in_default
 returns-in_default c = absurd (number_found c.requires c.number_part.ensures c.in_default.is)
 
 pub read_cell-x-requires : goal.read_cell-x-requires
-read_cell-x-requires c = number_within c.requires c.number_part.ensures c.in-At.is
+read_cell-x-requires c = number_within c.requires c.number_part.ensures c.in-Some.is
 
 pub overflow_mul-result : goal.overflow_mul-result
 overflow_mul-result c = omega (arith, (number (goal.at.overflow_mul-result c).After-read_cell-x).fits)

@@ -1,10 +1,6 @@
 -- `widths::narrow` meets its contract. The loop's invariant: the first i cells are narrowed. Assumes nothing.
-use Prim.Native.Nat.{◌≤◌, ◌-◌}
 use Rattle.widths.proofs.Narrowing.{Narrowing}
 use Rattle.widths.proofs.narrow.Given as goal
 
 abbrev pub invariant-loop-i : goal.invariant-loop-i
-invariant-loop-i l = (l.i ≤ l.n) × Narrowing l.fn.d l.d l.i
-
-abbrev pub decreases-loop-i : goal.decreases-loop-i
-decreases-loop-i l = l.n - l.i
+invariant-loop-i l = Narrowing l.fn.d l.d l.i
