@@ -1,6 +1,6 @@
 -- The tests of a cell's fields, by its entry in the code's table. Assumes nothing.
 use Prim.Native.Nat.{ℕ, ◌*◌, ◌<◌}
-use mathlib.Core.Path.{◌≡◌, refl, ◌∙◌}
+use mathlib.Core.Path.{◌≡◌, refl, sym, ◌∙◌}
 use mathlib.Core.Bool.{Bool, true, false, ◌&&◌}
 use mathlib.Core.List.{List}
 use Rattle.std.specs.Prelude as Std
@@ -8,9 +8,10 @@ use Rattle.std.specs.Prelude.{Some, None}
 use Rattle.std.specs.Option.{option_eq}
 use borrow.Author.Tests.{ltb-true}
 use Rattle.format.specs.declared.Version.{Version}
-use Rattle.format.specs.Table.{Use, row_for, row_of}
+use Rattle.format.specs.Table.{Use, unused, plain, refers, table, row_for, row_of}
 use Rattle.format.specs.Cell.{byte, cell_at}
 use Rattle.format.specs.Book.{reference_ok_lem}
+use Rattle.format.proofs.Tests.{All, ◌also◌, view}
 use Rattle.cells.specs.declared.Cell.{Cell}
 use Rattle.cells.specs.declared.Entry.{Entry}
 use Rattle.cells.specs.declared.Use as Uses
@@ -48,3 +49,31 @@ pub record Read (v : Version) (s : List ℕ) (i : ℕ) (e : Entry) (t : Cell) : 
 pub every : {q : Use → ℕ → Bool} {e : Entry} {t : Cell} {r : Bool}
     → r ≡ (q (use_of e.label) t.label && q (use_of e.a) t.a && q (use_of e.b) t.b && q (use_of e.c) t.c) → EveryField q e t r
 every {e = e} {t} p = record { says = λ w k. let u = uses t.kind e w k in rw (u.label, u.a, u.b, u.c) p }
+
+-- no label is a reference
+abbrev NoReference : Use → Type 0
+NoReference unused = Unit {0}
+NoReference plain = Unit {0}
+NoReference (refers o) = ⊥
+
+labels : (v : Version) → All (λ r. NoReference r.label) (table v)
+unfolding table
+labels v = tt also tt also tt also tt also tt also tt also tt also tt also tt also tt also tt also tt also tt also tt also tt also tt also tt also tt
+
+-- A question that is answered yes of all that is no reference need not be asked of the label.
+pub by_numbers : {v : Version} {s : List ℕ} {i : ℕ} {q : Use → ℕ → Bool} {e : Entry} {t : Cell} {r : Bool} → Read v s i e t
+    → ((x : ℕ) → q unused x ≡ true) → ((x : ℕ) → q plain x ≡ true)
+    → r ≡ (q (use_of e.a) t.a && q (use_of e.b) t.b && q (use_of e.c) t.c) → EveryField q e t r
+unfolding row_for
+by_numbers {v} {q = q} {e = e} {t} rd f g p = record {
+  says = λ w k.
+      let u = uses t.kind e w k in
+      let no = (view (λ r. NoReference r.label) (table v) (labels v) t.kind w (sym rd.row ∙ k)).1 in
+      let yes = go w.label no t.label in
+      rw (yes, u.a, u.b, u.c) p;
+}
+  where
+    go : (u : Use) → NoReference u → (x : ℕ) → q u x ≡ true
+    go unused n x = f x
+    go plain n x = g x
+    go (refers o) n x = absurd n

@@ -51,6 +51,17 @@ pub record EveryField (q : Use → ℕ → Bool) (e : Entry) (t : Cell) (r : Boo
 pub record Asks (answers : Code.Use → ℕ → Bool → Type 0) (e : Entry) (t : Cell) (r : Bool) : Type 0 where
   pub says : (q : Use → ℕ → Bool) → ((u : Code.Use) (x : ℕ) (y : Bool) → x < 2 ^ 64 → answers u x y → y ≡ q (use_of u) x) → EveryField q e t r
 
+-- Fields a, b and c of a cell may be asked of,
+pub record MayAskNumbers (may : Code.Use → ℕ → Type 0) (e : Entry) (t : Cell) : Type 0 where
+  pub a : may e.a t.a
+  pub b : may e.b t.b
+  pub c : may e.c t.c
+
+-- and what is answered of each of them is the answer to q.
+pub record AsksNumbers (answers : Code.Use → ℕ → Bool → Type 0) (e : Entry) (t : Cell) (r : Bool) : Type 0 where
+  pub says : (q : Use → ℕ → Bool) → ((u : Code.Use) (x : ℕ) (y : Bool) → x < 2 ^ 64 → answers u x y → y ≡ q (use_of u) x)
+      → r ≡ (q (use_of e.a) t.a && q (use_of e.b) t.b && q (use_of e.c) t.c)
+
 -- x, or a refusal with the number and the cell of what is found.
 abbrev pub Finds : {T : Type 0} → T → Result T Refusal → Option Finding → Type 0
 Finds x r none = r ≡ Ok x

@@ -10,7 +10,7 @@ ghost use Rattle.format.specs.Version.{version_from_lem};
 ghost use Rattle.format.specs.Tree.{cells, tree_at};
 ghost use Rattle.format.specs.Book.{length_ok_lem, unnamed_ok_lem, reference_ok_lem, sort_ok_lem, cell_fault};
 ghost use Rattle.cells.specs.Coded.{use_of, Refers};
-ghost use Rattle.book.specs.Form.{version_in, counted_ok_lem, is_of_sort_lem, MayAsk, Asks, CellCheck, CellsCheck};
+ghost use Rattle.book.specs.Form.{version_in, counted_ok_lem, is_of_sort_lem, MayAsk, Asks, MayAskNumbers, AsksNumbers, CellCheck, CellsCheck};
 ghost use Rattle.book.specs.Form.{field_size_lem, SizesUpTo, RootReady, RootCheck, FormCheck};
 
 use answers::Refusal;
@@ -110,6 +110,14 @@ fn every_field<F: Fn(Use, usize) -> bool>(e: Entry, t: Cell, asks: F) -> bool
     asks(e.label, usize::from(t.label)) && asks(e.a, t.a) && asks(e.b, t.b) && asks(e.c, t.c)
 }
 
+// The same, asked of fields a, b and c: of a question about references, since no row has one for a label.
+fn every_number<F: Fn(Use, usize) -> bool>(e: Entry, t: Cell, asks: F) -> bool
+    requires { MayAskNumbers (F.pre asks) e t }
+    ensures { AsksNumbers (F.post asks) e t result }
+{
+    asks(e.a, t.a) && asks(e.b, t.b) && asks(e.c, t.c)
+}
+
 // Rows 5 to 8 of one cell, in a book of this version.
 fn check_cell(s: &[u8], i: usize, version: Version) -> Result<(), Refusal>
     requires { 8 * i + 8 ≤ length s.now }
@@ -123,10 +131,10 @@ fn check_cell(s: &[u8], i: usize, version: Version) -> Result<(), Refusal>
     if !every_field(e, t, unnamed_ok) {
         return Err(Refusal::Unnamed(i));
     }
-    if !every_field(e, t, |u, x| reference_ok(i, u, x)) {
+    if !every_number(e, t, |u, x| reference_ok(i, u, x)) {
         return Err(Refusal::Reference(i));
     }
-    if !every_field(e, t, |u, x| sort_ok(s, u, x)) {
+    if !every_number(e, t, |u, x| sort_ok(s, u, x)) {
         return Err(Refusal::Sort(i));
     }
     Ok(())

@@ -9,3 +9,4 @@ pub mod Moves
 pub mod Table
 pub mod Written
 pub mod Unshared
+pub mod Asked

@@ -1,5 +1,5 @@
 -- The code's structs and enums as the format's. Assumes nothing.
-use Rattle.std.specs.Prelude.{ℕ, ◌-◌, ◌≡◌, ◌<◌, cond, ltb, Some, None}
+use Rattle.std.specs.Prelude.{ℕ, zero, suc, ◌-◌, ◌≡◌, ◌<◌, cond, ltb, Some, None}
 use Rattle.std.specs.Prelude as Std
 use Rattle.std.proofs.Math.Option.{Option, none, some}
 use Rattle.format.specs.Cell as Format
@@ -33,6 +33,30 @@ abbrev pub sort_of : Std.Option Sorts.Sort → Option Sort
 sort_of (Some Types) = some type_sort
 sort_of (Some Terms) = some term_sort
 sort_of None = none
+
+-- A use as a number: 0 unused, 1 plain, 2 to a type, 3 and more to a term.
+abbrev pub numbered : ℕ → Uses.Use
+numbered zero = Unused
+numbered (suc zero) = Plain
+numbered (suc (suc zero)) = ToType
+numbered (suc (suc (suc n))) = ToTerm
+
+-- A sort as a number: 2 a type, 3 and more a term; 0 and 1 of an unknown kind.
+abbrev pub sort_numbered : ℕ → Std.Option Sorts.Sort
+sort_numbered zero = None
+sort_numbered (suc zero) = None
+sort_numbered (suc (suc zero)) = Some Types
+sort_numbered (suc (suc (suc n))) = Some Terms
+
+-- What is asked of u, a value that converts to a use, is asked of each use that it may become;
+pub record AskedAs {U : Type 0} (converts : U → Uses.Use → Type 0) (u : U) (asked : Uses.Use → Type 0) : Type 0 where
+  pub each : (v : Uses.Use) → converts u v → asked v
+
+-- what is said of it is said of the use that it became.
+pub record SaidAs {U : Type 0} (converts : U → Uses.Use → Type 0) (u : U) (said : Uses.Use → Type 0) : Type 0 where
+  pub became : Uses.Use
+  pub converted : converts u became
+  pub says : said became
 
 -- A field of this use is a reference.
 abbrev pub Refers : Uses.Use → Type 0

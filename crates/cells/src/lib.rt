@@ -6,7 +6,7 @@ ghost use Rattle.std.specs.Prelude.{◌≡◌, ◌+◌, ◌*◌, ◌/◌, ◌%�
 ghost use Rattle.std.proofs.lemmas.List.Edits.{sets};
 ghost use Rattle.format.specs.Cell.{pair, cell_at, cell_bytes};
 ghost use Rattle.format.specs.Table.{Row, row_for, row_of, inside};
-ghost use Rattle.cells.specs.Coded.{as_cell, CellFits, place_of, use_of, row_from};
+ghost use Rattle.cells.specs.Coded.{as_cell, CellFits, place_of, use_of, numbered, sort_numbered, SaidAs, row_from};
 ghost use Rattle.cells.specs.Held.{label_by_lem};
 ghost use Rattle.cells.specs.Moves.{moved_field, FieldMoves, moved_cell, CellMoves};
 ghost use Rattle.std.proofs.Math.Option.{some};
@@ -86,6 +86,20 @@ pub enum Use {
     ToTerm,
 }
 
+// A use as a number: 0 unused, 1 plain, 2 a type, 3 and more a term.
+impl From<u8> for Use {
+    ghost from_gives = { λ n u. u ≡ numbered n };
+
+    fn from(n: u8) -> Use {
+        match n {
+            0 => Use::Unused,
+            1 => Use::Plain,
+            2 => Use::ToType,
+            _ => Use::ToTerm,
+        }
+    }
+}
+
 // A row of the table of kinds; an unknown kind has no sort.
 #[derive(Clone, Copy)]
 pub struct Entry {
@@ -94,6 +108,31 @@ pub struct Entry {
     pub a: Use,
     pub b: Use,
     pub c: Use,
+}
+
+impl Entry {
+    // An entry by numbers: sort 2 a type, 3 and more a term, 0 and 1 unknown; the others by `Use::from`.
+    pub fn numbered(sort: u8, label: u8, a: u8, b: u8, c: u8) -> Entry
+        ensures { result ≡ record {
+          sort = sort_numbered sort;
+          label = numbered label;
+          a = numbered a;
+          b = numbered b;
+          c = numbered c;
+        } }
+    {
+        Entry {
+            sort: match sort {
+                0 | 1 => None,
+                2 => Some(Sort::Types),
+                _ => Some(Sort::Terms),
+            },
+            label: Use::from(label),
+            a: Use::from(a),
+            b: Use::from(b),
+            c: Use::from(c),
+        }
+    }
 }
 
 const UNKNOWN: Entry = Entry {
@@ -235,10 +274,10 @@ pub fn entry_for(version: Version, kind: u8) -> Entry
 }
 
 // The label of a cell whose row has this use of it: 0 if the row does not name it.
-pub fn label_by(u: Use, label: u8) -> u8
-    ensures { result ≡ label_by_lem (use_of u) label }
+pub fn label_by<U: Into<Use>>(u: U, label: u8) -> u8
+    ensures { SaidAs U.converts u (λ v. result ≡ label_by_lem (use_of v) label) }
 {
-    match u {
+    match u.into() {
         Use::Unused => 0,
         _ => label,
     }

@@ -4,6 +4,7 @@
 #![tactic(auto)]
 
 ghost use Rattle.std.specs.Prelude.{◌≡◌};
+ghost use Rattle.cells.specs.Coded.{AskedAs, SaidAs};
 ghost use Rattle.counting.specs.Counting.{own_steps_lem, Countable, Counts};
 
 use cells::{Use, entry_of, read_cell};
@@ -21,7 +22,7 @@ fn own_steps(kind: u8) -> Option<usize>
 }
 
 // What a field of use u counts, if it is a sheet's. Past the test of its kind a term has its parts in fields a and b.
-pub fn count_steps(book: &[u8], u: Use, i: usize) -> Option<usize>
+fn count_field(book: &[u8], u: Use, i: usize) -> Option<usize>
     requires { Countable book.now u i }
     ensures { Counts book.now u i result }
 {
@@ -31,7 +32,15 @@ pub fn count_steps(book: &[u8], u: Use, i: usize) -> Option<usize>
     let x = read_cell(book, i);
     let e = entry_of(x.kind);
     let own = own_steps(x.kind)?;
-    let first = count_steps(book, e.a, x.a)?;
-    let second = count_steps(book, e.b, x.b)?;
+    let first = count_field(book, e.a, x.a)?;
+    let second = count_field(book, e.b, x.b)?;
     Some(own + (first + second))
+}
+
+// The same of what converts to a use.
+pub fn count_steps<U: Into<Use>>(book: &[u8], u: U, i: usize) -> Option<usize>
+    requires { AskedAs U.converts u (λ v. Countable book.now v i) }
+    ensures { SaidAs U.converts u (λ v. Counts book.now v i result) }
+{
+    count_field(book, u.into(), i)
 }

@@ -72,6 +72,9 @@ module _ {X : Type 0} {H : ℕ → X → Type 0} {q : X → X → Bool} where
   right_in_order {o} other (inl h) p = rw (h.0, h.1) p
   right_in_order {o} other (inr h) p = rw (h.0, h.1) (swapped o other p)
 
+  pub or_swapped : {n a b c d : ℕ} {x y : X} → Splits H q ◌||◌ n a b c d x y → Splits H q ◌||◌ n c d a b x y
+  or_swapped = swapped ◌||◌ or_other
+
   pub and_swapped : {n a b c d : ℕ} {x y : X} → Splits H q ◌&&◌ n a b c d x y → Splits H q ◌&&◌ n c d a b x y
   and_swapped = swapped ◌&&◌ and_other
 
@@ -167,7 +170,7 @@ pub record OneHalves (q : Term → Bool) (μ : ℕ) : Type 0 where
   pub leads : OneLeads s q i k
   pub halves : (e : Term) → HoldsTerm s k e → OneSplits s q k a b e
   pub small : i < 131072
-  pub measure : 2 * i ≡ μ
+  pub measure : 3 * i ≡ μ
 
 pub one_own : {q : Term → Bool} {μ : ℕ} (w : OneHalves q μ) → OneSplits w.s q w.k w.a w.b w.leads.at.term
 one_own w = w.halves _ w.leads.at.holds

@@ -99,10 +99,20 @@ pub record LeftInter (s : List ℕ) (a b : ℕ) : Type 0 where
   pub types : TypesAt s a b
   pub inter : (cell_at s a).kind ≡ 4
 
--- or the second
-pub record RightInter (s : List ℕ) (a b : ℕ) : Type 0 where
+-- two types, the first no intersection
+pub record SingleType (s : List ℕ) (a b : ℕ) : Type 0 where
   pub types : TypesAt s a b
+  pub first_single : (cell_at s a).kind ≡ 4 → ⊥
+
+-- and the second one
+pub record SingleInter (s : List ℕ) (a b : ℕ) : Type 0 where
+  pub first : SingleType s a b
   pub inter : (cell_at s b).kind ≡ 4
+
+-- or no more than the first
+pub record SingleTypes (s : List ℕ) (a b : ℕ) : Type 0 where
+  pub first : SingleType s a b
+  pub second_single : (cell_at s b).kind ≡ 4 → ⊥
 
 -- a number, a function or a record: 17, 21, 24
 abbrev pub Plain : ℕ → Type 0

@@ -7,7 +7,7 @@ ghost use Rattle.calculus.specs.Decide.{is_below, is_disjoint, is_consistent};
 ghost use Rattle.calculus.specs.Infer.{is_mergeable};
 ghost use Rattle.decisions.specs.Questions.{TypesAt, TypesSay, TermAt, TermSays, TermsAt, TermsSay, HalvesAt, HalvesSay};
 ghost use Rattle.decisions.specs.Questions.{ClosedAt, ClosedSays, is_closed_value, PlainAt, PlainPair, UnderPlain, TwoPlain};
-ghost use Rattle.decisions.specs.Questions.{InOrder, MergeAt, LeftMerge, RightMerge, Agreeing, LeftInter, RightInter};
+ghost use Rattle.decisions.specs.Questions.{InOrder, MergeAt, LeftMerge, RightMerge, Agreeing, LeftInter, SingleType, SingleInter, SingleTypes};
 ghost use Rattle.std.specs.Prelude.{◌+◌, ◌*◌, ◌≤◌, ◌<◌, ◌≡◌, length};
 ghost use Rattle.format.specs.Cell.{cell_at};
 
@@ -21,16 +21,19 @@ fn kind_at(s: &[u8], i: usize) -> u8
     read_cell(s, i).kind
 }
 
-// The halves of an intersection or a merge, as a walk takes them: first the one that it asks about, which has no parts if the other has none; then the
-// one that it goes on with.
-fn two_halves(s: &[u8], x: Cell) -> (usize, usize)
-    requires { 8 * x.b + 8 ≤ length s.now }
-    ensures { InOrder x.a x.b result.0 result.1 }
+// The halves of the intersection or merge x, as a walk takes them: first the one that it asks about, which has no parts if the other has none; then the
+// one that it goes on with, and the kind of that. The kind is read here, in each branch: were it read after the choice, a long walk would wait for each.
+fn two_halves(s: &[u8], x: Cell) -> (usize, usize, u8)
+    requires first { 8 * x.a + 8 ≤ length s.now }
+    requires second { 8 * x.b + 8 ≤ length s.now }
+    ensures order { InOrder x.a x.b result.0 result.1 }
+    ensures rest { result.2 ≡ (cell_at s.now result.1).kind }
 {
-    if kind_at(s, x.b) == x.kind {
-        (x.a, x.b)
+    let kind = kind_at(s, x.b);
+    if kind == x.kind {
+        (x.a, x.b, kind)
     } else {
-        (x.b, x.a)
+        (x.b, x.a, kind_at(s, x.a))
     }
 }
 
@@ -53,7 +56,8 @@ pub fn subtype(s: &[u8], a: usize, b: usize) -> bool
     part_below(s, a, b)
 }
 
-// Whether a part of the type at a is below the one at b, which is neither top-like nor an intersection.
+// Whether a part of the type at a is below the one at b, which is neither top-like nor an intersection. Of two halves the one that is no intersection is
+// asked first, as in the other walks, but by a branch of its own: through `two_halves` this walk took up to twice the time.
 #[cycle(subtyping)]
 fn part_below(s: &[u8], a: usize, b: usize) -> bool
     requires { UnderPlain s.now a b }
@@ -61,11 +65,18 @@ fn part_below(s: &[u8], a: usize, b: usize) -> bool
 {
     let mut i = a;
     while kind_at(s, i) == 4 {
-        let (half, rest) = two_halves(s, read_cell(s, i));
-        if half_below(s, half, b) {
-            return true;
+        let x = read_cell(s, i);
+        if kind_at(s, x.b) == 4 {
+            if half_below(s, x.a, b) {
+                return true;
+            }
+            i = x.b;
+        } else {
+            if half_below(s, x.b, b) {
+                return true;
+            }
+            i = x.a;
         }
-        i = rest;
     }
     single_below(s, i, b)
 }
@@ -126,6 +137,91 @@ pub fn disjoint(s: &[u8], a: usize, b: usize) -> bool
     if y.kind == 4 {
         return apart_right(s, a, b);
     }
+    apart_pair(s, a, b)
+}
+
+// The same of an intersection on the left, part by part, up to a rest that is top-like.
+#[cycle(disjointness)]
+fn apart_left(s: &[u8], a: usize, b: usize) -> bool
+    requires { LeftInter s.now a b }
+    ensures { TypesSay s.now a b is_disjoint result }
+{
+    let mut i = a;
+    let mut kind = kind_at(s, a);
+    while kind == 4 {
+        let x = read_cell(s, i);
+        if x.c == 1 {
+            return true;
+        }
+        let (half, rest, next) = two_halves(s, x);
+        if !apart_half(s, half, b) {
+            return false;
+        }
+        i = rest;
+        kind = next;
+    }
+    apart_half(s, i, b)
+}
+
+// The same of a half: two that are no intersections are asked at once.
+#[cycle(disjointness)]
+fn apart_half(s: &[u8], a: usize, b: usize) -> bool
+    requires { TypesAt s.now a b }
+    ensures { TypesSay s.now a b is_disjoint result }
+{
+    if kind_at(s, a) == 4 || kind_at(s, b) == 4 {
+        return disjoint(s, a, b);
+    }
+    apart_pair(s, a, b)
+}
+
+// The same of a type that is no intersection against one that is, part by part. A loop a side: one walk for both would be handed a closure, which in a
+// cycle of calls states its own `requires`, `ensures` and measure, longer than the loop.
+#[cycle(disjointness)]
+fn apart_right(s: &[u8], a: usize, b: usize) -> bool
+    requires { SingleInter s.now a b }
+    ensures { TypesSay s.now a b is_disjoint result }
+{
+    let mut j = b;
+    let mut kind = kind_at(s, b);
+    while kind == 4 {
+        let y = read_cell(s, j);
+        let (half, rest, next) = two_halves(s, y);
+        if !apart_part(s, a, half) {
+            return false;
+        }
+        j = rest;
+        kind = next;
+    }
+    apart_part(s, a, j)
+}
+
+// The same against a half.
+#[cycle(disjointness)]
+fn apart_part(s: &[u8], a: usize, b: usize) -> bool
+    requires { SingleType s.now a b }
+    ensures { TypesSay s.now a b is_disjoint result }
+{
+    if kind_at(s, b) == 4 {
+        return apart_right(s, a, b);
+    }
+    apart_pair(s, a, b)
+}
+
+// Two types that are no intersections.
+#[cycle(disjointness)]
+fn apart_pair(s: &[u8], a: usize, b: usize) -> bool
+    requires { SingleTypes s.now a b }
+    ensures { TypesSay s.now a b is_disjoint result }
+{
+    let x = read_cell(s, a);
+    let y = read_cell(s, b);
+    if x.c == 1 {
+        return true;
+    }
+    if y.c == 1 {
+        return true;
+    }
     if x.kind != y.kind {
         return true;
     }
@@ -136,45 +232,6 @@ pub fn disjoint(s: &[u8], a: usize, b: usize) -> bool
         return x.label != y.label || disjoint(s, x.a, y.a);
     }
     false
-}
-
-// The same of an intersection on the left, part by part, up to a rest that is top-like.
-#[cycle(disjointness)]
-fn apart_left(s: &[u8], a: usize, b: usize) -> bool
-    requires { LeftInter s.now a b }
-    ensures { TypesSay s.now a b is_disjoint result }
-{
-    let mut i = a;
-    while kind_at(s, i) == 4 {
-        let x = read_cell(s, i);
-        if x.c == 1 {
-            return true;
-        }
-        let (half, rest) = two_halves(s, x);
-        if !disjoint(s, half, b) {
-            return false;
-        }
-        i = rest;
-    }
-    disjoint(s, i, b)
-}
-
-// The same of an intersection on the right, part by part. A loop a side: one walk for both would be handed a closure, which in a cycle of calls states its own
-// `requires`, `ensures` and measure, longer than the loop.
-#[cycle(disjointness)]
-fn apart_right(s: &[u8], a: usize, b: usize) -> bool
-    requires { RightInter s.now a b }
-    ensures { TypesSay s.now a b is_disjoint result }
-{
-    let mut j = b;
-    while kind_at(s, j) == 4 {
-        let (half, rest) = two_halves(s, read_cell(s, j));
-        if !disjoint(s, a, half) {
-            return false;
-        }
-        j = rest;
-    }
-    disjoint(s, a, j)
 }
 
 // Whether no variable in a field of use u skips k binders or more. A field that is no term has no variable.
@@ -241,12 +298,15 @@ fn consistent_left(s: &[u8], i: usize, j: usize) -> bool
     ensures { TermsSay s.now i j is_consistent result }
 {
     let mut k = i;
-    while kind_at(s, k) == 22 {
-        let (half, rest) = two_halves(s, read_cell(s, k));
+    let mut kind = kind_at(s, i);
+    while kind == 22 {
+        let x = read_cell(s, k);
+        let (half, rest, next) = two_halves(s, x);
         if !consistent_half(s, half, j) {
             return false;
         }
         k = rest;
+        kind = next;
     }
     consistent_half(s, k, j)
 }
@@ -273,14 +333,29 @@ fn consistent_right(s: &[u8], i: usize, j: usize) -> bool
     ensures { TermsSay s.now i j is_consistent result }
 {
     let mut k = j;
-    while kind_at(s, k) == 22 {
-        let (half, rest) = two_halves(s, read_cell(s, k));
-        if !consistent_half(s, i, half) {
+    let mut kind = kind_at(s, j);
+    while kind == 22 {
+        let y = read_cell(s, k);
+        let (half, rest, next) = two_halves(s, y);
+        if !each_half(s, i, half) {
             return false;
         }
         k = rest;
+        kind = next;
     }
-    consistent_half(s, i, k)
+    each_half(s, i, k)
+}
+
+// The same against a part: equal numbers agree at once, before any call.
+#[cycle(consistency)]
+fn each_half(s: &[u8], i: usize, j: usize) -> bool
+    requires { PlainAt s.now i j }
+    ensures { TermsSay s.now i j is_consistent result }
+{
+    if equal_numbers(s, i, j) {
+        return true;
+    }
+    consistent_plain(s, i, j)
 }
 
 // Two terms, each a number, a function or a record. Disjointness is asked only where two functions differ.
@@ -329,14 +404,30 @@ fn closed_parts(s: &[u8], i: usize) -> bool
     ensures { TermSays s.now i is_closed_value result }
 {
     let mut k = i;
-    while kind_at(s, k) == 22 {
-        let (half, rest) = two_halves(s, read_cell(s, k));
-        if !closed_value(s, half) {
+    let mut kind = kind_at(s, i);
+    while kind == 22 {
+        let x = read_cell(s, k);
+        let (half, rest, next) = two_halves(s, x);
+        if !closed_half(s, half) {
             return false;
         }
         k = rest;
+        kind = next;
     }
-    closed_value(s, k)
+    closed_half(s, k)
+}
+
+// The same of a part: a number and the top value are closed values at once, before any call.
+#[cycle(closed_values)]
+fn closed_half(s: &[u8], i: usize) -> bool
+    requires { TermAt s.now i × (i < 131072) }
+    ensures { TermSays s.now i is_closed_value result }
+{
+    let k = kind_at(s, i);
+    if k == 17 || k == 18 {
+        return true;
+    }
+    closed_value(s, i)
 }
 
 // Whether the halves i and j of a merge, of the types at a and b, may stand together.

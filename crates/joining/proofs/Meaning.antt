@@ -1,5 +1,5 @@
 -- What the definition of a join answers means what document 02 says, and so does what the call answers. Assumes nothing.
-use Prim.Native.Nat.{ℕ, zero, suc, ◌-◌, ◌≤◌}
+use Prim.Native.Nat.{ℕ, zero, suc, ◌-◌, ◌≤◌, ◌<◌}
 use native.Mathlib.Omega.{arith}
 use mathlib.Core.Path.{◌≡◌, refl, sym, ap, subst, ◌∙◌}
 use mathlib.Core.Logic.{◌≢◌, inl, inr}
@@ -165,9 +165,23 @@ said_of_joint k e (full j a h) = inl (refl, refl)
 said_of_joint k e (of_joint j a h (too_large o)) = inr (inl refl, refl)
 said_of_joint k e (of_joint j a h (conflict o s t u)) = inr (inr refl, refl)
 
+-- a result with bytes is of lent bytes of the right length
+bytes_lent : {l : List ℕ} {n : ℕ} {q w : List ℕ} {x : JoinResult} → Ends l n q w x → 0 < x.bytes → Lent l n w
+bytes_lent (at_buffer h) o = absurd (omega (arith, o))
+bytes_lent (at_lent k h) o = absurd (omega (arith, o))
+bytes_lent (at_project k e) o = absurd (omega (arith, o))
+bytes_lent (at_part k f e) o = absurd (omega (arith, o))
+bytes_lent (at_full k f g h) o = absurd (omega (arith, o))
+bytes_lent (at_joint k f g h e) o = absurd (omega (arith, o))
+bytes_lent (at_end k f g h e) o = k
+
 -- ---- the call
 
 module _ (l : List ℕ) (n : ℕ) (q w : List ℕ) {v : List ℕ} {r : Joined} (j : Judged v r (joined l n q w)) where
+  -- where there is a joint to write, what is lent has the lengths that are asked for
+  pub lent_here : 0 < r.bytes → Lent l n w
+  lent_here h = bytes_lent (ends l n q w) (rw j.bytes at h)
+
   answers : {m i : ℕ} {x : Which} {y : Result} → joined l n q w ≡ refusal x l y → y.answer ≡ refused m i → Says r x m i
   answers p e =
       record {

@@ -4,6 +4,7 @@
 ghost use Rattle.std.specs.Prelude.{◌≡◌, ◌*◌, ◌-◌};
 ghost use Rattle.std.proofs.lemmas.List.Edits.{sets};
 ghost use Rattle.format.specs.Book.{trailer};
+ghost use Rattle.cells.specs.Coded.{AskedAs, SaidAs};
 ghost use Rattle.layout.specs.Encoding.{EncodeReady, EncodesTree, InPlaceReady, TrailerReady, SomeTree, Closes, SomeTerm, ClosesTerm};
 
 use cells::{Cell, Use, write_cell};
@@ -12,17 +13,17 @@ use format::Version;
 use widths::narrow;
 
 // The tree of a field, for which there is room, from cell 0 on; answers its cells.
-pub fn encode_tree(s: &[u8], d: &mut [u8], u: Use, x: usize) -> usize
-    requires { EncodeReady s.now d.old u x }
-    ensures { EncodesTree s.now d.new u x result }
+pub fn encode_tree<U: Into<Use>>(s: &[u8], d: &mut [u8], u: U, x: usize) -> usize
+    requires { AskedAs U.converts u (λ v. EncodeReady s.now d.old v x) }
+    ensures { SaidAs U.converts u (λ v. EncodesTree s.now d.new v x result) }
 {
-    emit_field(s, d, u, x, 0).unwrap_or(0)
+    emit_field(s, d, u.into(), x, 0).unwrap_or(0)
 }
 
 // The tree of a field of w, for which there is room, from cell 0 of w on, by way of s; answers its cells.
-pub fn encode_in_place(s: &mut [u8], w: &mut [u8], u: Use, x: usize) -> usize
-    requires { InPlaceReady s.old w.old u x }
-    ensures { EncodesTree w.old w.new u x result }
+pub fn encode_in_place<U: Into<Use>>(s: &mut [u8], w: &mut [u8], u: U, x: usize) -> usize
+    requires { AskedAs U.converts u (λ v. InPlaceReady s.old w.old v x) }
+    ensures { SaidAs U.converts u (λ v. EncodesTree w.old w.new v x result) }
 {
     let n = encode_tree(w, s, u, x);
     w[..8 * n].copy_from_slice(&s[..8 * n]);

@@ -7,7 +7,7 @@ use mathlib.Core.List.{List}
 use mathlib.Core.Option as maybe
 use mathlib.Core.Option.{none, some, or_else}
 use Rattle.std.specs.Prelude.{Option, None, Some}
-use Rattle.std.specs.declared.ops.Range.{Range}
+use Rattle.projection.specs.declared.Content.{Content}
 use lib.Dec.{eqb}
 use lib.IntN.{ℤ}
 use lib.ListN.{length}
@@ -78,21 +78,21 @@ pub record Inside (s : List ℕ) (start v p : ℕ) : Type 0 where
   pub lower : p < v
 
 -- some cells are not none
-pub no_cells : {g : Range ℕ} {r : Option (Range ℕ)} → r ≡ Some g → r ≡ None → ⊥
+pub no_cells : {g : Content} {r : Option Content} → r ≡ Some g → r ≡ None → ⊥
 no_cells e f = let z : ◌≡◌ {A = ℕ} 0 1 = cc in omega arith
 
 -- the first of two answers, if there is one, else the second; each for a part that lies from start on before v
-module _ (s : List ℕ) (start v : ℕ) (r : Option (Range ℕ)) where
+module _ (s : List ℕ) (start v : ℕ) (r : Option Content) where
   widen : (x w : ℕ) (o : maybe.Option Term) → start ≤ x → w ≤ v → ContentIs s x w r o → ContentIs s start v r o
   widen x w none i j h = h
   widen x w (some e) i j h = (h.0, h.1, h.2, omega (arith, i, h.3), omega (arith, j, h.4), h.5)
 
-  left_part : (w : ℕ) (o q : maybe.Option Term) {g : Range ℕ} → r ≡ Some g → w ≤ v → ContentIs s start w r o → ContentIs s start v r (or_else o q)
+  left_part : (w : ℕ) (o q : maybe.Option Term) {g : Content} → r ≡ Some g → w ≤ v → ContentIs s start w r o → ContentIs s start v r (or_else o q)
   unfolding or_else
   left_part w none q e j h = absurd (no_cells e h)
   left_part w (some f) q e j h = widen start w (some f) (omega arith) j h
 
-  right_part : (y x w : ℕ) (t : Option (Range ℕ)) (o q : maybe.Option Term) → t ≡ None → start ≤ x → w ≤ v → ContentIs s start y t o → ContentIs s x w r q → ContentIs s start v r (or_else o q)
+  right_part : (y x w : ℕ) (t : Option Content) (o q : maybe.Option Term) → t ≡ None → start ≤ x → w ≤ v → ContentIs s start y t o → ContentIs s x w r q → ContentIs s start v r (or_else o q)
   unfolding or_else
   right_part y x w t none q e i j h k = widen x w q i j k
   right_part y x w t (some f) q e i j h k = absurd (no_cells h.2 e)
@@ -183,18 +183,18 @@ module _ {s : List ℕ} {v : ℕ} {x : Cell} (is : x ≡ cell_at s v) where
   -- ---- the content of its part that has the field of label l
 
   module _ {start l : ℕ} where
-    module _ (k : x.kind ≡ 22) {q : Option (Range ℕ)} (f : FindsContent s start x.a l q) where
-      finds_some : {g : Range ℕ} → q ≡ Some g → FindsContent s start v l q
+    module _ (k : x.kind ≡ 22) {q : Option Content} (f : FindsContent s start x.a l q) where
+      finds_some : {g : Content} → q ≡ Some g → FindsContent s start v l q
       unfolding first_part
       finds_some c = record { says = λ e h. go (shape h k) }
         where
           go : {e : Term} → Shape s start v x 22 e → ContentIs s start v q (first_part (content l) e)
           go (is_merge {e = e} m n i j u) = left_part s start v q x.a _ _ c (omega (arith, j, u)) (f.says e m)
 
-      pub finds_left : {g : Range ℕ} → q ≡ Some g → FindsContent s start v l (Some g)
+      pub finds_left : {g : Content} → q ≡ Some g → FindsContent s start v l (Some g)
       finds_left c = subst (FindsContent s start v l) c (finds_some c)
 
-      pub finds_right : {r : Option (Range ℕ)} → q ≡ None → FindsContent s (x.a + 1) x.b l r → FindsContent s start v l r
+      pub finds_right : {r : Option Content} → q ≡ None → FindsContent s (x.a + 1) x.b l r → FindsContent s start v l r
       unfolding first_part
       finds_right {r} c g = record { says = λ e h. go (shape h k) }
         where

@@ -1,7 +1,7 @@
 -- The part that a field read takes, of held types and of values that run: what a call needs, and what it answers. Assumes nothing.
 use Rattle.std.specs.Prelude.{ℕ, suc, ◌≤◌, ◌<◌, ◌≡◌, Bool, true, List}
 use Rattle.std.specs.Prelude.{Option, None, Some}
-use Rattle.std.specs.declared.ops.Range.{Range}
+use Rattle.projection.specs.declared.Content.{Content}
 use Rattle.std.proofs.Math.Option as maybe
 use Rattle.std.proofs.Math.Option.{none, some}
 use Rattle.calculus.specs.Syntax.{Ty, Term}
@@ -60,10 +60,10 @@ pub record ShowsTopLike (s : List ℕ) (v : ℕ) (r : Bool) : Type 0 where
   pub says : (x : ℕ) (e : Term) → IsValueFrom s x v e → r ≡ is_top_like (type_of e)
 
 -- The cells of a content, from start on before v; or that there is none.
-abbrev pub ContentIs : List ℕ → ℕ → ℕ → Option (Range ℕ) → maybe.Option Term → Type 0
+abbrev pub ContentIs : List ℕ → ℕ → ℕ → Option Content → maybe.Option Term → Type 0
 ContentIs s start v r none = r ≡ None
 ContentIs s start v r (some e) = (x : ℕ) × (y : ℕ) × (r ≡ Some (record { start = x; end = suc y })) × (start ≤ x) × (suc y ≤ v) × IsValueFrom s x y e
 
 -- The content of the first part of the value that has the field of label l.
-pub record FindsContent (s : List ℕ) (start v l : ℕ) (r : Option (Range ℕ)) : Type 0 where
+pub record FindsContent (s : List ℕ) (start v l : ℕ) (r : Option Content) : Type 0 where
   pub says : (e : Term) → IsValueFrom s start v e → ContentIs s start v r (first_part (content l) e)

@@ -6,7 +6,6 @@ ghost use Rattle.cells.specs.Coded.{as_cell};
 ghost use Rattle.projection.specs.Parts.{TypeAt, Joins, FindsFieldPart, FindsSingle, ValueAt, ShowsTopLike, ValueFrom, FindsContent};
 
 use cells::{Cell, read_cell};
-use std::ops::Range;
 
 // The part of a type that has the field: none, and none is top-like; none, but some part is top-like; one, its content the type at a cell; more
 // than one. Four cases, so no Option.
@@ -89,9 +88,16 @@ fn shows_top_like(s: &[u8], v: usize) -> bool
     }
 }
 
+// The cells of a content, from the first on before the second; a struct, since a Range is not Copy.
+#[derive(Clone, Copy)]
+pub struct Content {
+    pub start: usize,
+    pub end: usize,
+}
+
 // The content of the first part, of the value at v whose cells begin at start, that is a record of the label and not of a top-like type: its
 // cells, or that there is none. Of a merge without or_else, whose closure would be in the cycle of calls and need clauses of its own.
-pub fn value_part(s: &[u8], start: usize, v: usize, label: u8) -> Option<Range<usize>>
+pub fn value_part(s: &[u8], start: usize, v: usize, label: u8) -> Option<Content>
     requires { ValueFrom s.now start v }
     ensures { FindsContent s.now start v label result }
 {
@@ -103,7 +109,7 @@ pub fn value_part(s: &[u8], start: usize, v: usize, label: u8) -> Option<Range<u
             }
             value_part(s, x.a + 1, x.b, label)
         }
-        24 if x.label == label && !shows_top_like(s, x.a) => Some(start..v),
+        24 if x.label == label && !shows_top_like(s, x.a) => Some(Content { start, end: v }),
         _ => None,
     }
 }

@@ -8,7 +8,7 @@ use mathlib.Core.List.{List}
 use mathlib.Core.Option as maybe
 use mathlib.Core.Option.{none, some, or_else, some-injective, none-ne-some}
 use Rattle.std.specs.Prelude.{Option, Some, None}
-use Rattle.std.specs.declared.ops.Range.{Range}
+use Rattle.projection.specs.declared.Content.{Content}
 use Rattle.calculus.specs.Syntax.{Term, unit, size}
 use Rattle.calculus.specs.Decide.{FieldPart, no_part, top_part, more_parts, one_part, field_part, is_value, type_of}
 use Rattle.calculus.specs.Evaluate.{next, first_part, content, top_value, read_parts, project}
@@ -63,18 +63,18 @@ record Taken (w : List ℕ) (start v l : ℕ) (e : Term) (x end : ℕ) : Type 0 
   some : x < end
   high : end ≤ v
 
-module _ {w : List ℕ} {start v l : ℕ} {r : Option (Range ℕ)} (f : FindsContent w start v l r) {e : Term} (s : IsValueFrom w start v e) where
-  taken : {g : Range ℕ} → r ≡ Some g → Taken w start v l e g.start g.end
+module _ {w : List ℕ} {start v l : ℕ} {r : Option Content} (f : FindsContent w start v l r) {e : Term} (s : IsValueFrom w start v e) where
+  taken : {g : Content} → r ≡ Some g → Taken w start v l e g.start g.end
   taken {g} c = go (first_part (content l) e) refl (f.says e s)
     where
       go : (o : maybe.Option Term) → first_part (content l) e ≡ o → ContentIs w start v r o → Taken w start v l e g.start g.end
       go none i h = absurd (no_cells c h)
       go (some y) i h =
-          let cells : Range ℕ = record { start = h.0; end = suc h.1 } in
+          let cells : Content = record { start = h.0; end = suc h.1 } in
           let both : Some cells ≡ Some g = sym h.2 ∙ c in
           let z : cells ≡ g = cc in
-          let a : h.0 ≡ g.start = ap (λ (r : Range ℕ). r.start) z in
-          let b : suc h.1 ≡ g.end = ap (λ (r : Range ℕ). r.end) z in
+          let a : h.0 ≡ g.start = ap (λ (r : Content). r.start) z in
+          let b : suc h.1 ≡ g.end = ap (λ (r : Content). r.end) z in
           let run = h.5.run in
           record {
             part = y;
@@ -116,11 +116,11 @@ module _ {w : List ℕ} (p : Place) (t : Cell) (d : MergeAt w p t) where
       let q = field_read p t d.at s in
       sym (project_merge t.label (term_kind q.value q.run d.merged)) ∙ project_is p t d.at half s n
 
-  module _ {r : Option (Range ℕ)} (f : FindsContent w p.start t.a t.label r) where
+  module _ {r : Option Content} (f : FindsContent w p.start t.a t.label r) where
     pub none_only : (half : ℕ) → r ≡ None → OnlyBecomes half w p unit
     none_only half c = λ e s _ h n. no_other _ _ (none_taken f (value_from s) c) (parts_are half s n)
 
-    module _ {g : Range ℕ} (c : r ≡ Some g) where
+    module _ {g : Content} (c : r ≡ Some g) where
       pub part_range : PartRange p g.start g.end
       part_range =
           let s = d.at.ready.standing in

@@ -1,54 +1,66 @@
--- `decisions::closed_value` and `closed_parts` meet their contracts. The measure is twice the cell, one more for the whole question. The loop goes from
--- half to half. Assumes nothing.
+-- `decisions::closed_value`, `closed_parts` and `closed_half` meet their contracts. The measure is three times the cell, with 0 to 2 added. The loop
+-- goes from half to half, and has the kind of its cell in hand. Assumes nothing.
 use native.Mathlib.Omega.{arith}
+use mathlib.Core.Path.{refl}
 use Prim.Native.Nat.{ℕ}
 use Rattle.std.proofs.Common.{rules}
 use Rattle.cells.proofs.Held.{held_within}
 use Rattle.decisions.specs.Questions.{is_closed_value}
-use Rattle.decisions.proofs.Single.{OneSplits, one_outright, one_passed, merge_value, record_value, function_value, plain_value, no_closed_value}
+use Rattle.decisions.proofs.Single.{one_outright, one_passed, merge_value, record_value, function_value, plain_value, no_closed_value}
 use Rattle.decisions.proofs.Variables.{closed_at, closed_says}
 use Rattle.decisions.proofs.Walks.{OneHalves, one_own, one_walk_starts, one_in_order, one_goes_on, one_ends, kind_read, kind_stands, gone_on}
 use Rattle.decisions.proofs.+closed_values.Goals as goal
-use Rattle.decisions.proofs.+closed_values.Goals.{closed_parts-After-read_cell, closed_parts-After-two_halves-half}
+use Rattle.decisions.proofs.+closed_values.Goals.{closed_parts-After-two_halves-half}
 
--- ---- what is known where the cells are read
-abbrev value_of : (t : ℕ) (c : closed_parts-After-read_cell t) →
-    OneSplits c.args.s.now is_closed_value c.loop-half.k c.read_cell.result.a c.read_cell.result.b c.loop-half.invariant.at.term
-value_of t c = merge_value c.read_cell.ensures c.loop-half.invariant.at.holds (kind_read c.read_cell.ensures c.kind_at.ensures c.loop-half-test.true)
-
+-- ---- what is known where the halves are had
 abbrev value_halves : (t : ℕ) → closed_parts-After-two_halves-half t → OneHalves is_closed_value t
 value_halves t c =
-    record { s = _; i = _; k = _; a = _; b = _; leads = c.loop-half.invariant; halves = λ e h. one_in_order c.two_halves-half.ensures (merge_value c.read_cell.ensures h (kind_read c.read_cell.ensures c.kind_at.ensures c.loop-half-test.true)); small = c.requires.1; measure = c.decreases }
+    record { s = _; i = _; k = _; a = _; b = _; leads = c.loop-kind.invariant.0; halves = λ e h. one_in_order c.two_halves-half.ensures.order (merge_value c.read_cell-x.ensures h (kind_read c.read_cell-x.ensures c.loop-kind.invariant.1 c.loop-kind-test.true)); small = c.requires.1; measure = c.decreases }
 
-pub closed_parts-loop-half-init : goal.closed_parts-loop-half-init
-closed_parts-loop-half-init t c = one_walk_starts c.requires.0.at
+pub closed_parts-loop-kind-init : goal.closed_parts-loop-kind-init
+closed_parts-loop-kind-init t c = (one_walk_starts c.requires.0.at, c.kind_at-kind.ensures)
 
-pub closed_parts-kind_at-requires : goal.closed_parts-kind_at-requires
-closed_parts-kind_at-requires t c = held_within c.loop-half.invariant.at.holds
+pub closed_parts-kind_at-kind-requires : goal.closed_parts-kind_at-kind-requires
+closed_parts-kind_at-kind-requires t c = held_within c.requires.0.at.holds
 
-pub closed_parts-read_cell-requires : goal.closed_parts-read_cell-requires
-closed_parts-read_cell-requires t c = held_within c.loop-half.invariant.at.holds
+pub closed_parts-read_cell-x-requires : goal.closed_parts-read_cell-x-requires
+closed_parts-read_cell-x-requires t c = held_within c.loop-kind.invariant.0.at.holds
 
-pub closed_parts-two_halves-half-requires : goal.closed_parts-two_halves-half-requires
-closed_parts-two_halves-half-requires t c = held_within (value_of t c).second.holds
+pub closed_parts-two_halves-half-requires-clause-first : goal.closed_parts-two_halves-half-requires-clause-first
+closed_parts-two_halves-half-requires-clause-first t c = held_within (merge_value c.read_cell-x.ensures c.loop-kind.invariant.0.at.holds (kind_read c.read_cell-x.ensures c.loop-kind.invariant.1 c.loop-kind-test.true)).first.holds
 
-pub closed_parts-closed_value-requires : goal.closed_parts-closed_value-requires
-closed_parts-closed_value-requires t c = let w = value_halves t c in let v = one_own w in (omega (arith, w.measure, v.first_less, w.leads.lower), (v.first, omega (arith, w.small, v.first_less, w.leads.lower)))
+pub closed_parts-two_halves-half-requires-clause-second : goal.closed_parts-two_halves-half-requires-clause-second
+closed_parts-two_halves-half-requires-clause-second t c = held_within (merge_value c.read_cell-x.ensures c.loop-kind.invariant.0.at.holds (kind_read c.read_cell-x.ensures c.loop-kind.invariant.1 c.loop-kind-test.true)).second.holds
 
-pub closed_parts-returns-then-not-closed_value : goal.closed_parts-returns-then-not-closed_value
-closed_parts-returns-then-not-closed_value t c = let w = value_halves t (goal.at.closed_parts-returns-then-not-closed_value t c).After-two_halves-half in one_ends w.leads w.halves c.closed_value.ensures c.if-not-closed_value.true
+pub closed_parts-closed_half-requires : goal.closed_parts-closed_half-requires
+closed_parts-closed_half-requires t c = let w = value_halves t (goal.at.closed_parts-closed_half-requires t c).After-two_halves-half in let v = one_own w in (omega (arith, w.measure, v.first_less, w.leads.lower), (v.first, omega (arith, w.small, v.first_less, w.leads.lower)))
 
-pub closed_parts-loop-half-smaller : goal.closed_parts-loop-half-smaller
-closed_parts-loop-half-smaller t c = omega (arith, (one_own (value_halves t (goal.at.closed_parts-loop-half-smaller t c).After-two_halves-half)).second_less)
+pub closed_parts-returns-then-not-closed_half : goal.closed_parts-returns-then-not-closed_half
+closed_parts-returns-then-not-closed_half t c = let w = value_halves t (goal.at.closed_parts-returns-then-not-closed_half t c).After-two_halves-half in one_ends w.leads w.halves c.closed_half.ensures c.if-not-closed_half.true
 
-pub closed_parts-loop-half-preserved : goal.closed_parts-loop-half-preserved
-closed_parts-loop-half-preserved t c = let w = value_halves t (goal.at.closed_parts-loop-half-preserved t c).After-two_halves-half in one_goes_on w.leads w.halves c.closed_value.ensures c.if-not-closed_value.false
+pub closed_parts-loop-kind-smaller : goal.closed_parts-loop-kind-smaller
+closed_parts-loop-kind-smaller t c = omega (arith, (one_own (value_halves t (goal.at.closed_parts-loop-kind-smaller t c).After-two_halves-half)).second_less)
 
-pub closed_parts-closed_value-requires-2 : goal.closed_parts-closed_value-requires-2
-closed_parts-closed_value-requires-2 t c = let l = gone_on c.args.s.now c.loop-half.invariant.lower c.requires.0.merge c.kind_at.ensures c.loop-half-test.false in (omega (arith, c.decreases, l), (c.loop-half.invariant.at, omega (arith, c.requires.1, l)))
+pub closed_parts-loop-kind-preserved : goal.closed_parts-loop-kind-preserved
+closed_parts-loop-kind-preserved t c = let w = value_halves t (goal.at.closed_parts-loop-kind-preserved t c).After-two_halves-half in (one_goes_on w.leads w.halves c.closed_half.ensures c.if-not-closed_half.false, c.two_halves-half.ensures.rest)
+
+pub closed_parts-closed_half-requires-2 : goal.closed_parts-closed_half-requires-2
+closed_parts-closed_half-requires-2 t c = let l = gone_on c.args.s.now c.loop-kind.invariant.0.lower c.requires.0.merge c.loop-kind.invariant.1 c.loop-kind-test.false in (omega (arith, c.decreases, l), (c.loop-kind.invariant.0.at, omega (arith, c.requires.1, l)))
 
 pub closed_parts-returns : goal.closed_parts-returns
-closed_parts-returns t c = c.loop-half.invariant.on _ c.closed_value-2.ensures
+closed_parts-returns t c = c.loop-kind.invariant.0.on _ c.closed_half-2.ensures
+
+pub closed_half-kind_at-k-requires : goal.closed_half-kind_at-k-requires
+closed_half-kind_at-k-requires t c = held_within c.requires.0.holds
+
+pub closed_half-returns-then-k-eq17 : goal.closed_half-returns-then-k-eq17
+closed_half-returns-then-k-eq17 t c = one_outright (λ e h. plain_value refl h (search rules) (search rules))
+
+pub closed_half-closed_value-requires : goal.closed_half-closed_value-requires
+closed_half-closed_value-requires t c = (omega (arith, c.decreases), c.requires)
+
+pub closed_half-returns : goal.closed_half-returns
+closed_half-returns t c = c.closed_value.ensures
 
 pub closed_value-read_cell-x-requires : goal.closed_value-read_cell-x-requires
 closed_value-read_cell-x-requires t c = held_within c.requires.0.holds

@@ -1,5 +1,5 @@
 -- `decisions::consistent`, by a walk over the left side and a walk over the right, meets its contract, and so do the functions that it calls. The
--- measures are eight times the sum of the two cells, with 0 to 3 added. Assumes nothing.
+-- measures are eight times the sum of the two cells, with 0 to 4 added. The loops go from half to half, and have the kind of its cell in hand. Assumes nothing.
 use mathlib.Core.Path.{ap}
 use mathlib.Core.Path.{◌≡◌}
 use mathlib.Core.Bool.{false, not, ◌&&◌}
@@ -10,7 +10,7 @@ use Rattle.calculus.specs.Decide.{is_consistent}
 use Rattle.format.specs.Table.{type_sort, term_sort}
 use Rattle.cells.specs.Held.{HoldsTerm}
 use Rattle.cells.proofs.Held.{held_within}
-use Rattle.decisions.proofs.Parts.{Splits, outright, flagged, passed}
+use Rattle.decisions.proofs.Parts.{outright, flagged, passed}
 use Rattle.decisions.specs.Questions.{LeftMerge, RightMerge, PlainPair}
 use Rattle.decisions.proofs.Forms.{read, read_at, AtPair, Alike}
 use Rattle.decisions.proofs.Trees.{comparable}
@@ -21,30 +21,20 @@ use Rattle.cells.specs.Coded.{as_cell}
 use Prim.Native.Nat.{ℕ, ◌+◌, ◌≤◌}
 use Rattle.std.proofs.Common.{rules}
 use Rattle.decisions.proofs.+consistency.Goals as goal
-use Rattle.decisions.proofs.+consistency.Goals.{consistent_left-After-read_cell, consistent_left-After-two_halves-half}
-use Rattle.decisions.proofs.+consistency.Goals.{consistent_right-After-read_cell, consistent_right-After-two_halves-half}
+use Rattle.decisions.proofs.+consistency.Goals.{consistent_left-After-two_halves-half}
+use Rattle.decisions.proofs.+consistency.Goals.{consistent_right-After-two_halves-half}
 use Rattle.decisions.proofs.+consistency.Goals.{consistent_pair-After-read_cell-y}
 use Rattle.decisions.proofs.+consistency.Goals.{consistent_pair-Else-x-y}
 use Rattle.decisions.proofs.+consistency.Goals.{consistent_pair-Joined-else-same_tree, consistent_pair-else-same_tree-via-then-same_tree+else-same_tree-2, consistent_pair-else-same_tree-via-else-same_tree}
 
--- ---- what is known where the cells are read
-abbrev left_of : (t : ℕ) (c : consistent_left-After-read_cell t) → let l = c.loop-half.invariant.at in
-    Splits (HoldsTerm c.args.s.now) is_consistent ◌&&◌ (c.loop-half.k + c.args.j) c.read_cell.result.a c.args.j c.read_cell.result.b c.args.j l.first l.second
-left_of t c =
-    Agree.left_halves c.read_cell.ensures c.loop-half.invariant.at.holds_first c.loop-half.invariant.at.holds_second (kind_read c.read_cell.ensures c.kind_at.ensures c.loop-half-test.true)
-
+-- ---- what is known where the halves are had, and where the cells are read
 abbrev left_halves : (t : ℕ) → consistent_left-After-two_halves-half t → AtHalves LeftMerge HoldsTerm is_consistent ◌&&◌ 8 2 t
 left_halves t c =
-    record { s = _; a = _; b = _; i = _; j = _; c = _; d = _; e = _; f = _; pre = c.requires; leads = c.loop-half.invariant; halves = λ e f h k. left_in_order and_other c.two_halves-half.ensures (Agree.left_halves c.read_cell.ensures h k (kind_read c.read_cell.ensures c.kind_at.ensures c.loop-half-test.true)); measure = c.decreases }
-
-abbrev right_of : (t : ℕ) (c : consistent_right-After-read_cell t) → let l = c.loop-half.invariant.at in
-    Splits (HoldsTerm c.args.s.now) is_consistent ◌&&◌ (c.args.i + c.loop-half.k) c.args.i c.read_cell.result.a c.args.i c.read_cell.result.b l.first l.second
-right_of t c =
-    Agree.each_half_lem c.read_cell.ensures c.requires.first.plain c.loop-half.invariant.at.holds_first c.loop-half.invariant.at.holds_second (kind_read c.read_cell.ensures c.kind_at.ensures c.loop-half-test.true)
+    record { s = _; a = _; b = _; i = _; j = _; c = _; d = _; e = _; f = _; pre = c.requires; leads = c.loop-kind.invariant.0; halves = λ e f h k. left_in_order and_other c.two_halves-half.ensures.order (Agree.left_halves c.read_cell-x.ensures h k (kind_read c.read_cell-x.ensures c.loop-kind.invariant.1 c.loop-kind-test.true)); measure = c.decreases }
 
 abbrev right_halves : (t : ℕ) → consistent_right-After-two_halves-half t → AtHalves RightMerge HoldsTerm is_consistent ◌&&◌ 8 1 t
 right_halves t c =
-    record { s = _; a = _; b = _; i = _; j = _; c = _; d = _; e = _; f = _; pre = c.requires; leads = c.loop-half.invariant; halves = λ e f h k. right_in_order and_other c.two_halves-half.ensures (Agree.each_half_lem c.read_cell.ensures c.requires.first.plain h k (kind_read c.read_cell.ensures c.kind_at.ensures c.loop-half-test.true)); measure = c.decreases }
+    record { s = _; a = _; b = _; i = _; j = _; c = _; d = _; e = _; f = _; pre = c.requires; leads = c.loop-kind.invariant.0; halves = λ e f h k. right_in_order and_other c.two_halves-half.ensures.order (Agree.each_half_lem c.read_cell-y.ensures c.requires.first.plain h k (kind_read c.read_cell-y.ensures c.loop-kind.invariant.1 c.loop-kind-test.true)); measure = c.decreases }
 
 abbrev two_pair : (t : ℕ) → consistent_pair-After-read_cell-y t → AtPair PlainPair 8 0 t
 two_pair t c =
@@ -95,38 +85,41 @@ consistent-returns-in-17 t c = c.consistent_plain.ensures
 pub consistent-returns-in_default : goal.consistent-returns-in_default
 consistent-returns-in_default t c = outright (λ e f h k. Agree.left_none c.read_cell-x.ensures h f (search rules) (search rules) (search rules))
 
-pub consistent_left-loop-half-init : goal.consistent_left-loop-half-init
-consistent_left-loop-half-init t c = walk_starts c.requires.terms
+pub consistent_left-loop-kind-init : goal.consistent_left-loop-kind-init
+consistent_left-loop-kind-init t c = (walk_starts c.requires.terms, c.kind_at-kind.ensures)
 
-pub consistent_left-kind_at-requires : goal.consistent_left-kind_at-requires
-consistent_left-kind_at-requires t c = held_within c.loop-half.invariant.at.holds_first
+pub consistent_left-kind_at-kind-requires : goal.consistent_left-kind_at-kind-requires
+consistent_left-kind_at-kind-requires t c = held_within c.requires.terms.holds_first
 
-pub consistent_left-read_cell-requires : goal.consistent_left-read_cell-requires
-consistent_left-read_cell-requires t c = held_within c.loop-half.invariant.at.holds_first
+pub consistent_left-read_cell-x-requires : goal.consistent_left-read_cell-x-requires
+consistent_left-read_cell-x-requires t c = held_within c.loop-kind.invariant.0.at.holds_first
 
-pub consistent_left-two_halves-half-requires : goal.consistent_left-two_halves-half-requires
-consistent_left-two_halves-half-requires t c = held_within (left_of t c).second.holds_first
+pub consistent_left-two_halves-half-requires-clause-first : goal.consistent_left-two_halves-half-requires-clause-first
+consistent_left-two_halves-half-requires-clause-first t c = let l = c.loop-kind.invariant.0.at in held_within (Agree.left_halves c.read_cell-x.ensures l.holds_first l.holds_second (kind_read c.read_cell-x.ensures c.loop-kind.invariant.1 c.loop-kind-test.true)).first.holds_first
+
+pub consistent_left-two_halves-half-requires-clause-second : goal.consistent_left-two_halves-half-requires-clause-second
+consistent_left-two_halves-half-requires-clause-second t c = let l = c.loop-kind.invariant.0.at in held_within (Agree.left_halves c.read_cell-x.ensures l.holds_first l.holds_second (kind_read c.read_cell-x.ensures c.loop-kind.invariant.1 c.loop-kind-test.true)).second.holds_first
 
 pub consistent_left-consistent_half-requires : goal.consistent_left-consistent_half-requires
-consistent_left-consistent_half-requires t c = let w = left_halves t c in let v = own w in (omega (arith, w.measure, v.first_less, w.leads.lower), v.first)
+consistent_left-consistent_half-requires t c = let w = left_halves t (goal.at.consistent_left-consistent_half-requires t c).After-two_halves-half in let v = own w in (omega (arith, w.measure, v.first_less, w.leads.lower), v.first)
 
 pub consistent_left-returns-then-not-consistent_half : goal.consistent_left-returns-then-not-consistent_half
 consistent_left-returns-then-not-consistent_half t c = let w = left_halves t (goal.at.consistent_left-returns-then-not-consistent_half t c).After-two_halves-half in and_ends w.leads w.halves c.consistent_half.ensures c.if-not-consistent_half.true
 
-pub consistent_left-loop-half-smaller : goal.consistent_left-loop-half-smaller
-consistent_left-loop-half-smaller t c = omega (arith, (own (left_halves t (goal.at.consistent_left-loop-half-smaller t c).After-two_halves-half)).second_less)
+pub consistent_left-loop-kind-smaller : goal.consistent_left-loop-kind-smaller
+consistent_left-loop-kind-smaller t c = omega (arith, (own (left_halves t (goal.at.consistent_left-loop-kind-smaller t c).After-two_halves-half)).second_less)
 
-pub consistent_left-loop-half-preserved : goal.consistent_left-loop-half-preserved
-consistent_left-loop-half-preserved t c = let w = left_halves t (goal.at.consistent_left-loop-half-preserved t c).After-two_halves-half in and_goes_on w.leads w.halves c.consistent_half.ensures c.if-not-consistent_half.false
+pub consistent_left-loop-kind-preserved : goal.consistent_left-loop-kind-preserved
+consistent_left-loop-kind-preserved t c = let w = left_halves t (goal.at.consistent_left-loop-kind-preserved t c).After-two_halves-half in (and_goes_on w.leads w.halves c.consistent_half.ensures c.if-not-consistent_half.false, c.two_halves-half.ensures.rest)
 
 pub consistent_left-consistent_half-requires-2 : goal.consistent_left-consistent_half-requires-2
 consistent_left-consistent_half-requires-2 t c =
-    let l : c.loop-half.k ≤ c.args.i = omega (arith, c.loop-half.invariant.lower) in
-    let m = gone_on c.args.s.now l c.requires.merge c.kind_at.ensures c.loop-half-test.false in
-    (omega (arith, c.decreases, m), c.loop-half.invariant.at)
+    let l : c.loop-kind.k ≤ c.args.i = omega (arith, c.loop-kind.invariant.0.lower) in
+    let m = gone_on c.args.s.now l c.requires.merge c.loop-kind.invariant.1 c.loop-kind-test.false in
+    (omega (arith, c.decreases, m), c.loop-kind.invariant.0.at)
 
 pub consistent_left-returns : goal.consistent_left-returns
-consistent_left-returns t c = c.loop-half.invariant.on _ c.consistent_half-2.ensures
+consistent_left-returns t c = c.loop-kind.invariant.0.on _ c.consistent_half-2.ensures
 
 pub consistent_plain-read_cell-y-requires : goal.consistent_plain-read_cell-y-requires
 consistent_plain-read_cell-y-requires t c = held_within c.requires.terms.holds_second
@@ -149,38 +142,53 @@ consistent_plain-returns-in-17 t c = c.consistent_pair.ensures
 pub consistent_plain-returns-in_default : goal.consistent_plain-returns-in_default
 consistent_plain-returns-in_default t c = outright (λ e f h k. Agree.each_none c.read_cell-y.ensures c.requires.plain h k (search rules) (search rules) (search rules))
 
-pub consistent_right-loop-half-init : goal.consistent_right-loop-half-init
-consistent_right-loop-half-init t c = walk_starts c.requires.first.terms
+pub consistent_right-loop-kind-init : goal.consistent_right-loop-kind-init
+consistent_right-loop-kind-init t c = (walk_starts c.requires.first.terms, c.kind_at-kind.ensures)
 
-pub consistent_right-kind_at-requires : goal.consistent_right-kind_at-requires
-consistent_right-kind_at-requires t c = held_within c.loop-half.invariant.at.holds_second
+pub consistent_right-kind_at-kind-requires : goal.consistent_right-kind_at-kind-requires
+consistent_right-kind_at-kind-requires t c = held_within c.requires.first.terms.holds_second
 
-pub consistent_right-read_cell-requires : goal.consistent_right-read_cell-requires
-consistent_right-read_cell-requires t c = held_within c.loop-half.invariant.at.holds_second
+pub consistent_right-read_cell-y-requires : goal.consistent_right-read_cell-y-requires
+consistent_right-read_cell-y-requires t c = held_within c.loop-kind.invariant.0.at.holds_second
 
-pub consistent_right-two_halves-half-requires : goal.consistent_right-two_halves-half-requires
-consistent_right-two_halves-half-requires t c = held_within (right_of t c).second.holds_second
+pub consistent_right-two_halves-half-requires-clause-first : goal.consistent_right-two_halves-half-requires-clause-first
+consistent_right-two_halves-half-requires-clause-first t c = let l = c.loop-kind.invariant.0.at in held_within (Agree.each_half_lem c.read_cell-y.ensures c.requires.first.plain l.holds_first l.holds_second (kind_read c.read_cell-y.ensures c.loop-kind.invariant.1 c.loop-kind-test.true)).first.holds_second
 
-pub consistent_right-consistent_half-requires : goal.consistent_right-consistent_half-requires
-consistent_right-consistent_half-requires t c = let w = right_halves t c in let v = own w in (omega (arith, w.measure, v.first_less, w.leads.lower), v.first)
+pub consistent_right-two_halves-half-requires-clause-second : goal.consistent_right-two_halves-half-requires-clause-second
+consistent_right-two_halves-half-requires-clause-second t c = let l = c.loop-kind.invariant.0.at in held_within (Agree.each_half_lem c.read_cell-y.ensures c.requires.first.plain l.holds_first l.holds_second (kind_read c.read_cell-y.ensures c.loop-kind.invariant.1 c.loop-kind-test.true)).second.holds_second
 
-pub consistent_right-returns-then-not-consistent_half : goal.consistent_right-returns-then-not-consistent_half
-consistent_right-returns-then-not-consistent_half t c = let w = right_halves t (goal.at.consistent_right-returns-then-not-consistent_half t c).After-two_halves-half in and_ends w.leads w.halves c.consistent_half.ensures c.if-not-consistent_half.true
+pub consistent_right-each_half-requires : goal.consistent_right-each_half-requires
+consistent_right-each_half-requires t c = let w = right_halves t (goal.at.consistent_right-each_half-requires t c).After-two_halves-half in let v = own w in (omega (arith, w.measure, v.first_less, w.leads.lower), record { terms = v.first; plain = w.pre.first.plain })
 
-pub consistent_right-loop-half-smaller : goal.consistent_right-loop-half-smaller
-consistent_right-loop-half-smaller t c = omega (arith, (own (right_halves t (goal.at.consistent_right-loop-half-smaller t c).After-two_halves-half)).second_less)
+pub consistent_right-returns-then-not-each_half : goal.consistent_right-returns-then-not-each_half
+consistent_right-returns-then-not-each_half t c = let w = right_halves t (goal.at.consistent_right-returns-then-not-each_half t c).After-two_halves-half in and_ends w.leads w.halves c.each_half.ensures c.if-not-each_half.true
 
-pub consistent_right-loop-half-preserved : goal.consistent_right-loop-half-preserved
-consistent_right-loop-half-preserved t c = let w = right_halves t (goal.at.consistent_right-loop-half-preserved t c).After-two_halves-half in and_goes_on w.leads w.halves c.consistent_half.ensures c.if-not-consistent_half.false
+pub consistent_right-loop-kind-smaller : goal.consistent_right-loop-kind-smaller
+consistent_right-loop-kind-smaller t c = omega (arith, (own (right_halves t (goal.at.consistent_right-loop-kind-smaller t c).After-two_halves-half)).second_less)
 
-pub consistent_right-consistent_half-requires-2 : goal.consistent_right-consistent_half-requires-2
-consistent_right-consistent_half-requires-2 t c =
-    let l : c.loop-half.k ≤ c.args.j = omega (arith, c.loop-half.invariant.lower) in
-    let m = gone_on c.args.s.now l c.requires.merge c.kind_at.ensures c.loop-half-test.false in
-    (omega (arith, c.decreases, m), c.loop-half.invariant.at)
+pub consistent_right-loop-kind-preserved : goal.consistent_right-loop-kind-preserved
+consistent_right-loop-kind-preserved t c = let w = right_halves t (goal.at.consistent_right-loop-kind-preserved t c).After-two_halves-half in (and_goes_on w.leads w.halves c.each_half.ensures c.if-not-each_half.false, c.two_halves-half.ensures.rest)
+
+pub consistent_right-each_half-requires-2 : goal.consistent_right-each_half-requires-2
+consistent_right-each_half-requires-2 t c =
+    let l : c.loop-kind.k ≤ c.args.j = omega (arith, c.loop-kind.invariant.0.lower) in
+    let m = gone_on c.args.s.now l c.requires.merge c.loop-kind.invariant.1 c.loop-kind-test.false in
+    (omega (arith, c.decreases, m), record { terms = c.loop-kind.invariant.0.at; plain = c.requires.first.plain })
 
 pub consistent_right-returns : goal.consistent_right-returns
-consistent_right-returns t c = c.loop-half.invariant.on _ c.consistent_half-2.ensures
+consistent_right-returns t c = c.loop-kind.invariant.0.on _ c.each_half-2.ensures
+
+pub each_half-equal_numbers-requires : goal.each_half-equal_numbers-requires
+each_half-equal_numbers-requires t c = c.requires.terms
+
+pub each_half-returns-then-equal_numbers : goal.each_half-returns-then-equal_numbers
+each_half-returns-then-equal_numbers t c = c.equal_numbers.ensures.says c.if-equal_numbers.true
+
+pub each_half-consistent_plain-requires : goal.each_half-consistent_plain-requires
+each_half-consistent_plain-requires t c = (omega (arith, c.decreases), c.requires)
+
+pub each_half-returns : goal.each_half-returns
+each_half-returns t c = c.consistent_plain.ensures
 
 pub consistent_pair-read_cell-x-requires : goal.consistent_pair-read_cell-x-requires
 consistent_pair-read_cell-x-requires t c = held_within c.requires.first.terms.holds_first

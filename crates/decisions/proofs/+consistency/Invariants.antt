@@ -1,6 +1,8 @@
 -- `decisions::consistent`, by a walk over the left side and a walk over the right, meets its contract, and so do the functions that it calls. The
--- measures are eight times the sum of the two cells, with 0 to 4 added. Assumes nothing.
+-- measures are eight times the sum of the two cells, with 0 to 4 added. The loops go from half to half, and have the kind of its cell in hand. Assumes nothing.
 use Prim.Native.Nat.{◌+◌, ◌*◌}
+use mathlib.Core.Path.{◌≡◌}
+use Rattle.format.specs.Cell.{cell_at}
 use Rattle.calculus.specs.Decide.{is_consistent}
 use Rattle.cells.specs.Held.{HoldsTerm}
 use Rattle.decisions.proofs.Walks.{Leads}
@@ -21,17 +23,20 @@ decreases-consistent_plain l = 8 * (l.i + l.j) + 2
 abbrev pub decreases-consistent_right : goal.decreases-consistent_right
 decreases-consistent_right l = 8 * (l.i + l.j) + 1
 
+abbrev pub decreases-each_half : goal.decreases-each_half
+decreases-each_half l = 8 * (l.i + l.j) + 3
+
 abbrev pub decreases-consistent_pair : goal.decreases-consistent_pair
 decreases-consistent_pair l = 8 * (l.i + l.j) + 0
 
-abbrev pub invariant-consistent_left-loop-half : goal.invariant-consistent_left-loop-half
-invariant-consistent_left-loop-half l = Leads (HoldsTerm l.s) is_consistent l.i l.j l.k l.j
+abbrev pub invariant-consistent_left-loop-kind : goal.invariant-consistent_left-loop-kind
+invariant-consistent_left-loop-kind l = Leads (HoldsTerm l.s) is_consistent l.i l.j l.k l.j × (l.kind ≡ (cell_at l.s l.k).kind)
 
-abbrev pub decreases-consistent_left-loop-half : goal.decreases-consistent_left-loop-half
-decreases-consistent_left-loop-half l = l.k
+abbrev pub decreases-consistent_left-loop-kind : goal.decreases-consistent_left-loop-kind
+decreases-consistent_left-loop-kind l = l.k
 
-abbrev pub invariant-consistent_right-loop-half : goal.invariant-consistent_right-loop-half
-invariant-consistent_right-loop-half l = Leads (HoldsTerm l.s) is_consistent l.i l.j l.i l.k
+abbrev pub invariant-consistent_right-loop-kind : goal.invariant-consistent_right-loop-kind
+invariant-consistent_right-loop-kind l = Leads (HoldsTerm l.s) is_consistent l.i l.j l.i l.k × (l.kind ≡ (cell_at l.s l.k).kind)
 
-abbrev pub decreases-consistent_right-loop-half : goal.decreases-consistent_right-loop-half
-decreases-consistent_right-loop-half l = l.k
+abbrev pub decreases-consistent_right-loop-kind : goal.decreases-consistent_right-loop-kind
+decreases-consistent_right-loop-kind l = l.k

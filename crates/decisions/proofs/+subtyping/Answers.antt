@@ -8,27 +8,23 @@ use Rattle.format.specs.Cell.{Cell}
 use Rattle.calculus.specs.Decide.{is_below}
 use Rattle.cells.specs.Held.{HoldsType}
 use Rattle.cells.proofs.Held.{held_within}
-use Rattle.decisions.proofs.Parts.{Splits, outright, flagged, passed, both, none}
+use Rattle.decisions.proofs.Parts.{outright, flagged, passed, both, none}
 use Rattle.decisions.specs.Questions.{TypesAt, UnderPlain, TwoPlain}
 use Rattle.decisions.proofs.Forms.{read, read_at, AtPair, Alike}
-use Rattle.decisions.proofs.Walks.{AtHalves, own, walk_starts, left_in_order, or_other, or_goes_on, or_ends}
+use Rattle.decisions.proofs.Walks.{AtHalves, own, walk_starts, or_swapped, or_goes_on, or_ends}
 use Rattle.decisions.proofs.Below as Below
 use Rattle.decisions.proofs.Below.{not_marked, not_kind, under, halves_of}
-use Prim.Native.Nat.{ℕ, ◌+◌}
+use Prim.Native.Nat.{ℕ}
 use Rattle.decisions.proofs.+subtyping.Goals as goal
-use Rattle.decisions.proofs.+subtyping.Goals.{part_below-After-read_cell, part_below-After-two_halves-half}
+use Rattle.decisions.proofs.+subtyping.Goals.{part_below-After-read_cell-x}
 use Rattle.decisions.proofs.+subtyping.Goals.{single_below-After-read_cell-y}
 use Rattle.decisions.proofs.+subtyping.Goals.{single_below-Else-x-y}
 use Rattle.decisions.proofs.+subtyping.Goals.{subtype-After-read_cell-y}
 
 -- ---- what is known where the cells are read
-abbrev part_of : (t : ℕ) (c : part_below-After-read_cell t) → let l = c.loop-half.invariant.at in
-    Splits (HoldsType c.args.s.now) is_below ◌||◌ (c.loop-half.i + c.args.b) c.read_cell.result.a c.args.b c.read_cell.result.b c.args.b l.first l.second
-part_of t c = halves_of c.read_cell.ensures c.kind_at.ensures c.loop-half-test.true c.requires _ _ c.loop-half.invariant.at.holds_first c.loop-half.invariant.at.holds_second
-
-abbrev part_halves : (t : ℕ) → part_below-After-two_halves-half t → AtHalves UnderPlain HoldsType is_below ◌||◌ 4 1 t
+abbrev part_halves : (t : ℕ) → part_below-After-read_cell-x t → AtHalves UnderPlain HoldsType is_below ◌||◌ 4 1 t
 part_halves t c =
-    record { s = _; a = _; b = _; i = _; j = _; c = _; d = _; e = _; f = _; pre = c.requires; leads = c.loop-half.invariant; halves = λ A B h k. left_in_order or_other c.two_halves-half.ensures (halves_of c.read_cell.ensures c.kind_at.ensures c.loop-half-test.true c.requires A B h k); measure = c.decreases }
+    record { s = _; a = _; b = _; i = _; j = _; c = _; d = _; e = _; f = _; pre = c.requires; leads = c.loop-x.invariant; halves = halves_of c.read_cell-x.ensures c.kind_at.ensures c.loop-x-test.true c.requires; measure = c.decreases }
 
 abbrev single_pair : (t : ℕ) → single_below-After-read_cell-y t → AtPair TwoPlain 4 0 t
 single_pair t c =
@@ -57,35 +53,47 @@ half_below-part_below-requires t c = (omega (arith, c.decreases), c.requires)
 pub half_below-returns : goal.half_below-returns
 half_below-returns t c = c.part_below.ensures
 
-pub part_below-loop-half-init : goal.part_below-loop-half-init
-part_below-loop-half-init t c = walk_starts c.requires.types
+pub part_below-loop-x-init : goal.part_below-loop-x-init
+part_below-loop-x-init t c = walk_starts c.requires.types
 
 pub part_below-kind_at-requires : goal.part_below-kind_at-requires
-part_below-kind_at-requires t c = held_within c.loop-half.invariant.at.holds_first
+part_below-kind_at-requires t c = held_within c.loop-x.invariant.at.holds_first
 
-pub part_below-read_cell-requires : goal.part_below-read_cell-requires
-part_below-read_cell-requires t c = held_within c.loop-half.invariant.at.holds_first
+pub part_below-read_cell-x-requires : goal.part_below-read_cell-x-requires
+part_below-read_cell-x-requires t c = held_within c.loop-x.invariant.at.holds_first
 
-pub part_below-two_halves-half-requires : goal.part_below-two_halves-half-requires
-part_below-two_halves-half-requires t c = held_within (part_of t c).second.holds_first
+pub part_below-kind_at-requires-in-loop-x : goal.part_below-kind_at-requires-in-loop-x
+part_below-kind_at-requires-in-loop-x t c = held_within (own (part_halves t c)).second.holds_first
 
 pub part_below-half_below-requires : goal.part_below-half_below-requires
-part_below-half_below-requires t c = let w = part_halves t c in let v = own w in (omega (arith, w.measure, v.first_less, w.leads.lower), under w.pre v.first)
+part_below-half_below-requires t c = let w = part_halves t (goal.at.part_below-half_below-requires t c).After-read_cell-x in let v = own w in (omega (arith, w.measure, v.first_less, w.leads.lower), under w.pre v.first)
 
 pub part_below-returns-then-half_below : goal.part_below-returns-then-half_below
-part_below-returns-then-half_below t c = let w = part_halves t (goal.at.part_below-returns-then-half_below t c).After-two_halves-half in or_ends w.leads w.halves c.half_below.ensures c.if-half_below.true
+part_below-returns-then-half_below t c = let w = part_halves t (goal.at.part_below-returns-then-half_below t c).After-read_cell-x in or_ends w.leads w.halves c.half_below.ensures c.if-half_below.true
 
-pub part_below-loop-half-smaller : goal.part_below-loop-half-smaller
-part_below-loop-half-smaller t c = omega (arith, (own (part_halves t (goal.at.part_below-loop-half-smaller t c).After-two_halves-half)).second_less)
+pub part_below-loop-x-smaller-then-kind_at-eq4 : goal.part_below-loop-x-smaller-then-kind_at-eq4
+part_below-loop-x-smaller-then-kind_at-eq4 t c = omega (arith, (own (part_halves t (goal.at.part_below-loop-x-smaller-then-kind_at-eq4 t c).After-read_cell-x)).second_less)
 
-pub part_below-loop-half-preserved : goal.part_below-loop-half-preserved
-part_below-loop-half-preserved t c = let w = part_halves t (goal.at.part_below-loop-half-preserved t c).After-two_halves-half in or_goes_on w.leads w.halves c.half_below.ensures c.if-half_below.false
+pub part_below-loop-x-preserved-then-kind_at-eq4 : goal.part_below-loop-x-preserved-then-kind_at-eq4
+part_below-loop-x-preserved-then-kind_at-eq4 t c = let w = part_halves t (goal.at.part_below-loop-x-preserved-then-kind_at-eq4 t c).After-read_cell-x in or_goes_on w.leads w.halves c.half_below.ensures c.if-half_below.false
+
+pub part_below-half_below-requires-else-kind_at-eq4 : goal.part_below-half_below-requires-else-kind_at-eq4
+part_below-half_below-requires-else-kind_at-eq4 t c = let w = part_halves t (goal.at.part_below-half_below-requires-else-kind_at-eq4 t c).After-read_cell-x in let v = own w in (omega (arith, w.measure, v.second_less, w.leads.lower), under w.pre v.second)
+
+pub part_below-returns-then-half_below-2 : goal.part_below-returns-then-half_below-2
+part_below-returns-then-half_below-2 t c = let w = part_halves t (goal.at.part_below-returns-then-half_below-2 t c).After-read_cell-x in or_ends w.leads (λ A B h k. or_swapped (w.halves A B h k)) c.half_below-else-kind_at-eq4.ensures c.if-half_below-2.true
+
+pub part_below-loop-x-smaller : goal.part_below-loop-x-smaller
+part_below-loop-x-smaller t c = omega (arith, (own (part_halves t (goal.at.part_below-loop-x-smaller t c).After-read_cell-x)).first_less)
+
+pub part_below-loop-x-preserved : goal.part_below-loop-x-preserved
+part_below-loop-x-preserved t c = let w = part_halves t (goal.at.part_below-loop-x-preserved t c).After-read_cell-x in or_goes_on w.leads (λ A B h k. or_swapped (w.halves A B h k)) c.half_below-else-kind_at-eq4.ensures c.if-half_below-2.false
 
 pub part_below-single_below-requires : goal.part_below-single_below-requires
-part_below-single_below-requires t c = (omega (arith, c.decreases, c.loop-half.invariant.lower), record { under = under c.requires c.loop-half.invariant.at; first_single = λ k. c.loop-half-test.false (c.kind_at.ensures ∙ k) })
+part_below-single_below-requires t c = (omega (arith, c.decreases, c.loop-x.invariant.lower), record { under = under c.requires c.loop-x.invariant.at; first_single = λ k. c.loop-x-test.false (c.kind_at.ensures ∙ k) })
 
 pub part_below-returns : goal.part_below-returns
-part_below-returns t c = c.loop-half.invariant.on _ c.single_below.ensures
+part_below-returns t c = c.loop-x.invariant.on _ c.single_below.ensures
 
 pub single_below-read_cell-x-requires : goal.single_below-read_cell-x-requires
 single_below-read_cell-x-requires t c = held_within c.requires.under.types.holds_first

@@ -18,8 +18,8 @@ decreases-single_below l = 4 * (l.a + l.b) + 0
 abbrev pub decreases-subtype : goal.decreases-subtype
 decreases-subtype l = 4 * (l.a + l.b) + 3
 
-abbrev pub invariant-part_below-loop-half : goal.invariant-part_below-loop-half
-invariant-part_below-loop-half l = Leads (HoldsType l.s) is_below l.a l.b l.i l.b
+abbrev pub invariant-part_below-loop-x : goal.invariant-part_below-loop-x
+invariant-part_below-loop-x l = Leads (HoldsType l.s) is_below l.a l.b l.i l.b
 
-abbrev pub decreases-part_below-loop-half : goal.decreases-part_below-loop-half
-decreases-part_below-loop-half l = l.i
+abbrev pub decreases-part_below-loop-x : goal.decreases-part_below-loop-x
+decreases-part_below-loop-x l = l.i

@@ -7,8 +7,9 @@ use Rattle.format.specs.Table.{row_of}
 use Rattle.format.specs.Cell.{IsBytes, Cell, cell_at}
 use Rattle.cells.specs.Coded.{row_from}
 use Rattle.cells.specs.declared.Entry.{Entry}
+use Rattle.cells.proofs.Asked.{said}
 use Rattle.emission.specs.Copies.{MoveReady}
-use Rattle.emission.proofs.Copies.{Moving, renumbers, moves_fit}
+use Rattle.emission.proofs.Copies.{Moving, renumbers, moves_fit, moves}
 use Rattle.emission.proofs.move_cell.Goals as goal
 
 -- what is known once the cell and its row are read
@@ -32,3 +33,8 @@ pub write_cell-requires : goal.write_cell-requires
 write_cell-requires c =
     let j = moving c.requires c.read_cell-t.ensures c.entry_of-e.ensures (λ k. (c.type_inv.s k).fits) in
     (omega (arith, c.requires.long, c.requires.room), moves_fit j c.renumber.ensures c.renumber-2.ensures c.renumber-3.ensures)
+
+pub returns : goal.returns
+returns c =
+    moves (moving c.requires c.read_cell-t.ensures c.entry_of-e.ensures (λ k. (c.type_inv.s k).fits)) (said c.label_by.ensures)
+    c.renumber.ensures c.renumber-2.ensures c.renumber-3.ensures c.write_cell.ensures

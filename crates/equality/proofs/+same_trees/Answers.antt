@@ -3,6 +3,7 @@
 use Prim.Native.Nat.{ℕ}
 use mathlib.Core.Path.{sym, ◌∙◌}
 use Rattle.cells.specs.Coded.{as_cell}
+use Rattle.cells.proofs.Asked.{said}
 use Rattle.cells.proofs.Rows.{cell_less}
 use Rattle.equality.specs.Trees.{same_unused}
 use Rattle.equality.proofs.Trees.{unshared, within, one_cell, other_kinds, refers_else, plain_same, cells_same, Alike, parts, other_labels, no_first, no_second, by_third}
@@ -40,7 +41,7 @@ pub same_tree-returns-then-x-y : goal.same_tree-returns-then-x-y
 same_tree-returns-then-x-y t c = other_kinds c.read_cell-x.ensures c.read_cell-y.ensures c.if-x-y.true
 
 pub same_tree-returns-then-label_by : goal.same_tree-returns-then-label_by
-same_tree-returns-then-label_by t c = other_labels (alike t (goal.at.same_tree-returns-then-label_by t c).After-entry_of-e) (λ e. c.if-label_by.true (c.label_by.ensures ∙ e ∙ sym c.label_by-2.ensures))
+same_tree-returns-then-label_by t c = other_labels (alike t (goal.at.same_tree-returns-then-label_by t c).After-entry_of-e) (λ e. c.if-label_by.true (said c.label_by.ensures ∙ e ∙ sym (said c.label_by-2.ensures)))
 
 pub same_tree-same_field-requires : goal.same_tree-same_field-requires
 same_tree-same_field-requires t c = (parts (alike t (goal.at.same_tree-same_field-requires t c).After-entry_of-e) c.requires c.decreases).0
@@ -52,7 +53,7 @@ pub same_tree-same_field-requires-then-same_field-2 : goal.same_tree-same_field-
 same_tree-same_field-requires-then-same_field-2 t c = (parts (alike t (goal.at.same_tree-same_field-requires-then-same_field-2 t c).After-entry_of-e) c.requires c.decreases).1.1
 
 pub same_tree-returns-then-same_field-2 : goal.same_tree-returns-then-same_field-2
-same_tree-returns-then-same_field-2 t c = by_third (alike t (goal.at.same_tree-returns-then-same_field-2 t c).After-entry_of-e) c.same_field.ensures c.if-same_field.true c.same_field-then-same_field.ensures (sym c.label_by.ensures ∙ c.if-label_by.false ∙ c.label_by-2.ensures) c.if-same_field-2.true c.same_field-then-same_field-2.ensures
+same_tree-returns-then-same_field-2 t c = by_third (alike t (goal.at.same_tree-returns-then-same_field-2 t c).After-entry_of-e) c.same_field.ensures c.if-same_field.true c.same_field-then-same_field.ensures (sym (said c.label_by.ensures) ∙ c.if-label_by.false ∙ said c.label_by-2.ensures) c.if-same_field-2.true c.same_field-then-same_field-2.ensures
 
 pub same_tree-returns-else-same_field-2 : goal.same_tree-returns-else-same_field-2
 same_tree-returns-else-same_field-2 t c = no_second (alike t (goal.at.same_tree-returns-else-same_field-2 t c).After-entry_of-e) c.same_field.ensures c.if-same_field.true c.same_field-then-same_field.ensures c.if-same_field-2.false
